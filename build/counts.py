@@ -55,7 +55,7 @@ def main(words):
     if words:
         with open(words[0], encoding="utf-8", errors="replace") as lines:
             found = in_log(lines)
-        print("What a run of the gate said that it proved, refused and ran, by crate.\n")
+        print("What a gate run proved, refused and ran, by crate, according to its log.\n")
     else:
         found = in_sources()
         print("What the gate proves, refuses and runs, by crate, as counted in the sources.\n")

@@ -15,7 +15,7 @@ arch=${1-x86_64}
 case $arch in
   x86_64) out=$top/crates/ft_c/out/library cc=${CC-cc} ar=${AR-ar} ;;
   aarch64) out=$top/crates/ft_c/out/library-aarch64 cc=${CC-aarch64-linux-gnu-gcc} ar=${AR-aarch64-linux-gnu-ar} ;;
-  *) echo "talft: error: no processor \`$arch\`: x86_64 or aarch64" >&2; exit 2 ;;
+  *) echo "talft: error: unknown processor \`$arch\`: expected x86_64 or aarch64" >&2; exit 2 ;;
 esac
 
 # Links the compiled library with the C code of embed/.
@@ -34,7 +34,7 @@ log=$tree.log
 trap 'rm -rf "$tree" "$log"' EXIT
 failed() {
   tail -n 20 "$log"
-  echo "talft: the library is not proved or not compiled"
+  echo "talft: the library could not be proved or compiled"
   exit 1
 }
 make_in "$tree" ft_c "$arch" libft_c.a src/lib.rt --crate-type staticlib >"$log" 2>&1 || failed

@@ -11,7 +11,7 @@ top=$(cd "$(dirname "${BASH_SOURCE[0]}")/.." && pwd) || exit 2
 arch=${1-aarch64}
 case $arch in
   aarch64) cc=${CC-aarch64-linux-gnu-gcc} ;;
-  *) echo "talft: error: no processor \`$arch\`: aarch64" >&2; exit 2 ;;
+  *) echo "talft: error: unknown processor \`$arch\`: expected aarch64" >&2; exit 2 ;;
 esac
 out=$program-$arch
 ! is_newer_than_sources "$out.o" talft || { [ "$out" -nt "$out.o" ] && exit 0; }
@@ -23,9 +23,9 @@ trap 'rm -rf "$tree" "$log"' EXIT
 mkdir -p "$(dirname "$program")" || exit 2
 failed() {
   tail -n 20 "$log"
-  echo "talft: the program is not $1"
+  echo "talft: the program could not be $1"
   exit 1
 }
-make_in "$tree" talft "$arch" talft.o src/main.rt >"$log" 2>&1 || failed 'proved or not compiled'
+make_in "$tree" talft "$arch" talft.o src/main.rt >"$log" 2>&1 || failed 'proved or compiled'
 cp "$tree/crates/talft/talft.o" "$out.o" && touch -r "$tree/begun" "$out.o" || exit 2
 "$cc" -std=c99 -O2 -I"$top/include" "$out.o" "$top/embed/heap.c" "$top/embed/system.c" -o "$out" >"$log" 2>&1 || failed linked

@@ -79,7 +79,7 @@ class Touched:
         count = f"{sum(map(len, found.values()))} files in {len(found)} crates"
         cases = self.sets[0]
         if self.by_cases:
-            yield f"{count} go by the cases `{cases[0]}` to `{cases[-1]}`:"
+            yield f"{count} list the cases `{cases[0]}` to `{cases[-1]}`:"
         else:
             yield f"{count} name {' or '.join(f'`{case}`' for case in cases)}:"
         yield ""

@@ -273,7 +273,7 @@ def document(trace):
         "# Requirements and their evidence", "",
         "Each requirement of the program has one sentence and a number that never changes. Its row lists the clauses that",
         "carry it, the wrong bodies that the prover refuses for it, its tests, and the documents that explain it.",
-        "A requirement without a clause is tested only. Documents and tests under a heading are about all requirements",
+        "A requirement without a clause is only tested. Documents and tests under a heading are about all requirements",
         "there.", "",
         f"In all, there are {count} requirements, {public} clauses of public calls, laws and types, {len(trace.edits)} wrong",
         f"bodies and {len(trace.tests)} test files. `docs/trace.py` makes this list from `docs/trace.toml`. The gate checks that",

@@ -7,7 +7,7 @@
  * WHAT A CALLER OWES
  *   - No pointer is NULL, not even if a length or a room is 0.
  *   - A pointer with a length points to that many bytes, or elements; one without a length points to one element. They exist,
- *     are aligned for their type, and are initialized, even those that a call only writes. The whole is shorter than 2^63
+ *     are aligned for their type, and are initialized, even those that a call only writes. All of it is shorter than 2^63
  *     bytes. This also holds for the pointers in a talft_module.
  *   - During a call nothing else reads what the call may write, or writes what it reads. What a call writes overlaps
  *     neither what it reads nor anything else that it writes.
@@ -23,8 +23,8 @@
  * THREADS    The library has no state of its own. Several threads may call it at the same time if they share nothing
  *            that one of the calls writes. A talft_machine stays on the thread that opened it. (With embed/arena.c all
  *            calls share the arena, so only one thread may call.)
- * UNITS      Lengths and rooms are in bytes. A place in bytes counts from 0. A room for outputs or verdicts is in these. A
- *            step is a step of the machine: an instruction takes two, its fetch and its execution.
+ * UNITS      Lengths and rooms are in bytes. Byte offsets start at 0. Room for outputs or verdicts is counted in elements.
+ *            A step is a step of the machine: an instruction takes two, its fetch and its execution.
  * STACK      talft_compile used up to 169 KiB in all tests, with 97 nested loops, 98 nested brackets and 199 operators. The
  *            others used up to 17 KiB. This is measured, not proved.
  *
@@ -126,7 +126,7 @@ uint32_t talft_recover(const uint8_t *bytes, size_t len, const uint8_t *fault, s
                        talft_refusal *why);
 
 /*
- * With OK, each of the next calls has written bytes at the start of `out`, and their number into *made. NO_ROOM: *made is the
+ * On OK, each call below that takes `out` has written bytes to its start and their number to *made. NO_ROOM: *made is the
  * number needed. In every other case *made is 0. In each case but OK `out` is unchanged.
  */
 
@@ -170,7 +170,7 @@ typedef struct talft_module {
 
 /*
  * Links 1 to 64 modules as a link map says, and writes the object, in version 2 of the format. For each line `module FILE`
- * of the map the first module of the array with the name FILE is taken. The object is accepted; it runs as the modules do,
+ * of the map, it takes the first module of the array named FILE. The object is accepted; it runs as the modules do,
  * and one fault is masked or detected. OK or NO_ROOM: *made is the number of its bytes.
  *
  * NOT_LINKED, part 7: the number of the refusal is that of the command `talft link`. MALFORMED or REFUSED: talft_check

@@ -82,7 +82,7 @@ page() {
     printf '.\\" Made by man/make.sh from %s. Its sources and the lines below have the sums:\n.\\" %s %s\n%s\n' \
       "$source" "$(sum_of_sources "$source")" "$(printf '%s\n' "$text" | sum)" "$text" >"$file"
   elif [ "$(sed -n '2s/^\.\\" //p' "$file")" != "$(sum_of_sources "$source") $(tail -n +3 "$file" | sum)" ]; then
-    echo "$file is stale: bash man/make.sh makes it anew"
+    echo "$file is stale: run \`bash man/make.sh\`"
     stale=1
   fi
 }

@@ -77,7 +77,7 @@ list_row("late", "faults before the last of 15,258 steps, with stores", 65536, "
          lambda n: end(masked=n), 15258, storing())
 list_row("thousand", "faults before the first of 1,000,000 steps with 1,024 cells", 1000, "faults", lambda n: "0:r60:6\n" * n,
          lambda n: end(masked=n), 10 ** 6, storing(1024))
-list_row("dense", "faults before the first of 1,000,000 steps, every fourth of which stores", 1000, "faults",
+list_row("dense", "faults before step 0 of 1,000,000 steps; every fourth step stores", 1000, "faults",
          lambda n: "0:r60:6\n" * n, lambda n: end(masked=n), 10 ** 6, dense())
 list_row("bad-last", "lines, the last not a strike", 65536, "lines", lambda n: "0:r1:6\n" * (n - 1) + "0:r64:6\n",
          lambda n: (11, f"list 1 {n}"))

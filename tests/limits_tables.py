@@ -4,7 +4,7 @@ from limits_rows import *
 
 # Bytes that are not an object.
 over_objects("zeros", "zero bytes", 64 * MIB, "bytes", bytes, refused("object 1 0"))
-over_objects("beyond", "a byte over the limit, and half of that", 64 * MIB + 1, "bytes", bytes,
+over_objects("beyond", "one byte over the limit", 64 * MIB + 1, "bytes", bytes,
              {c: (lambda n: (7, "object 2 67108864" if n > 64 * MIB else "object 1 0")) for c in OBJECT_COMMANDS})
 FIVE = spell(memory(), mov(0, GREEN, OUT, REF_INT) + mov(1, GREEN, 5) + mov(32, BLUE, OUT, REF_INT) + mov(33, BLUE, 5)
              + store(GREEN, 0, 1) + store(BLUE, 32, 33) + HALT)

@@ -81,7 +81,7 @@ def summary(counts, told):
         by_class[class_of(site)][verdict] += count
     numbers = {name: sum(here.values()) for name, here in by_class.items()}
     if sum(numbers.values()) != drawn or any(numbers[name] > of[name] for name in CLASSES):
-        raise Refused(f"{sum(numbers.values())} faults were tried, and --about speaks of {drawn} of {sum(of.values())}")
+        raise Refused(f"{sum(numbers.values())} faults were tried, but --about describes {drawn} of {sum(of.values())}")
     is_all = drawn == sum(of.values())
     yield (f"exhaustive: all {drawn} faults of `{words}` were tried" if is_all else
            f"sampled: {drawn} of the {sum(of.values())} faults of `{words}`; after each count the upper bound on its share of "

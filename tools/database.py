@@ -38,7 +38,7 @@ def check_database(path):
     with open(path, "rb") as file:
         start = file.read(len(BEGINNING))
     if start and start != BEGINNING:
-        raise Refused(f"--database: {named(path)}: is not a database of SQLite; give another file")
+        raise Refused(f"--database: {named(path)}: is not an SQLite database; give another file")
 
 
 def keep(path, told, told_about, verdicts):

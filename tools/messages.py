@@ -37,7 +37,7 @@ def named(path):
     """The name of a file, as a part of a message."""
     half = MOST_NAMED // 2 - 1
     cut = path if len(path) <= MOST_NAMED else path[:half] + ".." + path[-half:]
-    return printable(cut) or "the empty name"
+    return printable(cut) or "an empty file name"
 
 
 def wrong_folder(path):

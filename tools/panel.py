@@ -140,7 +140,7 @@ def told(latencies):
         seen += latencies[middle]
         if 2 * seen >= total:
             break
-    return f"{total:,} detected: half of them within {counted(middle)}, the last one after {counted(max(latencies))}"
+    return f"{total:,} detected: half of them within {counted(middle)}, the slowest after {counted(max(latencies))}"
 
 
 def counted(steps, what="step"):

@@ -17,7 +17,7 @@ from tries import CC, LEVELS, TALFT, here, top
 
 DIVIDE = "divide", "kalman"
 SAID = re.compile(r"accepted: (\d+) instructions, .* (\d+) cells; (?:.*; )?verified: (\d+) stores in (\d+) steps "
-                  r"are those of the module, which ran (\d+) instructions")
+                  r"match the module's, which ran (\d+) instructions")
 
 
 def run(*words):

@@ -26,7 +26,7 @@ report 'the lines in the database' "$(head -n -1 lines | cut -d' ' -f1 | md5sum)
   "$(asked "select step || ':' || site || ':' || word from verdict join campaign on id = campaign where sampled = 0 order by number" |
     tr ' ' '\n' | md5sum)"
 cd ..
-refuses 'a word about another list' 'campaign: bounds/sample: it is about 500 faults, and bounds/every has 1792' \
+refuses 'a word about another list' 'campaign: bounds/sample: it describes 500 faults, but bounds/every has 1792' \
   campaign bounds/five.obj --faults bounds/every --steps 100 --dir bounds/four --about bounds/sample
 refuses 'a word about no list' 'campaign: bounds/some: is not what `faults --about` writes' \
   campaign bounds/five.obj --faults bounds/some --steps 100 --dir bounds/four --about bounds/some

@@ -24,9 +24,9 @@ report 'the lines of strings.wasm' "$(answers strings)" "$("$top/talft" run stri
 made results
 report 'the lines of results.wasm' "$(answers results)" "$("$top/talft" run results.obj | grep -v '^spill')"
 # Another polynomial, in both colours: accepted, but not what the module does. 2212294583 is the CRC-32 of "1".
-report 'a wrong translation' "accepted; and that of the module crc 2212294583: the translation is wrong; report it" \
+report 'a wrong translation' "accepted; but crc 2212294583 in the module: the translation is wrong; report it" \
   "$(TALFT=$top/talft python3 "$top/tests/c/differs.py" "$top/tests/c/crc32.wasm" 3988292384 3988292385 |
-    sed 's/; store 0 .*, and/; and/')"
+    sed 's/; store 0 .* but/; but/')"
 made control
 mkdir cycles
 cp control.obj cycles
@@ -55,7 +55,7 @@ refuses 'a cell that is set twice' 'set: the cell `goal` is given twice' set con
 echo x >>lines
 refuses 'a line that is none' 'set: lines:4: unexpected `x`: expected NAME VALUE, as `talft run` writes it' \
   set control.obj --from lines
-refuses 'words of no object' 'set: control.asm: is an assembly text; `talft asm` makes an object of it' \
+refuses 'words of no object' 'set: control.asm: is an assembly text; `talft asm` turns it into an object' \
   set control.asm goal=1
 cp "$top/examples/mixed.obj" .
 refuses 'an object that is not accepted' \
@@ -110,7 +110,7 @@ said_of text 'offset 0x0: is not a WebAssembly module of version 1; give the out
 said_of cut 'offset 0x38: a part is longer than the section that it is in; link it again: the file is damaged'
 said_of section \
   'offset 0x8: section 77 is unknown, repeated or out of order; link it again: the file is damaged'
-said_of types 'function run: offset 0x3f: expects i32, and finds i64; the module is not valid: compile and link it again'
+said_of types 'function run: offset 0x3f: expects i32 but finds i64; the module is not valid: compile and link it again'
 said_of stack \
   'function run: offset 0x3b: takes a value from an empty stack; the module is not valid: compile and link it again'
 said_of float \

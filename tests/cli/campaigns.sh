@@ -129,7 +129,7 @@ done <<END
 4: r1:6|remove the spaces in it
 :r1:6|the step is missing
 r1:4:6|the step comes first, then the site
-4:R1:6|sites are written in small letters, as \`r1\`
+4:R1:6|write sites in lower case, as \`r1\`
 4:r1:6:7|it has more than three parts
 4:r1:6\\r|the line ends in CR LF: expected LF alone
 # words|a fault list has no comments
@@ -152,7 +152,7 @@ refuses 'a bad line of a later part' \
 report 'what else the folder holds' other/mine "$(find other -type f)"
 refuses 'a missing list' 'campaign: missing: no such file' campaign fibonacci.obj --faults missing
 refuses 'an object that is not accepted' \
-  "campaign: $top/examples/mixed.obj: not accepted: check block 0 index 3 premise 2; --survey runs the faults unchecked" \
+  "campaign: $top/examples/mixed.obj: not accepted: check block 0 index 3 premise 2; --survey tries the faults without checking the object" \
   campaign "$top/examples/mixed.obj" --faults "$top/examples/mixed.faults" --steps 14
 report 'what is kept of an object that is not accepted' '' "$(ls -d mixed.obj.campaign 2>/dev/null)"
 tool 'a survey with a corrupt fault' 10 '4:r1:6 corrupt\nfaults 1 masked 0 detected 0 idle 0 corrupt 1\n' \

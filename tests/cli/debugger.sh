@@ -63,7 +63,7 @@ mkdir bare
 cp -r "$top"/{talft,build,tools,crates.txt,HANDLES} bare
 bare/tools/debugger "$five" </dev/null >written 2>said
 report 'a program that is not proved yet' "1 debugger: $work/bare/talft: the program is not proved yet" \
-  "$? $(cat written said | sed 's/, and unproved each answer takes most of a minute: run `make` first$//')"
+  "$? $(cat written said | sed 's/, so each answer would take most of a minute: run `make` first$//')"
 python3 -m json.tool "$top/editors/vscode/package.json" >written 2>said
 report 'the configuration for VS Code' '0 0' "$? $(python3 "$top/editors/vscode/dap" </dev/null 2>said; echo $?)"
 cp "$five_text" replaced.asm
@@ -133,7 +133,7 @@ says 'a breakpoint at no place' tbreak 'missing place, as in `tbreak 1:0`'
 says 'no topic' 'info foo' \
   'unknown topic `foo`: expected info registers|queue|cells|breaks|strikes|position|outputs|names'
 says 'a position after the end' 'goto 1000000000' 'the run ended at 14, before 1000000000'
-says 'explain before the strike' 'plan 4:r1:6\nexplain' 'the strike 4:r1:6 is ahead: `continue`, and ask then'
+says 'explain before the strike' 'plan 4:r1:6\nexplain' 'the strike 4:r1:6 is still ahead: `continue` first, then `explain`'
 says 'at the strike' 'plan 4:r1:6\ngoto 4' 'the strike 4:r1:6 is made here'
 says 'back past a planned strike' 'plan 4:r1:6\ngoto 9\nback 6' 'the strike 4:r1:6 is ahead again'
 says 'back past a strike' 'goto 4\nzap r1 6\nback' 'the strike 4:r1:6 is forgotten: `undo` brings it back'
@@ -237,14 +237,14 @@ the path of the fault (what differs from the run without it):
   at 4        r1 6, not 5                                   the strike 4:r1:6
   at 8        r33 6, not 5                                  add r33 r1 B 0
   at 10       qv0 6, not 5                                  st_G r0 r1
-  at 12       cell out 6, not 5; right again: qv0           st_B r32 r33
+  at 12       cell out 6, not 5; correct again: qv0         st_B r32 r33
     st_B compared r33 = 6 with qv0 = 6: equal, so it passed
 the first wrong output: out 6, not out 5; committed at 12: st_B r32 r33  (block 0 index 5)
 at 14: 3 words differ; the OUTPUTS DIFFER, so the run is corrupt
 the cause: green and blue are mixed, so the fault is on both sides:
   at 8        add r33 r1 B 0  (block 0 index 3): r1 is green, the number 0 is blue
   at 12       st_B r32 r33  (block 0 index 5): r33 is green, the instruction is blue
-the checker refuses this object (check block 0 index 3 premise 2), so no promise is made of its runs:
+the checker refuses this object (check block 0 index 3 premise 2), so nothing is promised about its runs:
   $top/examples/mixed.obj: error: block 0, instruction 3: its two operands do not have the same colour (premise 2)
     add r33 r1 B 0
     r1: G int

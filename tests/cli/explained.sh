@@ -211,7 +211,7 @@ explained 'a source in the place of an assembly text' 12 'asm 1 1\n' \
   'eight.src: error: this is a source, not an assembly text: `talft compile FILE >OBJECT` makes an object\n' asm eight.src
 printf '4:r1:6\n' >said.list
 explained 'a fault list in the place of an object' 7 'object 2 7\n' \
-  'said.list: error: this is a fault list, not an object: it stands after `--faults`\n' check said.list
+  'said.list: error: this is a fault list, not an object: pass it with `--faults`\n' check said.list
 explained 'an object in the place of a fault list' 11 'list 1 1\n' \
   'five.obj: error: this is an object, not a fault list: a fault list has one STEP:SITE:WORD on each line; `tools/faults` writes one\n' campaign five.obj --faults five.obj
 explained 'an object in the place of a map' 13 'link 1 1\n' 'five.obj: error: this is an object, not a link map: a link map is a text with a line `module FILE` for each object\n' link five.obj
@@ -238,7 +238,7 @@ explained 'an option that is misspelled' 2 'usage\n' \
 # Habits from other languages. All are also rows of ft_explain_tests.
 printf 'cell a[4];\n' >array.src
 explained 'a declaration without a value' 6 'source 4 9\n' \
-  'array.src:1:10: error: unexpected `;`: a cell begins with a value, as in `cell a = 0;` or `cell a[4] = 0;`\n cell a[4];\n          ^\n' \
+  'array.src:1:10: error: unexpected `;`: a cell needs an initial value, as in `cell a = 0;` or `cell a[4] = 0;`\n cell a[4];\n          ^\n' \
   compile array.src
 printf 'cell out = 0;\nwhile (out < 3) {\n  out = out + 1;\n' >brace.src
 explained 'a brace that is not closed' 6 'source 4 49\n' \
@@ -264,13 +264,13 @@ done <<'END'
 cell out = 0;\nout := 5;|2:5: error: unexpected character `:`: write `=` to assign
 cell out = 0;\nout = 2 ** 3;|2:10: error: unexpected `*`: there are no powers, only products
 cell a[3] = 0;\nvar i;\na[i++] = 3;|3:5: error: unexpected `+`: write a statement of its own, as in `a = a + 1;`
-cell a[3] = {1, 2};|1:15: error: unexpected character `,`: all cells of an array begin with the same value
+cell a[3] = {1, 2};|1:15: error: unexpected character `,`: all cells of an array have the same initial value
 cell a = 0, b = 0;|1:11: error: unexpected character `,`: there are no lists: each name has its own declaration, as in `var a; var b;`
-cell out = 0;\nout = out + 1);|2:14: error: unexpected `)`: there is no `(` that it closes
+cell out = 0;\nout = out + 1);|2:14: error: unexpected `)`: no matching `(`
 cell out = 0;\nout = 5;;|2:9: error: unexpected `;`: there are no empty statements
 cell out = 0;\n{ out = 5; }|2:1: error: unexpected `{`: a block follows `while (..)`, `if (..)` or `else`
-cell out = 1 + 2;|1:14: error: unexpected `+`: a cell begins with a number, and statements compute
-cell a[n] = 0;|1:8: error: unexpected `n`: a number stands here
+cell out = 1 + 2;|1:14: error: unexpected `+`: a cell's initial value is a number: compute it in a statement
+cell a[n] = 0;|1:8: error: unexpected `n`: expected a number
 cell out = -1;|1:12: error: unexpected `-`: numbers have no sign: -1 is 18446744073709551615 (2^64 - 1)
 cell out = 0;\nif (out <= 3) { out = 1; }|2:10: error: unexpected `=`: write `(b < a) == 0` for `a <= b`
 cell out = 0;\ncell b = 0\nb = 1;|2:11: error: expected `;` after `0`
@@ -317,7 +317,7 @@ while IFS='|' read -r words message; do
   report "what is said of \`$words\`" "$message" "$(habit_in $words)"
 done <<'END'
 compile five.src -o five.obj|talft: error: unknown option `-o` for `compile`: it writes to standard output: add `>FILE`
-check five.obj mixed.obj|talft: error: unexpected argument `mixed.obj` after OBJECT: a call takes one OBJECT
+check five.obj mixed.obj|talft: error: unexpected argument `mixed.obj` after OBJECT: give only one OBJECT
 link five.obj mixed.obj|talft: error: unexpected argument `mixed.obj` after MAP: a link map is a text with a line `module FILE` for each object
 campaign five.obj five.faults|talft: error: unexpected argument `five.faults` after OBJECT: the fault list comes after `--faults`
 debug five.obj step 4|talft: error: unexpected argument `step` after OBJECT: commands come from standard input
@@ -325,7 +325,7 @@ run -- five.obj|talft: error: unexpected `--`: OBJECT comes right after the comm
 version|talft: error: unknown command `version`; did you mean `--version`?
 compile program.c|program.c: error: this is a C program, not a source: `tools/cc FILE -o OBJECT` makes an object
 run program|program: error: this is a C program, not an object: `tools/cc FILE -o OBJECT` makes an object
-campaign five.obj --faults verdicts.faults|verdicts.faults:1:7: error: a verdict follows the fault: a fault list has STEP:SITE:WORD alone
+campaign five.obj --faults verdicts.faults|verdicts.faults:1:7: error: this line has a verdict after the fault; a fault list has only STEP:SITE:WORD
 campaign five.obj --faults blanks.faults|blanks.faults:1:3: error: invalid fault: expected STEP:SITE:WORD; invalid site ` r1`: it contains whitespace
 link maps/two.map|maps/two.map:2:8: error: `nosuch.obj`: no such file; names are relative to the current folder, not to the map's
 run five.obj –fault 4:r1:6|talft: error: `–fault` begins with a typographic dash: write `--fault`
@@ -350,7 +350,7 @@ check maps/five.obj|maps/five.obj: error: no such file
 check maps/|maps/: error: is a folder
 link tab.map|tab.map:1:7: error: words are separated by one space, not by a tab
 link wide.map|wide.map:2:8: error: words are separated by one space
-campaign five.obj --faults tab.faults|tab.faults:1:7: error: a verdict follows the fault: a fault list has STEP:SITE:WORD alone
+campaign five.obj --faults tab.faults|tab.faults:1:7: error: this line has a verdict after the fault; a fault list has only STEP:SITE:WORD
 campaign five.obj --faults site.faults|site.faults:1:3: error: invalid fault: expected STEP:SITE:WORD; invalid site `	r1`: it contains a tab
 campaign five.obj --faults columns.faults|columns.faults:1:2: error: invalid fault: expected STEP:SITE:WORD; invalid step `4	r1	6`: it contains a tab
 END
@@ -360,7 +360,7 @@ printf 'cell a = 10;\na = 10;\n' >ten.src
 python3 -c 'import sys; sys.stdout.buffer.write(open("ten.obj", "rb").read().replace(b"\n", b"\r\n"))' >text.obj
 report 'what is said of an object that was copied as a text' \
   "$(printf '%s\n' "text.obj: error: the object has $(wc -c <text.obj) bytes, and its header gives $(wc -c <ten.obj)" \
-    '  a carriage return stands before each line feed, as when a text is copied: copy the object as binary')" \
+    '  each line feed has a carriage return before it, as after a copy in text mode: copy the object in binary mode')" \
   "$("$top/talft" check text.obj 2>&1 >with)"
 
 # A debugger script in a file is read again; one from a pipe is not.
@@ -447,7 +447,7 @@ head -c 100 five.obj >once &
 got=$(timeout 60 "$top/talft" check once 2>said; printf '/%d' $?)
 report 'a refused pipe' "$(printf 'object 2 100\n/7')" "$got"
 report 'what is said of a refused pipe' \
-  'once: error: the object does not have as many bytes as its header gives: it differs at byte 100' "$(cat said)"
+  'once: error: the object's size does not match its header: it differs at byte 100' "$(cat said)"
 wait
 rm -f once
 

@@ -60,7 +60,7 @@ refuses 'steps that are no range' \
   'faults: --steps: invalid range `3`: expected FIRST:LAST or FIRST:LAST:EVERY, as 4:5 for the step 4 alone' \
   faults "$five" --steps 3
 refuses 'steps after the end' \
-  'faults: --steps: `14:` has no step of the run, which takes 14 steps; LAST is left out' \
+  'faults: --steps: `14:` includes no step of the run, which takes 14 steps; LAST is excluded' \
   faults "$five" --steps 14:
 refuses 'a missing object' 'faults: missing.obj: no such file' faults missing.obj
 head -c 1 "$five" >cut.obj

@@ -50,17 +50,17 @@ done <<END
 1|campaign five.obj --faults list --dir list|campaign: --dir: list: is a file; give a folder, or the name of a new one
 1|campaign five.obj --faults list --dir kept|campaign: kept/campaign.json: is damaged: remove the folder
 1|campaign five.obj --faults list --hosts a|campaign: --hosts needs --engine parallel
-1|campaign five.asm --faults list|campaign: five.asm: is an assembly text; \`talft asm\` makes an object of it
+1|campaign five.asm --faults list|campaign: five.asm: is an assembly text; \`talft asm\` turns it into an object
 1|campaign empty --faults list|campaign: empty: is empty; expected an object
 1|campaign five.obj --faults bad --dir bad.kept|campaign: bad:2: invalid fault \`4:r64:6\`: expected STEP:SITE:WORD; the site \`r64\` is not one of $five_sites
 1|campaign five.obj --faults five.obj --dir object.kept|campaign: five.obj:1: invalid fault \`TALFT\\x00\\x00\\x01\\x00\\x00\\x00\\x01\\x00\\x00\\x00\\x01\\x00\\x00..\`: expected STEP:SITE:WORD; this is an object
 1|faults nosuch.obj|faults: nosuch.obj: no such file
-1|faults one.src|faults: one.src: is a source; \`talft compile\` makes an object of it
+1|faults one.src|faults: one.src: is a source; \`talft compile\` turns it into an object
 1|faults list|faults: list: is not an object; \`talft compile\`, \`talft asm\` and \`cc\` make objects
 2|faults five.obj --sample -1|faults: \`--sample\`: invalid number \`-1\`: expected a whole number, at least 0
 2|faults five.obj --sample 1 --sample 2|faults: \`--sample\` is given twice
 1|faults five.obj --about five.obj|faults: five.obj: is an input; give the output another name
-1|campaign five.obj --faults list --database five.asm|campaign: --database: five.asm: is not a database of SQLite; give another file
+1|campaign five.obj --faults list --database five.asm|campaign: --database: five.asm: is not an SQLite database; give another file
 1|campaign five.obj --faults list --database nofolder/x|campaign: nofolder/x: there is no folder \`nofolder\`
 2|faults five.obj –sites r1|faults: \`–sites\` begins with a typographic dash: write \`--sites\`
 2|cc one.c –o x.obj|cc: \`–o\` begins with a typographic dash: write \`-o\`
@@ -108,7 +108,7 @@ done <<END
 1|ending five.obj --fault 40:r1:1 --steps 20|ending: --fault: the step 40 is not below the 20 steps of the run: raise --steps
 1|ending five.obj --fault 4,r1,6|ending: --fault: invalid fault \`4,r1,6\`: expected STEP:SITE:WORD; its parts are separated by \`:\`
 1|ending five.obj --fault r1:4:6|ending: --fault: invalid fault \`r1:4:6\`: expected STEP:SITE:WORD; the step comes first, then the site
-1|ending five.obj --fault 4:R1:6|ending: --fault: invalid fault \`4:R1:6\`: expected STEP:SITE:WORD; sites are written in small letters, as \`r1\`
+1|ending five.obj --fault 4:R1:6|ending: --fault: invalid fault \`4:R1:6\`: expected STEP:SITE:WORD; write sites in lower case, as \`r1\`
 1|ending five.obj --text nosuch|ending: nosuch: no such file
 1|ending five.obj --text other.asm|ending: --text: other.asm: is not the text of five.obj; give the one that \`cc --text\` wrote for it
 1|ending five.obj --text other.obj|ending: other.obj: error: this is an object, not an assembly text: \`talft dis FILE\` writes its assembly text
@@ -129,10 +129,10 @@ done <<END
 1|cc one.c one.c -o x.obj|cc: one.c: is given twice
 1|cc one.c -o nofolder/x.obj|cc: nofolder/x.obj: there is no folder \`nofolder\`
 1|cc one.c -o x.obj --text x.obj|cc: x.obj: is given for two outputs; give each its own name
-1|cc five.asm -o x.obj|cc: five.asm: is an assembly text: use \`build\`; expected C files, or one module .wasm
-1|cc one.src -o x.obj|cc: one.src: is a source: use \`build\`; expected C files, or one module .wasm
-1|cc five.obj -o x.obj|cc: five.obj: is an object already; expected C files, or one module .wasm
-1|cc /dev/null -o x.obj|cc: /dev/null: is empty; expected C files, or one module .wasm
+1|cc five.asm -o x.obj|cc: five.asm: is an assembly text: use \`build\`; expected C files, or one .wasm module
+1|cc one.src -o x.obj|cc: one.src: is a source: use \`build\`; expected C files, or one .wasm module
+1|cc five.obj -o x.obj|cc: five.obj: is an object already; expected C files, or one .wasm module
+1|cc /dev/null -o x.obj|cc: /dev/null: is empty; expected C files, or one .wasm module
 1|cc nosuch.c -o x.obj|cc: nosuch.c: no such file
 END
 TALFT=$PWD/folder refuses 'a folder as the program' \
@@ -159,10 +159,10 @@ refuses_clang() {
 }
 refuses_clang stdio 'there is no C library: do without `stdio.h`; outputs are stores to global variables (docs/C.md)'
 refuses_clang string 'there is no C library: do without `string.h`; declare `memcpy`, `memmove`, `memset`, `memcmp` and `strlen` '\
-'yourself, which are linked (docs/C.md)'
+'yourself: they are linked (docs/C.md)'
 refuses_clang mine '`mine.h` is not found: give its folder with -I'
 refuses_clang symbols \
-  '`printf` and `exit` are not defined: give the C file that does, or do without: there is no C library (docs/C.md)'
+  '`printf` and `exit` are not defined: add the C file that defines them, or do without: there is no C library (docs/C.md)'
 refuses_clang linker 'the linker wasm-ld is not found: install lld'
 if has clang 'the functions of a C file' && has wasm-ld 'the functions of a C file'; then
   printf 'int x;\nint foo(void) { return x + 1; }\nvoid step(int a) { x = a; }\n' >two.c
@@ -172,17 +172,18 @@ if has clang 'the functions of a C file' && has wasm-ld 'the functions of a C fi
   refuses 'an entry that is misspelled' 'cc: two.c: defines no function `fooo`; did you mean `foo`?' \
     cc two.c --entry fooo -o x.obj
   refuses 'an entry with a parameter' \
-    'cc: two.c: function step: offset 0x38: the entry takes 1 parameter; nothing passes arguments: give a function without '\
-'parameters, as `int main(void)`' \
+    'cc: two.c: function step: offset 0x38: the entry takes 1 parameter; no arguments can be passed: name a function '\
+'without parameters, as `int main(void)`' \
     cc two.c --entry step -o x.obj
   printf 'volatile int x;\nint main(int argc, char **argv) { x = argc; return 0; }\n' >main.c
   refuses 'a main with arguments' \
-    'cc: main.c: function main: offset 0x46: the entry takes 2 parameters; nothing passes arguments: give a function without '\
-'parameters, as `int main(void)`' cc main.c -o x.obj
+    'cc: main.c: function main: offset 0x46: the entry takes 2 parameters; no arguments can be passed: name a function '\
+'without parameters, as `int main(void)`' cc main.c -o x.obj
   printf 'volatile int x;\nvoid run(void) { while (1) x = x + 1; }\n' >endless.c
   tool 'an endless C program' 0 '' cc endless.c --steps 1000 -o endless.obj
   report 'what is said of an endless C program' \
-    'cc: note: endless.obj: the run was cut after 1000 steps; --steps verifies more, and a program that never ends is always cut' \
+    'cc: note: endless.obj: the run was cut after 1000 steps; a larger --steps verifies more; a program that never '\
+'ends is always cut' \
     "$(tail -n 1 said)"
   printf 'int x;\nvoid run(void) { int a[1000]; for (int i = 0; i < 1000; i++) a[i] = i; x = a[x]; }\n' >large.c
   tool 'an array that is larger than the stack' 0 '' cc large.c --steps 1000 -o large.obj
@@ -200,7 +201,7 @@ refuses 'a name of two lines' 'plot: a\nb: no such file' plot $'a\nb'
 refuses 'a name that is not UTF-8' 'faults: a\xffb: no such file' faults $'a\xffb'
 refuses 'an empty list of words' 'faults: --values: invalid number ``: expected decimal numbers below 2^64, separated by commas' \
   faults five.obj --values ''
-refuses 'an empty name' 'ending: the empty name: no such file' ending ''
+refuses 'an empty name' 'ending: an empty file name: no such file' ending ''
 long=$(printf 'r%.0s' {1..5000})
 refuses 'a site that is long' "faults: --sites: unknown site \`${long:0:58}..\`: the sites are $five_sites" \
   faults five.obj --sites "$long"

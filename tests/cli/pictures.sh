@@ -25,7 +25,7 @@ draws() {
 }
 if has gnuplot 'the pictures'; then
   draws few 'masked 230 detected 115 idle 92 corrupt 23 of 10 48' \
-    '5 detected: half of them within 3 steps, the last one after 3 steps'
+    '5 detected: half of them within 3 steps, the slowest after 3 steps'
   draws cell 'masked 32 detected 0 idle 0 corrupt 14 of 2 24' 'No fault was detected\.'
   report 'a ring around the only corrupt fault' 1 "$(grep -c "<path stroke='rgb(213,  94,   0)'" cell.svg)"
   python3 -c 'import sys, xml.etree.ElementTree as tree; tree.parse(sys.argv[1])' few.svg
@@ -70,7 +70,7 @@ refuses 'lines that are cut off' \
   'plot: cut.lines:6: missing last line `faults ..`, with the totals: the file is incomplete' plot cut.lines
 sed 's/idle 4/idle 5/' few.lines >wrong.lines
 refuses 'totals that are not those of the lines' \
-  'plot: wrong.lines:21: the totals do not match the lines, which have masked 10 detected 5 idle 4 corrupt 1' plot wrong.lines
+  'plot: wrong.lines:21: the totals do not match the lines, which add up to masked 10 detected 5 idle 4 corrupt 1' plot wrong.lines
 sed '3s/masked/broken/' few.lines >broken.lines
 refuses 'a line that is none' \
   'plot: broken.lines:3: unexpected `2:r0:1 broken`: expected STEP:SITE:WORD VERDICT, as `talft campaign` writes it' \

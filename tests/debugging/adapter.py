@@ -44,7 +44,7 @@ def assembly(tests):
     client.move("stepBack")
     tests.check("back to its fetch", True, "fetch mov r1" in client.frame()["name"])
     stop = client.move("continue")
-    tests.check("detected", ("exception", "the blue pair is not the oldest green one"),
+    tests.check("detected", ("exception", "the blue pair does not match the oldest green one"),
                 (stop["reason"], stop.get("text")))
     told = client.body("exceptionInfo", {"threadId": 1})
     tests.check("exception", "detected at 12: st_B r32 r33  (block 0 index 5, five.asm:20)", told["description"])

@@ -177,7 +177,7 @@ class Adapter(Views, Breaks):
         if state.status == "done":
             if self.asked.get("noDebug") or not self.asked.get("stopAtEnd", True):
                 return self.end()
-            return self.stopped("pause", f"Done, {at}: steps back are possible")
+            return self.stopped("pause", f"Done, {at}: you can step back")
         if why == "start":
             return self.stopped("entry", "At the start")
         if why == "interrupted":

@@ -50,7 +50,7 @@ class Shown:
             parts = [f"  {at}", f"break {here.block} {here.index}", here.short(), one.told()]
             lines.append("  ".join([part for part in parts if part] + [f"{hits} so far"]))
         lines += [f"  {at}  watch {' '.join(sites)}" for at, sites in session.watches.items()]
-        self.say(*lines or ["no breakpoint and no watch"])
+        self.say(*lines or ["no breakpoints or watches"])
 
     def names(self):
         """The source's names and their places."""

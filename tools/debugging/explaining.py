@@ -65,11 +65,11 @@ class Change:
         """As a line."""
         words = {name: word for name, word, _ in self.new}
         if "pcg" in words and "pcb" in words:
-            told = [f"pcg and pcb {words['pcg']}, elsewhere than without the strike"]
+            told = [f"pcg and pcb {words['pcg']}, not where they are without the strike"]
         else:
             told = [self.difference(target, *pair) for pair in self.new]
         if self.gone:
-            told.append("right again: " + " ".join(self.gone))
+            told.append("correct again: " + " ".join(self.gone))
         cause = ", ".join(f"the strike {s.step}:{s.site}:{s.word}" for s in self.strikes)
         if not cause and self.instruction:
             line = target.line_of(self.instruction)
@@ -179,7 +179,7 @@ def way_lines(session, last):
     if wrong := runs.first_wrong():
         position, line, right = wrong
         instruction = session.fetched(position - 1)
-        lines.append(f"the first wrong output: {line}, {'not ' + right if right else 'where none comes'}; "
+        lines.append(f"the first wrong output: {line}, {'not ' + right if right else 'where there should be none'}; "
                      f"committed at {position}: {instruction.short()}  ({target.place_of(instruction)})")
     if changes and changes[-1].left == 0 and all(s.step <= runs.end for s in runs.made):
         # From here on the runs are equal.
@@ -229,10 +229,10 @@ def explain(session):
     if not any(s.step <= state.position for s in session.strikes):
         ahead = ", ".join(f"{s.step}:{s.site}:{s.word}" for s in session.strikes)
         if ahead and state.status == "running":
-            return lines + [f"the strike {ahead} is ahead: `continue`, and ask then"]
+            return lines + [f"the strike {ahead} is still ahead: `continue` first, then `explain`"]
         if state.status == "detected":
             return lines + ["no strike was made: the object itself does this"] + session.target.refusal()
-        return lines + [f"no strike was made: {ahead} is not before the end" if ahead else "no strike was made"]
+        return lines + [f"no strike was made: the run ends before {ahead}" if ahead else "no strike was made"]
     told, cause = way_lines(session, state.position)
     lines += ["the path of the fault (what differs from the run without it):"] + told + [end_line(session)]
     return lines + cause + session.target.refusal()

@@ -96,8 +96,8 @@ MNEMONICS = {
     **{name: f"{name} rd rs rt  or  {name} rd rs B 5: rd becomes {told}, with the colour of rs" for name, told in (
         ("add", "the sum"), ("sub", "the difference"), ("mul", "the product"), ("ltu", "1 if rs is less (unsigned), else 0"),
         ("eq", "1 if both are equal, else 0"), ("and", "the bits set in both"), ("or", "the bits set in either"),
-        ("xor", "the bits set in only one"), ("shl", "rs shifted left; 0 from 64 places on"),
-        ("shr", "rs shifted right; 0 from 64 places on"))},
+        ("xor", "the bits set in only one"), ("shl", "rs shifted left; 0 for 64 places or more"),
+        ("shr", "rs shifted right; 0 for 64 places or more"))},
     "mov": "mov rd G 7 int: rd becomes the number with its colour; its type is for the checker",
     "idx": "idx rd rs FIRST LENGTH: rd becomes the address of the cell FIRST + (rs modulo LENGTH)",
     "ld_G": "ld_G rd rs: rd becomes the newest pending store to the address rs, or the word of the cell there",
@@ -121,7 +121,7 @@ An instruction is fetched by a step from an even position, and executed by the n
     "operands": """B 0, G 5            a number with its colour, blue or green
 r1, r33             a register; the compiler pairs rI (green) with r(I + 32) (blue)
 mov r0 G 7 ref:int  the number 7, and its type for the checker
-idx r1 r2 4 30      an address among 30 cells from cell 4 on: that of number r2 modulo 30
+idx r1 r2 4 30      the address of one of the 30 cells from cell 4: number r2 modulo 30
 jmp_B r34 0 7 4     jumps to the address in r34; the numbers after it fill in the unknowns of the target's code type,
                     for the checker. Only `disassemble` shows them""",
 }
@@ -142,7 +142,8 @@ def help_lines():
     lines += [f"{example:<{width}}  {told}" + short(name) for name, (_, told, example, _) in HELP.items()]
     return lines + ["`help break` says more about a command. `help positions`, `help sites`, `help d`, `help faults` and",
                     "`help operands` explain terms, and `help bz_B` an instruction.",
-                    "A command may be cut short if no other begins so. On a terminal an empty line repeats the last move."]
+                    "A command may be abbreviated if no other begins the same way. On a terminal an empty line repeats the last",
+                    "move."]
 
 
 def short(name):

@@ -118,7 +118,7 @@ def of_load(state, words, named, target):
     pending = words[0] == "ld_G" and any(queued == address for queued, _ in state.queue)
     if pending or state.is_cell(address):
         return None
-    return Detection("a wild load: no answer is left to it, or the answer is `stop`",
+    return Detection("a wild load: no answer is left, or the answer is `stop`",
                      [Compared("address", f"{words[2]} = {named(address)}", "no cell is there", False)])
 
 
@@ -136,7 +136,7 @@ def of_blue_store(state, words, named, target):
     if not state.queue:
         return Detection("no green store is pending", rows)
     if not all(row.same for row in rows):
-        return Detection("the blue pair is not the oldest green one", rows)
+        return Detection("the blue pair does not match the oldest green one", rows)
     return None if state.is_cell(state.word(words[1])) else Detection("both pairs are equal, but no cell has the address", rows)
 
 
@@ -152,10 +152,10 @@ def of_blue_jump(state, words, named, target):
     """The rows of `jmp_B` and `bz_B` in "Jumps, branches and the end"."""
     d, rows = state.word("d"), targets_compared(state, words, target)
     if words[0] == "bz_B" and state.word(words[1]):
-        return None if d == 0 else Detection("blue passes, and green was to jump", rows)
+        return None if d == 0 else Detection("blue falls through, but green meant to jump", rows)
     if d == 0:
-        return Detection("blue jumps, and green has not: d is 0", rows)
-    return None if rows[-1].same else Detection("the blue target is not the green one", rows)
+        return Detection("blue jumps, but green did not: d is 0", rows)
+    return None if rows[-1].same else Detection("the blue target does not match the green one", rows)
 
 
 RULES = {"ld_G": of_load, "ld_B": of_load, "st_G": of_green_store, "st_B": of_blue_store, "jmp_G": of_green_jump,

@@ -16,7 +16,7 @@ HELP = ["n p        one machine step forward, back (arrows right and left, too)"
         "N P        ten machine steps",
         "i I        one instruction forward, back (two steps: its fetch, its execution)",
         "l L        one line of the source; one instruction where no source is known",
-        "c r        on, or back, to a breakpoint or a change",
+        "c r        run forward, or back, to a breakpoint or a change",
         "o          out of this block",
         "up down    choose an instruction; b sets or forgets a breakpoint there",
         "w          watch a cell or a register",
@@ -24,12 +24,12 @@ HELP = ["n p        one machine step forward, back (arrows right and left, too)"
         "e          why was it detected?", "d          what differs from the run without the strikes",
         "g          go to a position; Home and End go to the start and to the stop",
         "a          all registers, or those that were set",
-        ":          any command of the prompt; `:display r1` keeps a word in sight", "q          end", "",
+        ":          any command of the prompt; `:display r1` keeps a word on screen", "q          end", "",
         "=> the next instruction; G> B> the counters, where they differ; * a breakpoint",
-        "time line: o here, ! a strike, @ both; it is as long as the run without strikes",
+        "timeline: o here, ! a strike, @ both; it is as long as the run without strikes",
         *(f"registers: {text}" for text in views.MARKS.values())]
 ENDS = {"start": "this is the start", "done": "the machine is done", "detected": "detected: e says why",
-        "breakpoint": "a breakpoint", "interrupted": "interrupted: the run stays where it got to"}
+        "breakpoint": "a breakpoint", "interrupted": "interrupted: the run stays where it is"}
 # Commands whose answers fit on one line, as the screen shows the rest.
 BRIEF = AGAIN | {"until", "finish", "goto", "run", "end", "undo", "zap", "flip", "plan", "unplan", "watch"}
 COLOURS = (("green", "COLOR_GREEN"), ("blue", "COLOR_CYAN"), ("differs", "COLOR_RED"), ("changed", "COLOR_YELLOW"),
@@ -101,7 +101,7 @@ class Screen(Panes):
                 self.put(row, 0, line, "differs" if "DIFFER" in line else None)
             lines = lines[height - 1:]
             more = f" ({len(lines)} lines more)" if lines else ""
-            self.put(height - 1, 0, "any key goes on" + more, "dim")
+            self.put(height - 1, 0, "press any key to continue" + more, "dim")
             self.window.refresh()
             self.window.get_wch()
 
@@ -128,7 +128,7 @@ class Screen(Panes):
             session.delete(number)
         if not there:
             session.add_break(f"*{instruction.address}")
-        self.message = f"{'no breakpoint any more' if there else 'a breakpoint'} at {instruction.place()}"
+        self.message = f"breakpoint {'removed' if there else 'set'} at {instruction.place()}"
 
     def move(self, call, *words):
         """A move, and why it stopped."""

@@ -11,7 +11,7 @@ from debugging.source_lines import lines_of
 from messages import named, quoted, reason
 
 MAGIC = b"TALFT"
-NOT_BUILT = "the program is not proved yet, and unproved each answer takes most of a minute: run `make` first"
+NOT_BUILT = "the program is not proved yet, so each answer would take most of a minute: run `make` first"
 
 
 def built_program():
@@ -112,7 +112,7 @@ class Target:
             return []
         told = run.stderr.decode("utf-8", "replace").replace(self.object_file, self.path).splitlines()
         said = run.stdout.decode("utf-8", "replace").strip()
-        return [f"the checker refuses this object ({said}), so no promise is made of its runs:"] + [
+        return [f"the checker refuses this object ({said}), so nothing is promised about its runs:"] + [
             "  " + line for line in told]
 
     def ask(self, command):
@@ -137,7 +137,7 @@ class Target:
     def take_text(self, own):
         """The user's own text in place of that of `dis`, if it assembles to the same object."""
         if asked_of([self.program, "asm", own]) != self.ask("upgrade"):
-            raise Refused(f"{named(own)}: assembles to another object than {named(self.path)}; give the text that the "
+            raise Refused(f"{named(own)}: does not assemble to {named(self.path)}; give the text that the "
                           "object was made from")
         with open(own, encoding="utf-8", errors="replace") as file:
             listing = Listing(file.read().splitlines())

@@ -9,7 +9,7 @@ STYLES = {"green": "\033[32m", "blue": "\033[34m", "differs": "\033[1;31m", "dim
           "changed": "\033[33m", "break": "\033[31m"}
 MOST_CHANGES = 12
 # What the marks of pairs mean.
-MARKS = {"*": "* differs by a strike", "~": "~ differs without one, too"}
+MARKS = {"*": "* differs because of a strike", "~": "~ differs anyway"}
 
 
 class Paint:
@@ -83,7 +83,7 @@ def register_lines(session, paint, every=False, before=None):
                      + paint(style or ("changed" if row.changed[0] else "green"), f"{row.green:<{width}}")
                      + paint(style or ("changed" if row.changed[1] else "blue"), row.blue))
     if len(shown) < len(rows):
-        lines.append(paint("dim", f"  {len(rows) - len(shown)} pairs are as at the start, G 0"
+        lines.append(paint("dim", f"  {len(rows) - len(shown)} pairs still have their initial value, G 0"
                                   " (`info registers all` shows them)"))
     same = state.pcg == state.pcb
     lines.append(paint(None if same else "differs",
@@ -165,7 +165,7 @@ def doing(session):
     if state.status == "detected":
         return "the machine has stopped itself: `explain` says why"
     if current is None:
-        return f"the next step fetches where no instruction is, or the counters differ: pcg {state.pcg} pcb {state.pcb}"
+        return f"the next step fetches where there is no instruction, or the counters differ: pcg {state.pcg} pcb {state.pcb}"
     verb = "fetches" if is_fetch(state.position) else "executes"
     return f"the next step {verb} {current.short()}  ({place_and_line(session, current)})"
 

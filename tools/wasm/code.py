@@ -46,7 +46,7 @@ class Decoder:
             return wanted
         got = self.types.pop()
         if got != wanted and got is not ANY and wanted is not ANY:
-            self.wrong(f"expects {TYPE_NAMES.get(wanted, 'a type')}, and finds {TYPE_NAMES.get(got, 'another')}")
+            self.wrong(f"expects {TYPE_NAMES.get(wanted, 'a type')} but finds {TYPE_NAMES.get(got, 'another')}")
         return wanted if got is ANY else got
 
     def take(self, kinds):
@@ -60,12 +60,12 @@ class Decoder:
 
     def frame(self, depth):
         if depth >= len(self.frames):
-            self.wrong(f"branches {depth} blocks out, and there are {len(self.frames)}")
+            self.wrong(f"branches {depth} blocks out, but there are {len(self.frames)}")
         return self.frames[-1 - depth]
 
     def item(self, what, items, index):
         if index >= len(items):
-            self.wrong(f"names {what} {index}, and there are {len(items)}")
+            self.wrong(f"names {what} {index}, but there are {len(items)}")
         return items[index]
 
     # Decoding
@@ -135,7 +135,7 @@ class Decoder:
 
     def needs_memory(self):
         if not self.module.has_memory:
-            self.wrong("an access to memory, and the module has none")
+            self.wrong("an access to memory, but the module has none")
 
     def variable(self, code):
         index = self.data.u()
@@ -194,7 +194,7 @@ class Decoder:
     def end(self, _):
         frame = self.close()
         if frame.op == "if" and frame.starts != frame.ends:
-            self.wrong("an if without an else gives other values than it takes")
+            self.wrong("an if without an else must return the types that it takes")
         if frame.instr is not None:
             frame.instr.match = len(self.body)
             if frame.instr.els is not None:
@@ -224,7 +224,7 @@ class Decoder:
         for depth in depths:
             other = self.frame(depth).label()
             if len(other) != len(label):
-                self.wrong("the targets of a table of branches take other values")
+                self.wrong("the targets of a br_table differ in type")
             kept = [self.pop(kind) for kind in reversed(other)]
             self.push(*reversed(kept))
         self.take(label)
@@ -247,7 +247,7 @@ class Decoder:
             params, results = self.item("type", self.module.types, index)
             table = self.data.u()
             if self.item("table", self.module.tables, table)[0] != FUNCREF:
-                self.wrong("an indirect call by a table that has no functions")
+                self.wrong("an indirect call through a table without functions")
             self.pop(I32)
             self.add("call_indirect", (params, results), table)
         self.take(params)
@@ -294,7 +294,7 @@ class Decoder:
             if self.module.data_count is None:
                 self.wrong("names a data segment without the section of their number")
             if index >= self.module.data_count:
-                self.wrong(f"names data segment {index}, and there are {self.module.data_count}")
+                self.wrong(f"names data segment {index}, but there are {self.module.data_count}")
         for _ in range({8: 1, 9: 0, 10: 2, 11: 1}[sub]):
             if self.data.byte():
                 self.wrong("a memory other than 0")

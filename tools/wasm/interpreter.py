@@ -141,7 +141,7 @@ class Interpreter:
         except Trap as trap:
             return "trapped", str(trap), []
         except RecursionError:
-            return "trapped", "too many calls within one another", []
+            return "trapped", "calls nest too deeply", []
         except Cut:
             return "cut", "", []
 
@@ -159,7 +159,7 @@ class Interpreter:
         entries = self.module.tables[table]
         index = entries[number] if number < len(entries) else None
         if index is None:
-            raise Trap("an indirect call to no function")
+            raise Trap("an indirect call through an empty or missing table entry")
         function = self.module.functions[index]
         if (function.params, function.results) != self.module.types[kind]:
             raise Trap("an indirect call to a function of another type")

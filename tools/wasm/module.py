@@ -91,7 +91,7 @@ class Module:
     def func(self, part, i):
         at, index = part.at, part.u()
         if index >= len(self.types):
-            part.refuse(f"names type {index}, and there are {len(self.types)}", at)
+            part.refuse(f"names type {index}, but there are {len(self.types)}", at)
         self.funcs.append(Func(self, i, *self.types[index]))
 
     def limits(self, part, most):
@@ -137,7 +137,7 @@ class Module:
         active = not flags & 1
         table = part.u() if active and flags & 2 else 0
         if active and table >= len(self.tables):
-            part.refuse(f"names table {table}, and there are {len(self.tables)}", at)
+            part.refuse(f"names table {table}, but there are {len(self.tables)}", at)
         offset = self.constant(part, I32) if active else None
         if flags & 3:
             kind = part.byte()
@@ -167,7 +167,7 @@ class Module:
         if flag == 2 and part.u():
             part.refuse("data for a memory other than 0", here)
         if flag != 1 and not self.has_memory:
-            part.refuse("data, and the module has no memory", here)
+            part.refuse("data, but the module has no memory", here)
         at = None if flag == 1 else self.constant(part, I32)
         data = part.take(part.u())
         if at is not None and at + len(data) > self.pages * 65536:
@@ -199,7 +199,7 @@ class Module:
         if len(self.bodies) != len(self.funcs):
             reader.refuse(f"{len(self.funcs)} functions and {len(self.bodies)} bodies")
         if self.data_count not in (None, len(self.segments)):
-            reader.refuse(f"{self.data_count} data segments are announced, and there are {len(self.segments)}")
+            reader.refuse(f"{self.data_count} data segments are announced, but there are {len(self.segments)}")
         if self.start is not None and (self.start >= len(self.funcs) or self.funcs[self.start].params
                                        or self.funcs[self.start].results):
             reader.refuse("a start function that is not defined, or that takes or returns values")

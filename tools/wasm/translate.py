@@ -55,7 +55,7 @@ def choose_entry(module, name):
     func = exported[name]
     if func.params:
         raise Refused(f"the entry takes {counted(len(func.params), 'parameter')}",
-                      "nothing passes arguments: give a function without parameters, as `int main(void)`",
+                      "no arguments can be passed: name a function without parameters, as `int main(void)`",
                       func.name, func.at)
     if len(func.results) > 1:
         raise Refused(f"the entry has {counted(len(func.results), 'result')}",

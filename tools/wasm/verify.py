@@ -74,14 +74,14 @@ def verify(data, entry, translation, run):
         return f"not verified: the interpreter cannot run the module: {invalid}"
     for number, (mine, wanted) in enumerate(zip(stores, module.stores)):
         if mine != wanted:
-            raise Refused(f"store {number} of the object is {mine[0]} {mine[1]}, and that of the module {wanted[0]} "
-                          f"{wanted[1]}: {WRONG}")
+            raise Refused(f"store {number} is {mine[0]} {mine[1]} in the object but {wanted[0]} {wanted[1]} in the module: "
+                          f"{WRONG}")
     how = agreement(run, module, len(stores), traps_of(translation.text))
     if how is None:
-        raise Refused(f"the object is {run.how} after {len(stores)} stores, and the module {module.how} after "
+        raise Refused(f"the object is {run.how} after {len(stores)} stores, but the module {module.how} after "
                       f"{len(module.stores)}: {WRONG}")
-    verb = "is that" if len(stores) == 1 else "are those"
-    return (f"{how}: {counted(len(stores), 'store')} in {counted(run.steps, 'step')} {verb} of the module, which ran "
+    verb = "matches" if len(stores) == 1 else "match"
+    return (f"{how}: {counted(len(stores), 'store')} in {counted(run.steps, 'step')} {verb} the module's, which ran "
             f"{counted(module.program.count, 'instruction')}")
 
 

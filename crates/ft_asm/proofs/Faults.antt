@@ -1,4 +1,4 @@
--- What lines lead to says which answer applies to a text, and at most one does.
+-- Where lines lead shows which outcome a text has, and it has at most one.
 use Rattle.std.proofs.Common.{◌≡◌, ℕ, ◌==◌, Bool, true, false, List, [], ◌∷◌, ◌++◌, map, Some, None, codes, refl, ap}
 use Rattle.std.proofs.Common.{sym, ◌∙◌, subst, append_assoc, append-nil, lit<}
 use Rattle.std.specs.Prelude.{if◌then◌else◌}

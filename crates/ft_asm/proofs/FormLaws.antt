@@ -1,9 +1,12 @@
 -- Words are read as the line that they were written for, and no others are.
-use Rattle.std.proofs.Common.{◌≡◌, ℕ, ◌^◌, ◌<◌, List, [], ◌∷◌, map, Option, Some, None, decimal, codes, refl, ap, sym}
-use Rattle.std.proofs.Common.{◌∙◌, subst, arith}
+use Rattle.std.proofs.Common.{◌≡◌, ℕ, List, [], ◌∷◌, ◌++◌, map, Option, Some, None, decimal, codes, refl, ap, sym, ◌∙◌}
+use Rattle.std.proofs.Common.{subst, append-nil, arith}
 use Rattle.std.specs.Option.{option_map, option_and_then}
 use Rattle.std.specs.List.{AllByRecursion}
 use Rattle.std.proofs.lemmas.Option.{option_and_then_some}
+use Rattle.ft_isa.specs.declared.instr.Instr.{Instr}
+use Rattle.ft_isa.specs.declared.instr.Instr.TheVariants.{OpReg, OpWord, Ld, St, JmpB, BzB}
+use Rattle.ft_isa.specs.declared.instr.Subst.{Subst}
 use Rattle.ft_isa.specs.declared.op.Op.{Op}
 use Rattle.ft_isa.specs.declared.op.Op.TheVariants.{Add}
 use Rattle.ft_isa.specs.declared.colour.Colour.{Colour}
@@ -11,256 +14,181 @@ use Rattle.ft_isa.specs.declared.colour.Colour.TheVariants.{Green, Blue}
 use Rattle.ft_isa.specs.declared.reg.Reg.{Reg}
 use Rattle.ft_isa.specs.Operations.{op_word, op_in}
 use Rattle.ft_isa.proofs.Branches.{of_map, chosen}
+use Rattle.ft_types.specs.Spellable.{subst_of}
+use Rattle.ft_static.specs.declared.node.Node.{Node}
 use Rattle.ft_static.specs.declared.node.Shape.{Shape}
 use Rattle.ft_static.specs.declared.node.Shape.TheVariants as shapes
+use Rattle.ft_format.specs.Fits.{Is8, FitsShape, FitsInstr}
 use Rattle.ft_asm.specs.declared.line.Code.{Code}
-use Rattle.ft_asm.specs.declared.line.Code.TheVariants.{OpReg, OpWord, Mov, Ld, St, JmpG, JmpB, BzG, BzB, Halt, Idx}
 use Rattle.ft_asm.specs.declared.line.Line.{Line}
 use Rattle.ft_asm.specs.declared.line.Line.TheVariants as lines
-use Rattle.ft_format.specs.Fits.{Is8, Is32, FitsShape}
-use Rattle.ft_asm.specs.Lines.{reg_word, colour_word, ld_word, st_word, code_words, line_words, FitsLine, FitsCode}
+use Rattle.ft_asm.specs.Lines.{AReg, AByte, AName, operand_word, form_words, shape_form, instr_form, line_form}
+use Rattle.ft_asm.specs.Lines.{reg_word, colour_word, code_words, placed, line_words, FitsRows, FitsCode, FitsLine}
 use Rattle.ft_asm.specs.Lines.{IsForm, IsAnyWord}
-use Rattle.ft_asm.specs.Forms.{below, reg_in, any_word, taken, ended, field, rows_in, cell_in, node_line, node_in}
-use Rattle.ft_asm.specs.Forms.{shape_in, op_shape_in, type_in, reg_row_in, pend_in, block_in, entry_in, mov_in, idx_in}
-use Rattle.ft_asm.specs.Forms.{two_regs_in, jmp_green_in, jmp_blue_in, bz_blue_in, op_word_in, operand_in, op_code_in}
-use Rattle.ft_asm.specs.Forms.{op_line_in, transfer_in, code_in, line_with, line_in}
-use Rattle.ft_asm.proofs.FieldLaws.{IsField, number_field, colour_field, op_field, reg_field, basic_field, rows_sound}
-use Rattle.ft_asm.proofs.FieldLaws.{rows_complete}
-use Rattle.ft_asm.proofs.Texts.{AreWords}
+use Rattle.ft_asm.specs.Forms.{reg_in, ended, rows_in, FitsOperands, Row, row_in, op_shape_row, shape_rows, op_shape_in}
+use Rattle.ft_asm.specs.Forms.{shape_in, node_line, node_head, node_with, node_in, op_reg_row, op_word_row, ld_row}
+use Rattle.ft_asm.specs.Forms.{st_row, going_rows, transfer_rows, op_code_in, or_else, op_line_in, transfer_in}
+use Rattle.ft_asm.specs.Forms.{instr_in, code_line, with_rows, code_in, all_in, type_row, line_rows, line_with, line_in}
+use Rattle.ft_asm.proofs.FieldLaws.{op_field, rows_sound, rows_complete}
+use Rattle.ft_asm.proofs.RowLaws.{made_sound, taken_again, made_again, row_at, IsRight, Begins, row_sound, among_sound}
+use Rattle.ft_asm.proofs.Texts.{AreWords, first_is_word, shape_begins, shape_operands, instr_operands, line_operands}
 
--- CHAINS
-
--- what is claimed of the words that are left and of the line
-abbrev Claim : Type 1
-Claim = List (List ℕ) → Line → Type 0
-
--- a field, and then what is claimed of what follows
-through : {A : Type 0} {read : List ℕ → Option A} {word : A → List ℕ} {Fits : A →
-    Type 0} (P : Claim) (f : IsField read word Fits) (next : A → List (List ℕ) → Option Line)
-    → ((a : A) → Fits a → (ws : List (List ℕ)) (l : Line) → next a ws ≡ Some l → P (word a ∷ ws) l) →
-    (ws : List (List ℕ)) (l : Line) → field read next ws ≡ Some l → P ws l
-through P f next h [] l e = absurd cc
-through {A} {read} P f next h (w ∷ ws) l e =
-    option_and_then_some (λ p. next p.0 p.1) (taken read (w ∷ ws)) l e
-    (λ p t g.
-    let made = of_map (λ a. (a, ws)) (read w) p t in
-    let is = f.sound w made.0 made.1.0 in
-    let after : next made.0 ws ≡ Some l = subst (λ (q : A × List (List ℕ)). next q.0 q.1 ≡ Some l) (sym made.1.1) g in
-    subst (λ (v : List ℕ). P (v ∷ ws) l) (sym is.1) (h made.0 is.0 ws l after))
-
--- any word, and then what is claimed
-through_word : (P : Claim) (next : List ℕ → List (List ℕ) → Option Line) →
-    ((w : List ℕ) (ws : List (List ℕ)) (l : Line) → next w ws ≡ Some l → P (w ∷ ws) l) →
-    (ws : List (List ℕ)) (l : Line) → field any_word next ws ≡ Some l → P ws l
-through_word P next h [] l e = absurd cc
-through_word P next h (w ∷ ws) l e = h w ws l e
-
--- no word is left
-at_end : (P : Claim) (line : Line) → P [] line → (ws : List (List ℕ)) (l : Line) → ended line ws ≡ Some l → P ws l
-at_end P line h [] l e = let same : line ≡ l = cc in subst (P []) same h
-at_end P line h (w ∷ ws) l e = absurd cc
-
--- rows are left
-at_rows : (P : Claim) (made : List ℕ → Line) → ((rows : List ℕ) → AllByRecursion Is32 rows →
-    P (map decimal rows) (made rows)) → (ws : List (List ℕ)) (l : Line) → option_map made (rows_in ws) ≡ Some l → P ws l
-at_rows P made h ws l e =
-    let some = of_map made (rows_in ws) l e in
-    let is = rows_sound ws some.0 some.1.0 in
-    subst (λ (vs : List (List ℕ)). P vs l) (sym is.1) (subst (P (map decimal some.0)) some.1.1 (h some.0 is.0))
-
-abbrev n8 : IsField (below (2 ^ 8)) decimal (λ n. n < 2 ^ 8)
-n8 = number_field (2 ^ 8) (omega arith)
-
-abbrev n32 : IsField (below (2 ^ 32)) decimal (λ n. n < 2 ^ 32)
-n32 = number_field (2 ^ 32) (omega arith)
-
-abbrev n64 : IsField (below (2 ^ 64)) decimal (λ n. n < 2 ^ 64)
-n64 = number_field (2 ^ 64) (omega arith)
-
--- LINES AFTER THEIR FIRST WORD
-
-type_sound : (ws : List (List ℕ)) (l : Line) → type_in ws ≡ Some l → IsForm (codes "type" ∷ ws) l
-type_sound = through _ n8 _ (λ ints hi. through _ n32 _ (λ m hm. at_end _ (lines.Type ints m) ((hi, hm), refl)))
-
-reg_row_sound : (ws : List (List ℕ)) (l : Line) → reg_row_in ws ≡ Some l → IsForm (codes "reg" ∷ ws) l
-reg_row_sound =
-    through _ reg_field _ (λ r hr.
-    through _ colour_field _ (λ c hc.
-    through _ basic_field _ (λ b hb.
-    through _ n32 _ (λ e he. at_end _ (lines.Reg (record { reg = r; colour = c; basic = b; expr = e })) (
-      (hb, he),
-      refl,
-    )))))
-
-pend_sound : (ws : List (List ℕ)) (l : Line) → pend_in ws ≡ Some l → IsForm (codes "pend" ∷ ws) l
-pend_sound = through _ n32 _ (λ a ha. through _ n32 _ (λ v hv. at_end _ (lines.Pend a v) ((ha, hv), refl)))
-
-block_sound : (ws : List (List ℕ)) (l : Line) → block_in ws ≡ Some l → IsForm (codes "block" ∷ ws) l
-block_sound = through _ n32 _ (λ t ht. at_end _ (lines.Block t) (ht, refl))
-
-entry_sound : (ws : List (List ℕ)) (l : Line) → entry_in ws ≡ Some l → IsForm (codes "entry" ∷ ws) l
-entry_sound = through _ n32 _ (λ b hb. at_end _ (lines.Entry b) (hb, refl))
-
-cell_sound : (ws : List (List ℕ)) (l : Line) → AreWords ws → cell_in ws ≡ Some l → IsForm (codes "cell" ∷ ws) l
-cell_sound [] l h e = absurd cc
-cell_sound (name ∷ ws) l h e =
-    through (λ vs m. IsForm (codes "cell" ∷ name ∷ vs) m) basic_field (λ basic vs.
-    field (below (2 ^ 64)) (λ init us. ended (lines.Cell (record { name = name; basic = basic; init = init })) us) vs)
-    (λ basic hb.
-    through _ n64 _ (λ init hi. at_end _ (lines.Cell (record { name = name; basic = basic; init = init }))
-    ((h.0, (hb, hi)), refl)))
-    ws l e
+-- no word is left after a line
+ended_is : (line : Line) (ws : List (List ℕ)) (l : Line) → ended line ws ≡ Some l → (line ≡ l) × (ws ≡ [])
+ended_is line [] l e = (cc, refl)
+ended_is line (w ∷ ws) l e = absurd cc
 
 -- NODES
 
-abbrev IsNode : ℕ → List ℕ → List (List ℕ) → Line → Type 0
-IsNode scope w ws l = IsForm (codes "node" ∷ decimal scope ∷ w ∷ ws) l
+abbrev Any : Shape → Type 0
+Any shape = Unit {0}
 
-op_shape_sound : (scope : ℕ) → Is8 scope → (w : List ℕ) (ws : List (List ℕ)) (l : Line) → op_shape_in scope w ws
-    ≡ Some l → IsNode scope w ws l
-op_shape_sound scope hs w ws l e =
-    option_and_then_some (λ op. field (below (2 ^ 32)) (λ a us.
-    field (below (2 ^ 32)) (λ b vs. ended (node_line scope (shapes.Op op a b)) vs) us) ws) (op_in w) l e
-    (λ op f g.
-    let is = op_field.sound w op f in
-    subst (λ (v : List ℕ). IsNode scope v ws l) (sym is.1)
-    (through (λ us m. IsNode scope (op_word op) us m) n32 (λ a us.
-    field (below (2 ^ 32)) (λ b vs. ended (node_line scope (shapes.Op op a b)) vs) us) (λ a ha.
-    through _ n32 _ (λ b hb. at_end _ (node_line scope (shapes.Op op a b)) ((hs, (ha, hb)), refl)))
-    ws l g))
+abbrev BeginsNode : List (List ℕ) → List ℕ → Shape × List (List ℕ) → Type 0
+BeginsNode ws w p = Begins shape_form Any w ws p.0 p.1
 
-shape_sound : (scope : ℕ) → Is8 scope → (w : List ℕ) (ws : List (List ℕ)) (l : Line) → shape_in scope w ws ≡ Some l →
-    IsNode scope w ws l
-shape_sound scope hs w ws =
-    let P : List ℕ → Line → Type 0 = λ v l. IsNode scope v ws l in
-    chosen P (codes "word") w _ _ (λ l. through (λ vs m. IsNode scope (codes "word") vs m) n64 _ (λ x hx.
-    at_end _ (node_line scope (shapes.Word x)) ((hs, hx), refl)) ws l)
-    (chosen P (codes "var") w _ _ (λ l. through (λ vs m. IsNode scope (codes "var") vs m) n8 _ (λ x hx.
-    at_end _ (node_line scope (shapes.Var x)) ((hs, hx), refl)) ws l)
-    (chosen P (codes "sel") w _ _ (λ l. through (λ vs m. IsNode scope (codes "sel") vs m) n32 _ (λ x hx.
-    through _ n32 _ (λ y hy. at_end _ (node_line scope (shapes.Sel x y)) ((hs, (hx, hy)), refl))) ws l)
-    (chosen P (codes "memory") w _ _ (λ l. at_end (λ vs m. IsNode scope (codes "memory") vs m)
-    (node_line scope shapes.Memory) ((hs, tt), refl) ws l)
-    (chosen P (codes "upd") w _ _ (λ l. through (λ vs m. IsNode scope (codes "upd") vs m) n32 _ (λ x hx.
-    through _ n32 _ (λ y hy. through _ n32 _ (λ z hz.
-    at_end _ (node_line scope (shapes.Upd x y z)) ((hs, (hx, hy, hz)), refl)))) ws l)
-    (chosen P (codes "rem") w _ _ (λ l. through (λ vs m. IsNode scope (codes "rem") vs m) n32 _ (λ x hx.
-    through _ n32 _ (λ y hy. at_end _ (node_line scope (shapes.Rem x y)) ((hs, (hx, hy)), refl))) ws l)
-    (λ l. op_shape_sound scope hs w ws l))))))
+shapes_right : AllByRecursion (IsRight shape_form Any) shape_rows
+shapes_right = search
 
-node_sound : (ws : List (List ℕ)) (l : Line) → node_in ws ≡ Some l → IsForm (codes "node" ∷ ws) l
-node_sound = through _ n8 _ (λ scope hs. through_word _ _ (λ w ws l. shape_sound scope hs w ws l))
+op_shape_sound : (ws : List (List ℕ)) → AreWords ws → (w : List ℕ) (p : Shape × List (List ℕ)) → op_shape_in w ws
+    ≡ Some p → BeginsNode ws w p
+op_shape_sound ws h w p e = option_and_then_some (λ op. row_in (op_shape_row op) ws) (op_in w) p e
+    (λ op f g. subst (λ v. BeginsNode ws v p) (sym (op_field.sound w op f).1)
+    (row_sound shape_form Any ws h (op_shape_row op) (λ vs. (refl, tt)) p g))
+
+shape_fits : (shape : Shape) → FitsOperands (shape_form shape) → FitsShape shape
+shape_fits (shapes.Op op a b) h = assumption
+shape_fits shape h = assumption
+
+shape_sound : (scope : ℕ) → Is8 scope → (w : List ℕ) (ws : List (List ℕ)) (l : Line) → AreWords ws →
+    node_with (scope, w) ws ≡ Some l → IsForm (codes "node" ∷ decimal scope ∷ w ∷ ws) l
+shape_sound scope hs w ws l h e =
+    option_and_then_some (λ p. ended (node_line scope p.0) p.1) (shape_in w ws) l e
+    (λ p f g.
+    let read = among_sound shape_form Any (BeginsNode ws) (λ r. row_in r ws) (row_sound shape_form Any ws h) shape_rows
+    shapes_right w (op_shape_in w ws) (op_shape_sound ws h w) p f in
+    let last = ended_is (node_line scope p.0) p.1 l g in
+    subst (IsForm (codes "node" ∷ decimal scope ∷ w ∷ ws)) last.0 (
+      (hs, shape_fits p.0 read.fit),
+      ap (λ xs. codes "node" ∷ decimal scope ∷ xs) (read.words
+          ∙ ap (λ xs. form_words (shape_form p.0) ++ xs) last.1 ∙ append-nil (form_words (shape_form p.0))),
+    ))
+
+node_sound : (ws : List (List ℕ)) (l : Line) → AreWords ws → node_in ws ≡ Some l → IsForm (codes "node" ∷ ws) l
+node_sound ws l h e =
+    option_and_then_some (λ p. node_with p.0 p.1) (row_in node_head ws) l e
+    (λ p f g.
+    let head = made_sound node_head.kinds node_head.made ws p.0 p.1 h f in
+    subst (λ vs. IsForm (codes "node" ∷ vs) l) (sym head.words)
+    (shape_sound head.values.0 head.fit.0 head.values.1.0 p.1 l (subst AreWords head.words h).1.1
+    (subst (λ q. node_with q p.1 ≡ Some l) (sym head.is) g)))
 
 -- INSTRUCTIONS
 
-mov_sound : (ws : List (List ℕ)) (l : Line) → mov_in ws ≡ Some l → IsForm (codes "mov" ∷ ws) l
-mov_sound =
-    through _ reg_field _ (λ rd hr.
-    through _ colour_field _ (λ c hc.
-    through _ n64 _ (λ w hw.
-    through _ basic_field _ (λ b hb. at_end _ (lines.Code (Mov rd (record { colour = c; word = w }) b)) (
-      (hw, hb),
-      refl,
-    )))))
+-- the rows of an instruction stand apart
+abbrev IsApart : Instr → Type 0
+IsApart i = placed 0 0 i ≡ i
 
-idx_sound : (ws : List (List ℕ)) (l : Line) → idx_in ws ≡ Some l → IsForm (codes "idx" ∷ ws) l
-idx_sound =
-    through _ reg_field _ (λ rd hd.
-    through _ reg_field _ (λ rs hs.
-    through _ n32 _ (λ x hx.
-    through _ n32 _ (λ m hm. at_end _ (lines.Code (Idx rd rs x m)) ((hx, hm), refl)))))
+abbrev BeginsCode : List (List ℕ) → List ℕ → Instr × List (List ℕ) → Type 0
+BeginsCode ws w p = Begins instr_form IsApart w ws p.0 p.1
 
-ld_sound : (c : Colour) (ws : List (List ℕ)) (l : Line) → two_regs_in (Ld c) ws ≡ Some l → IsForm (ld_word c ∷ ws) l
-ld_sound c = through _ reg_field _ (λ a ha. through _ reg_field _ (λ b hb. at_end _ (lines.Code (Ld c a b)) (tt, refl)))
+going_right : AllByRecursion (IsRight instr_form IsApart) going_rows
+going_right = search
 
-st_sound : (c : Colour) (ws : List (List ℕ)) (l : Line) → two_regs_in (St c) ws ≡ Some l → IsForm (st_word c ∷ ws) l
-st_sound c = through _ reg_field _ (λ a ha. through _ reg_field _ (λ b hb. at_end _ (lines.Code (St c a b)) (tt, refl)))
+transfers_right : AllByRecursion (IsRight instr_form IsApart) transfer_rows
+transfers_right = search
 
-bz_sound : (ws : List (List ℕ)) (l : Line) → two_regs_in BzG ws ≡ Some l → IsForm (codes "bz_G" ∷ ws) l
-bz_sound = through _ reg_field _ (λ a ha. through _ reg_field _ (λ b hb. at_end _ (lines.Code (BzG a b)) (tt, refl)))
+op_code_sound : (ws : List (List ℕ)) → AreWords ws → (op : Op) (p : Instr × List (List ℕ)) → op_code_in op ws
+    ≡ Some p → BeginsCode ws (op_word op) p
+op_code_sound ws h op p e = either (row_in (op_reg_row op) ws) refl e
+  where
+    either : (o : Option (Instr × List (List ℕ))) → row_in (op_reg_row op) ws ≡ o →
+        or_else o (row_in (op_word_row op) ws) ≡ Some p → BeginsCode ws (op_word op) p
+    either None f g = row_sound instr_form IsApart ws h (op_word_row op) (λ vs. (refl, refl)) p g
+    either (Some q) f g = row_sound instr_form IsApart ws h (op_reg_row op) (λ vs. (refl, refl)) p (f ∙ g)
 
-jmp_sound : (ws : List (List ℕ)) (l : Line) → jmp_green_in ws ≡ Some l → IsForm (codes "jmp_G" ∷ ws) l
-jmp_sound = through _ reg_field _ (λ rd hr. at_end _ (lines.Code (JmpG rd)) (tt, refl))
+op_line_sound : (ws : List (List ℕ)) → AreWords ws → (w : List ℕ) (p : Instr × List (List ℕ)) → op_line_in w ws
+    ≡ Some p → BeginsCode ws w p
+op_line_sound ws h w p e = option_and_then_some (λ op. op_code_in op ws) (op_in w) p e
+    (λ op f g. subst (λ v. BeginsCode ws v p) (sym (op_field.sound w op f).1) (op_code_sound ws h op p g))
 
-jmp_blue_sound : (ws : List (List ℕ)) (l : Line) → jmp_blue_in ws ≡ Some l → IsForm (codes "jmp_B" ∷ ws) l
-jmp_blue_sound = through _ reg_field _ (λ rd hr. through _ n32 _ (λ m hm.
-    at_rows _ (λ rows. lines.Code (JmpB rd m rows)) (λ rows h. ((hm, h), refl))))
+instr_sound : (ws : List (List ℕ)) → AreWords ws → (w : List ℕ) (p : Instr × List (List ℕ)) → instr_in w ws
+    ≡ Some p → BeginsCode ws w p
+instr_sound ws h w =
+    let one = row_sound instr_form IsApart ws h in
+    among_sound instr_form IsApart (BeginsCode ws) (λ r. row_in r ws) one going_rows going_right w (transfer_in w ws)
+    (among_sound instr_form IsApart (BeginsCode ws) (λ r. row_in r ws) one transfer_rows transfers_right w
+    (op_line_in w ws) (op_line_sound ws h w))
 
-bz_blue_sound : (ws : List (List ℕ)) (l : Line) → bz_blue_in ws ≡ Some l → IsForm (codes "bz_B" ∷ ws) l
-bz_blue_sound = through _ reg_field _ (λ rz hz. through _ reg_field _ (λ rd hr.
-    through _ n32 _ (λ m hm. at_rows _ (λ rows. lines.Code (BzB rz rd m rows)) (λ rows h. ((hm, h), refl)))))
+instr_fits : (i : Instr) → FitsOperands (instr_form i) → FitsInstr (placed 0 0 i)
+instr_fits (JmpB rd s) h = (omega arith, omega arith, h.1.0)
+instr_fits (BzB rz rd s) h = (omega arith, omega arith, h.1.1.0)
+instr_fits i h = assumption
 
--- OPERATIONS
+-- the words that are left are the rows
+record AreRows (s : Option Subst) (i : Instr) (ws : List (List ℕ)) (l : Line) : Type 0 where
+  rows : List ℕ
+  is : code_line i rows ≡ l
+  fit : FitsRows rows s
+  words : ws ≡ map decimal rows
 
-abbrev IsOp : Op → Reg → Reg → List ℕ → List (List ℕ) → Line → Type 0
-IsOp op rd rs w ws l = IsForm (op_word op ∷ reg_word rd ∷ reg_word rs ∷ w ∷ ws) l
+rows_after : (s : Option Subst) (i : Instr) (ws : List (List ℕ)) (l : Line) → with_rows s i ws ≡ Some l →
+    AreRows s i ws l
+rows_after None i ws l e = let last = ended_is (code_line i []) ws l e in record {
+  rows = [];
+  is = last.0;
+  fit = refl;
+  words = last.1;
+}
+rows_after (Some s) i ws l e =
+    let made = of_map (code_line i) (rows_in ws) l e in
+    let are = rows_sound ws made.0 made.1.0 in
+    record { rows = made.0; is = made.1.1; fit = are.0; words = are.1 }
 
-op_word_sound : (op : Op) (rd rs : Reg) (c : Colour) (ws : List (List ℕ)) (l : Line) → op_word_in op rd rs c ws
-    ≡ Some l → IsOp op rd rs (colour_word c) ws l
-op_word_sound op rd rs c = through _ n64 _ (λ w hw.
-    at_end _ (lines.Code (OpWord op rd rs (record { colour = c; word = w }))) (hw, refl))
+code_sound : (w : List ℕ) (ws : List (List ℕ)) → AreWords ws → (l : Line) → code_in w ws ≡ Some l → IsForm (w ∷ ws) l
+code_sound w ws h l e =
+    option_and_then_some (λ p. with_rows (subst_of p.0) p.0 p.1) (instr_in w ws) l e
+    (λ p f g.
+    let read = instr_sound ws h w p f in
+    let last = rows_after (subst_of p.0) p.0 p.1 l g in
+    subst (IsForm (w ∷ ws)) last.is (
+      record { instr = subst FitsInstr read.also (instr_fits p.0 read.fit); apart = read.also; rows = last.fit },
+      read.words ∙ ap (λ xs. form_words (instr_form p.0) ++ xs) last.words,
+    ))
 
-op_reg_sound : (op : Op) (rd rs : Reg) (w : List ℕ) (ws : List (List ℕ)) (l : Line) →
-    option_and_then (λ rt. ended (lines.Code (OpReg op rd rs rt)) ws) (reg_in w) ≡ Some l → IsOp op rd rs w ws l
-op_reg_sound op rd rs w ws l e =
-    option_and_then_some (λ rt. ended (lines.Code (OpReg op rd rs rt)) ws) (reg_in w) l e
-    (λ rt f g.
-    let is = reg_field.sound w rt f in
-    subst (λ (v : List ℕ). IsOp op rd rs v ws l) (sym is.1)
-    (at_end (λ vs m. IsOp op rd rs (reg_word rt) vs m) (lines.Code (OpReg op rd rs rt)) (tt, refl) ws l g))
+-- LINES
 
-operand_sound : (op : Op) (rd rs : Reg) (w : List ℕ) (ws : List (List ℕ)) (l : Line) → operand_in op rd rs w ws
-    ≡ Some l → IsOp op rd rs w ws l
-operand_sound op rd rs w ws =
-    let P : List ℕ → Line → Type 0 = λ v l. IsOp op rd rs v ws l in
-    chosen P (codes "G") w _ _ (λ l. op_word_sound op rd rs Green ws l) (chosen P (codes "B") w _ _ (λ l.
-    op_word_sound op rd rs Blue ws l) (λ l. op_reg_sound op rd rs w ws l))
+-- a line of a row: neither a node nor an instruction
+abbrev IsPlain : Line → Type 0
+IsPlain (lines.Node n) = ⊥
+IsPlain (lines.Code code) = ⊥
+IsPlain line = Unit {0}
 
-op_code_sound : (op : Op) (ws : List (List ℕ)) (l : Line) → op_code_in op ws ≡ Some l → IsForm (op_word op ∷ ws) l
-op_code_sound op = through _ reg_field _ (λ rd hd.
-    through _ reg_field _ (λ rs hs. through_word _ _ (λ w ws l. operand_sound op rd rs w ws l)))
+lines_right : AllByRecursion (IsRight line_form IsPlain) line_rows
+lines_right = search
 
-op_line_sound : (w : List ℕ) (ws : List (List ℕ)) (l : Line) → op_line_in w ws ≡ Some l → IsForm (w ∷ ws) l
-op_line_sound w ws l e =
-    option_and_then_some (λ op. op_code_in op ws) (op_in w) l e
-    (λ op f g. subst (λ (v : List ℕ). IsForm (v ∷ ws) l) (sym (op_field.sound w op f).1) (op_code_sound op ws l g))
+plain_form : (l : Line) (ws : List (List ℕ)) → IsPlain l → FitsOperands (line_form l) → ws ≡ form_words (line_form l) →
+    IsForm ws l
+plain_form (lines.Node n) ws p h e = absurd p
+plain_form (lines.Code code) ws p h e = absurd p
+plain_form l ws p h e = (assumption, e)
 
-transfer_sound : (w : List ℕ) (ws : List (List ℕ)) (l : Line) → transfer_in w ws ≡ Some l → IsForm (w ∷ ws) l
-transfer_sound w ws =
-    let P : List ℕ → Line → Type 0 = λ v l. IsForm (v ∷ ws) l in
-    chosen P (codes "jmp_G") w _ _ (λ l. jmp_sound ws l)
-    (chosen P (codes "jmp_B") w _ _ (λ l. jmp_blue_sound ws l)
-    (chosen P (codes "bz_G") w _ _ (λ l. bz_sound ws l)
-    (chosen P (codes "bz_B") w _ _ (λ l. bz_blue_sound ws l)
-    (chosen P (codes "halt") w _ _ (λ l. at_end (λ vs m. IsForm (codes "halt" ∷ vs) m) (lines.Code Halt) (
-      tt,
-      refl,
-    ) ws l)
-    (λ l. op_line_sound w ws l)))))
-
-code_sound : (w : List ℕ) (ws : List (List ℕ)) (l : Line) → code_in w ws ≡ Some l → IsForm (w ∷ ws) l
-code_sound w ws =
-    let P : List ℕ → Line → Type 0 = λ v l. IsForm (v ∷ ws) l in
-    chosen P (codes "mov") w _ _ (λ l. mov_sound ws l)
-    (chosen P (codes "idx") w _ _ (λ l. idx_sound ws l)
-    (chosen P (codes "ld_G") w _ _ (λ l. ld_sound Green ws l)
-    (chosen P (codes "ld_B") w _ _ (λ l. ld_sound Blue ws l)
-    (chosen P (codes "st_G") w _ _ (λ l. st_sound Green ws l)
-    (chosen P (codes "st_B") w _ _ (λ l. st_sound Blue ws l)
-    (λ l. transfer_sound w ws l))))))
+all_sound : (ws : List (List ℕ)) → AreWords ws → (r : Row Line) → IsRight line_form IsPlain r → (l : Line) → all_in r ws
+    ≡ Some l → IsForm (r.first ∷ ws) l
+all_sound ws h r right l e =
+    option_and_then_some (λ p. ended p.0 p.1) (row_in r ws) l e
+    (λ p f g.
+    let read = row_sound line_form IsPlain ws h r right p f in
+    let last = ended_is p.0 p.1 l g in
+    subst (IsForm (r.first ∷ ws)) last.0 (plain_form p.0 (r.first ∷ ws) read.also read.fit
+    (read.words ∙ ap (λ xs. form_words (line_form p.0) ++ xs) last.1 ∙ append-nil (form_words (line_form p.0)))))
 
 line_with_sound : (w : List ℕ) (ws : List (List ℕ)) → AreWords ws → (l : Line) → line_with w ws ≡ Some l →
     IsForm (w ∷ ws) l
 line_with_sound w ws h =
     let P : List ℕ → Line → Type 0 = λ v l. IsForm (v ∷ ws) l in
-    chosen P (codes "cell") w _ _ (λ l. cell_sound ws l h)
-    (chosen P (codes "node") w _ _ (λ l. node_sound ws l)
-    (chosen P (codes "type") w _ _ (λ l. type_sound ws l)
-    (chosen P (codes "reg") w _ _ (λ l. reg_row_sound ws l)
-    (chosen P (codes "pend") w _ _ (λ l. pend_sound ws l)
-    (chosen P (codes "block") w _ _ (λ l. block_sound ws l)
-    (chosen P (codes "entry") w _ _ (λ l. entry_sound ws l)
-    (λ l. code_sound w ws l)))))))
+    chosen P (codes "node") w (node_in ws) _ (λ l. node_sound ws l h)
+    (among_sound line_form IsPlain P (λ r. all_in r ws) (all_sound ws h) line_rows lines_right w (code_in w ws)
+    (code_sound w ws h))
 
 -- words that are read as a line are those of the line
 pub line_sound : (words : List (List ℕ)) → AllByRecursion IsAnyWord words → (l : Line) → line_in words ≡ Some l →
@@ -270,93 +198,103 @@ line_sound (w ∷ ws) h l e = line_with_sound w ws h.1 l e
 
 -- BACK AGAIN
 
--- the word of a field is read as it
-again : {A : Type 0} {read : List ℕ → Option A} {word : A → List ℕ} {Fits : A → Type 0} (f : IsField read word Fits)
-    (next : A → List (List ℕ) → Option Line) (a : A) → Fits a → (ws : List (List ℕ)) → field read next (word a ∷ ws)
-    ≡ next a ws
-again {A} f next a h ws = ap (λ (o : Option A). option_and_then (λ (p : A × List (List ℕ)).
-    next p.0 p.1) (option_map (λ (b : A). (b, ws)) o)) (f.complete a h)
-
 -- an operation is none of the other words
-op_shape_is : (scope : ℕ) (op : Op) (ws : List (List ℕ)) → shape_in scope (op_word op) ws
-    ≡ op_shape_in scope (op_word op) ws
-op_shape_is scope Add ws = refl
-op_shape_is scope op ws = refl
+op_shape_is : (op : Op) (ws : List (List ℕ)) → shape_in (op_word op) ws ≡ op_shape_in (op_word op) ws
+op_shape_is Add ws = refl
+op_shape_is op ws = refl
 
-op_line_is : (op : Op) (ws : List (List ℕ)) → line_with (op_word op) ws ≡ op_line_in (op_word op) ws
+shape_again : (shape : Shape) → FitsOperands (shape_form shape) →
+    shape_in (shape_form shape).first (map operand_word (shape_form shape).operands) ≡ Some (shape, [])
+shape_again (shapes.Op op a b) h =
+    op_shape_is op (decimal a ∷ decimal b ∷ [])
+    ∙ ap (option_and_then (λ o. row_in (op_shape_row o) (decimal a ∷ decimal b ∷ []))) (op_field.complete op tt)
+    ∙ made_again (shape_form (shapes.Op op a b)).operands (op_shape_row op).made [] h
+shape_again shape h =
+    let f = shape_form shape in
+    made_again f.operands (row_at shape_rows f.first (op_shape_row Add)).made [] h
+
+node_again : (n : Node) → FitsLine (lines.Node n) → line_in (line_words (lines.Node n)) ≡ Some (lines.Node n)
+node_again n h =
+    let f = shape_form n.shape in
+    ap (option_and_then (λ p. node_with p.0 p.1)) (made_again (AByte n.scope ∷ AName f.first ∷ []) node_head.made
+    (map operand_word f.operands) (h.0, (first_is_word f.first (shape_begins n.shape), tt)))
+    ∙ ap (option_and_then (λ p. ended (node_line n.scope p.0) p.1)) (shape_again n.shape (shape_operands n.shape h.1))
+
+-- the first word of an instruction begins no other line
+op_line_is : (op : Op) (ws : List (List ℕ)) → line_with (op_word op) ws ≡ code_in (op_word op) ws
 op_line_is Add ws = refl
 op_line_is op ws = refl
 
-op_line_again : (op : Op) (ws : List (List ℕ)) → line_with (op_word op) ws ≡ op_code_in op ws
-op_line_again op ws = op_line_is op ws ∙ ap (option_and_then (λ o. op_code_in o ws)) (op_field.complete op tt)
+code_line_is : (i : Instr) (ws : List (List ℕ)) → line_with (instr_form i).first ws ≡ code_in (instr_form i).first ws
+code_line_is (OpReg op rd rs rt) ws = op_line_is op ws
+code_line_is (OpWord op rd rs value) ws = op_line_is op ws
+code_line_is (Ld Green rd rs) ws = refl
+code_line_is (Ld Blue rd rs) ws = refl
+code_line_is (St Green rd rs) ws = refl
+code_line_is (St Blue rd rs) ws = refl
+code_line_is i ws = refl
 
-shape_again : (scope : ℕ) (shape : Shape) → Is8 scope → FitsShape shape → line_in (line_words (node_line scope shape))
-    ≡ Some (node_line scope shape)
-shape_again scope (shapes.Word w) hs h = again n8 _ scope hs _ ∙ again n64 _ w h _
-shape_again scope (shapes.Var i) hs h = again n8 _ scope hs _ ∙ again n8 _ i h _
-shape_again scope (shapes.Op op a b) hs h =
-    again n8 _ scope hs _ ∙ op_shape_is scope op (decimal a ∷ decimal b ∷ [])
-    ∙ ap (option_and_then (λ o. field (below (2 ^ 32)) (λ x us.
-    field (below (2 ^ 32)) (λ y vs. ended (node_line scope (shapes.Op o x y)) vs) us) (decimal a ∷ decimal b ∷ [])))
-    (op_field.complete op tt)
-    ∙ again n32 _ a h.0 _ ∙ again n32 _ b h.1 _
-shape_again scope (shapes.Sel m a) hs h = again n8 _ scope hs _ ∙ again n32 _ m h.0 _ ∙ again n32 _ a h.1 _
-shape_again scope shapes.Memory hs h = again n8 _ scope hs _
-shape_again scope (shapes.Upd m a v) hs h = again n8 _ scope hs _ ∙ again n32 _ m h.0 _ ∙ again n32 _ a h.1 _
-    ∙ again n32 _ v h.2 _
-shape_again scope (shapes.Rem a m) hs h = again n8 _ scope hs _ ∙ again n32 _ a h.0 _ ∙ again n32 _ m h.1 _
+op_is : (op : Op) (ws : List (List ℕ)) → instr_in (op_word op) ws ≡ op_line_in (op_word op) ws
+op_is Add ws = refl
+op_is op ws = refl
 
--- two registers
-two_again : (code : Reg → Reg → Code) (a b : Reg) → two_regs_in code (reg_word a ∷ reg_word b ∷ [])
-    ≡ Some (lines.Code (code a b))
-two_again code a b = again reg_field _ a tt _ ∙ again reg_field _ b tt _
+op_again : (op : Op) (ws : List (List ℕ)) → instr_in (op_word op) ws ≡ op_code_in op ws
+op_again op ws = op_is op ws ∙ ap (option_and_then (λ o. op_code_in o ws)) (op_field.complete op tt)
 
-ld_again : (c : Colour) (ws : List (List ℕ)) → line_with (ld_word c) ws ≡ two_regs_in (Ld c) ws
-ld_again Green ws = refl
-ld_again Blue ws = refl
+-- a colour is no register
+no_reg_word : (c : Colour) → reg_in (colour_word c) ≡ None
+unfolding reg_in
+no_reg_word Green = refl
+no_reg_word Blue = refl
 
-st_again : (c : Colour) (ws : List (List ℕ)) → line_with (st_word c) ws ≡ two_regs_in (St c) ws
-st_again Green ws = refl
-st_again Blue ws = refl
+no_reg : (op : Op) (rd rs : Reg) (c : Colour) (ws : List (List ℕ)) →
+    row_in (op_reg_row op) (reg_word rd ∷ reg_word rs ∷ colour_word c ∷ ws) ≡ None
+no_reg op rd rs c ws = taken_again (AReg rd) tt _ _ ∙ taken_again (AReg rs) tt _ _
+    ∙ ap (option_and_then _) (ap (option_map _) (no_reg_word c))
 
-operand_again : (op : Op) (rd rs : Reg) (c : Colour) (ws : List (List ℕ)) → operand_in op rd rs (colour_word c) ws
-    ≡ op_word_in op rd rs c ws
-operand_again op rd rs Green ws = refl
-operand_again op rd rs Blue ws = refl
+instr_again : (i : Instr) → FitsOperands (instr_form i) → (rest : List (List ℕ)) →
+    instr_in (instr_form i).first (map operand_word (instr_form i).operands ++ rest) ≡ Some (placed 0 0 i, rest)
+instr_again (OpReg op rd rs rt) h rest =
+    let f = instr_form (OpReg op rd rs rt) in
+    let ws = map operand_word f.operands ++ rest in
+    op_again op ws ∙ ap (λ o. or_else o (row_in (op_word_row op) ws))
+    (made_again f.operands (op_reg_row op).made rest h)
+instr_again (OpWord op rd rs value) h rest =
+    let f = instr_form (OpWord op rd rs value) in
+    let ws = map operand_word f.operands ++ rest in
+    op_again op ws
+    ∙ ap (λ o. or_else o (row_in (op_word_row op) ws)) (no_reg op rd rs value.colour (decimal value.word ∷ rest))
+    ∙ made_again f.operands (op_word_row op).made rest h
+instr_again (Ld Green rd rs) h rest = made_again (instr_form (Ld Green rd rs)).operands (ld_row Green).made rest h
+instr_again (Ld Blue rd rs) h rest = made_again (instr_form (Ld Blue rd rs)).operands (ld_row Blue).made rest h
+instr_again (St Green rd rs) h rest = made_again (instr_form (St Green rd rs)).operands (st_row Green).made rest h
+instr_again (St Blue rd rs) h rest = made_again (instr_form (St Blue rd rs)).operands (st_row Blue).made rest h
+instr_again i h rest =
+    let f = instr_form i in
+    made_again f.operands (row_at (going_rows ++ transfer_rows) f.first (op_reg_row Add)).made rest h
+
+rows_again : (s : Option Subst) (i : Instr) (rows : List ℕ) → FitsRows rows s → with_rows s i (map decimal rows)
+    ≡ Some (code_line i rows)
+rows_again None i rows e = subst (λ ns. with_rows None i (map decimal ns) ≡ Some (code_line i ns)) (sym e) refl
+rows_again (Some s) i rows h = ap (option_map (code_line i)) (rows_complete rows h)
 
 code_again : (code : Code) → FitsCode code → line_in (code_words code) ≡ Some (lines.Code code)
-code_again (OpReg op rd rs rt) h =
-    op_line_again op (reg_word rd ∷ reg_word rs ∷ reg_word rt ∷ []) ∙ again reg_field _ rd tt _
-    ∙ again reg_field _ rs tt _
-    ∙ ap (option_and_then (λ r. ended (lines.Code (OpReg op rd rs r)) [])) (reg_field.complete rt tt)
-code_again (OpWord op rd rs value) h = op_line_again op (reg_word rd ∷ reg_word rs ∷ colour_word value.colour ∷ decimal
-    value.word ∷ []) ∙ again reg_field _ rd tt _ ∙ again reg_field _ rs tt _
-    ∙ operand_again op rd rs value.colour (decimal value.word ∷ []) ∙ again n64 _ value.word h _
-code_again (Mov rd value basic) h = again reg_field _ rd tt _ ∙ again colour_field _ value.colour tt _
-    ∙ again n64 _ value.word h.0 _ ∙ again basic_field _ basic h.1 _
-code_again (Ld c rd rs) h = ld_again c (reg_word rd ∷ reg_word rs ∷ []) ∙ two_again (Ld c) rd rs
-code_again (St c rd rs) h = st_again c (reg_word rd ∷ reg_word rs ∷ []) ∙ two_again (St c) rd rs
-code_again (JmpG rd) h = again reg_field _ rd tt _
-code_again (JmpB rd m rows) h = again reg_field _ rd tt _ ∙ again n32 _ m h.0 _
-    ∙ ap (option_map (λ rs. lines.Code (JmpB rd m rs))) (rows_complete rows h.1)
-code_again (BzG rz rd) h = two_again BzG rz rd
-code_again (BzB rz rd m rows) h = again reg_field _ rz tt _ ∙ again reg_field _ rd tt _ ∙ again n32 _ m h.0 _
-    ∙ ap (option_map (λ rs. lines.Code (BzB rz rd m rs))) (rows_complete rows h.1)
-code_again Halt h = refl
-code_again (Idx rd rs x m) h = again reg_field _ rd tt _ ∙ again reg_field _ rs tt _ ∙ again n32 _ x h.0 _
-    ∙ again n32 _ m h.1 _
+code_again code h =
+    let i = code.instr in
+    let rows = map decimal code.rows in
+    code_line_is i (map operand_word (instr_form i).operands ++ rows)
+    ∙ ap (option_and_then (λ p. with_rows (subst_of p.0) p.0 p.1)) (instr_again i (instr_operands i h.instr) rows
+    ∙ ap (λ j. Some (j, rows)) h.apart)
+    ∙ rows_again (subst_of i) i code.rows h.rows
 
 -- the words of a line are read as the line
 pub line_again : (line : Line) → FitsLine line → line_in (line_words line) ≡ Some line
-line_again (lines.Cell c) h = again basic_field _ c.basic h.1.0 _ ∙ again n64 _ c.init h.1.1 _
-line_again (lines.Node n) h = shape_again n.scope n.shape h.0 h.1
-line_again (lines.Type ints memory) h = again n8 _ ints h.0 _ ∙ again n32 _ memory h.1 _
-line_again (lines.Reg r) h = again reg_field _ r.reg tt _ ∙ again colour_field _ r.colour tt _
-    ∙ again basic_field _ r.basic h.0 _ ∙ again n32 _ r.expr h.1 _
-line_again (lines.Pend a v) h = again n32 _ a h.0 _ ∙ again n32 _ v h.1 _
-line_again (lines.Block t) h = again n32 _ t h _
+line_again (lines.Node n) h = node_again n h
 line_again (lines.Code code) h = code_again code h
-line_again (lines.Entry b) h = again n32 _ b h _
+line_again line h =
+    let f = line_form line in
+    ap (option_and_then (λ p. ended p.0 p.1)) (made_again f.operands (row_at line_rows f.first type_row).made []
+    (line_operands line h))
 
 -- words are those of one line at most
 pub one_line : (words : List (List ℕ)) (l m : Line) → IsForm words l → IsForm words m → l ≡ m

@@ -1,12 +1,11 @@
 -- Tables that hold what the lines so far say, after one more.
-use Rattle.std.proofs.Common.{◌≡◌, ℕ, suc, ◌+◌, true, false, List, [], ◌∷◌, ◌++◌, length, Some, refl, ap, sym, ◌∙◌}
+use Rattle.std.proofs.Common.{◌≡◌, ℕ, suc, ◌+◌, true, List, [], ◌∷◌, ◌++◌, length, Some, refl, ap, sym, ◌∙◌}
 use Rattle.std.proofs.Common.{append_assoc, append-nil, arith}
 use Rattle.std.specs.List.{flat_map}
 use Rattle.std.proofs.lemmas.List.{length-append}
 use Rattle.ft_static.specs.declared.node.Node.{Node}
 use Rattle.ft_isa.specs.declared.instr.Instr.{Instr}
 use Rattle.ft_types.specs.declared.object.Cell.{Cell}
-use Rattle.ft_types.specs.declared.object.Block.{Block}
 use Rattle.ft_types.specs.declared.object.CodeType.{CodeType}
 use Rattle.ft_types.specs.declared.object.RegType.{RegType}
 use Rattle.ft_asm.specs.declared.line.Code.{Code}
@@ -14,10 +13,10 @@ use Rattle.ft_asm.specs.declared.line.Line.TheVariants as lines
 use Rattle.ft_asm.specs.declared.draft.Place.{Place}
 use Rattle.ft_asm.specs.declared.draft.Place.TheVariants as places
 use Rattle.ft_asm.specs.declared.draft.Draft as tables
-use Rattle.ft_asm.specs.Listings.{Part, Listing, rows_of, codes_of, instr_at, instrs_from, blocks_from}
-use Rattle.ft_asm.specs.Drafts.{Draft, Start, InType, InBlock, Done, fresh_type, with_reg, with_pend, fresh_part}
-use Rattle.ft_asm.specs.Drafts.{with_code, more_cells, more_regs, next}
-use Rattle.ft_asm.specs.Held.{is_block, Holds, Adds, shut, Closes, PutsCode}
+use Rattle.ft_asm.specs.Listings.{Part, rows_of, codes_of, instr_at, instrs_from, blocks_from}
+use Rattle.ft_asm.specs.Drafts.{Draft, Start, InType, InBlock, Done, with_reg, with_pend, fresh_part, with_code}
+use Rattle.ft_asm.specs.Drafts.{more_cells, more_regs}
+use Rattle.ft_asm.specs.Held.{Holds, Adds, PutsCode}
 
 flat_on : {A B : Type 0} (f : A → List B) (xs : List A) (x : A) → flat_map f (xs ++ x ∷ []) ≡ flat_map f xs ++ f x
 flat_on f [] x = append-nil (f x)
@@ -43,7 +42,8 @@ blocks_last start [] p c = refl
 blocks_last start (q ∷ qs) p c = ap (λ l. record { start = start; code_type = q.code_type } ∷ l)
     (blocks_last (start + length q.codes) qs p c)
 
-blocks_more : (start : ℕ) (ps : List Part) (n : ℕ) → blocks_from start (ps ++ fresh_part n ∷ []) ≡ blocks_from start ps
+pub blocks_more : (start : ℕ) (ps : List Part) (n : ℕ) → blocks_from start (ps ++ fresh_part n ∷ [])
+    ≡ blocks_from start ps
     ++ record { start = start + length (flat_map codes_of ps); code_type = n } ∷ []
 blocks_more start [] n = let same : start ≡ start + 0 = omega arith in
     ap (λ m. record { start = m; code_type = n } ∷ []) same
@@ -59,27 +59,27 @@ codes_more : (ps : List Part) (p : Part) (c : Code) → flat_map codes_of (ps ++
 codes_more ps p c = flat_on codes_of ps (with_code p c) ∙ sym (append_assoc (flat_map codes_of ps) p.codes (c ∷ []))
     ∙ ap (λ l. l ++ c ∷ []) (sym (flat_on codes_of ps p))
 
-codes_fresh : (ps : List Part) (n : ℕ) → flat_map codes_of (ps ++ fresh_part n ∷ []) ≡ flat_map codes_of ps
+pub codes_fresh : (ps : List Part) (n : ℕ) → flat_map codes_of (ps ++ fresh_part n ∷ []) ≡ flat_map codes_of ps
 codes_fresh ps n = flat_on codes_of ps (fresh_part n) ∙ append-nil (flat_map codes_of ps)
 
 -- PLACES
 
-start_type : (p : Place) (i m : ℕ) → p ≡ places.Start → p ≡ places.InType i m → ⊥
+pub start_type : (p : Place) (i m : ℕ) → p ≡ places.Start → p ≡ places.InType i m → ⊥
 start_type p i m e f = let both : places.Start ≡ places.InType i m = sym e ∙ f in absurd cc
 
-start_block : (p : Place) → p ≡ places.Start → p ≡ places.InBlock → ⊥
+pub start_block : (p : Place) → p ≡ places.Start → p ≡ places.InBlock → ⊥
 start_block p e f = let both : places.Start ≡ places.InBlock = sym e ∙ f in absurd cc
 
-start_done : (p : Place) (b : ℕ) → p ≡ places.Start → p ≡ places.Done b → ⊥
+pub start_done : (p : Place) (b : ℕ) → p ≡ places.Start → p ≡ places.Done b → ⊥
 start_done p b e f = let both : places.Start ≡ places.Done b = sym e ∙ f in absurd cc
 
-type_block : (p : Place) (i m : ℕ) → p ≡ places.InType i m → p ≡ places.InBlock → ⊥
+pub type_block : (p : Place) (i m : ℕ) → p ≡ places.InType i m → p ≡ places.InBlock → ⊥
 type_block p i m e f = let both : places.InType i m ≡ places.InBlock = sym e ∙ f in absurd cc
 
-type_done : (p : Place) (i m b : ℕ) → p ≡ places.InType i m → p ≡ places.Done b → ⊥
+pub type_done : (p : Place) (i m b : ℕ) → p ≡ places.InType i m → p ≡ places.Done b → ⊥
 type_done p i m b e f = let both : places.InType i m ≡ places.Done b = sym e ∙ f in absurd cc
 
-block_done : (p : Place) (b : ℕ) → p ≡ places.InBlock → p ≡ places.Done b → ⊥
+pub block_done : (p : Place) (b : ℕ) → p ≡ places.InBlock → p ≡ places.Done b → ⊥
 block_done p b e f = let both : places.InBlock ≡ places.Done b = sym e ∙ f in absurd cc
 
 -- ONE MORE LINE
@@ -213,199 +213,3 @@ code_held t u v c i s put e (InBlock cs ns ts ps p) h =
       ),
     )
 code_held t u v c i s put e (Done l) h = absurd (block_done t.place l.entry s h.0)
-
--- WHAT ENDS
-
-block_next : (d : Draft) (l : Listing) (n : ℕ) → shut d ≡ Some l → next d (lines.Block n)
-    ≡ Some (InBlock l.cells l.nodes l.types l.parts (fresh_part n))
-block_next (Start cs ns) l n e = let same : record { cells = cs; nodes = ns; types = []; parts = []; entry = 0 }
-    ≡ l = cc in ap (λ (m : Listing). Some (InBlock m.cells m.nodes m.types m.parts (fresh_part n))) same
-block_next (InType cs ns ts v) l n e = let same : record {
-  cells = cs;
-  nodes = ns;
-  types = ts ++ v ∷ [];
-  parts = [];
-  entry = 0;
-} ≡ l = cc in ap (λ (m : Listing). Some (InBlock m.cells m.nodes m.types m.parts (fresh_part n))) same
-block_next (InBlock cs ns ts ps p) l n e = let same : record {
-  cells = cs;
-  nodes = ns;
-  types = ts;
-  parts = ps ++ p ∷ [];
-  entry = 0;
-} ≡ l = cc in ap (λ (m : Listing). Some (InBlock m.cells m.nodes m.types m.parts (fresh_part n))) same
-block_next (Done k) l n e = absurd cc
-
-abbrev entered : Listing → ℕ → Listing
-entered l n = record { cells = l.cells; nodes = l.nodes; types = l.types; parts = l.parts; entry = n }
-
-entry_next : (d : Draft) (l : Listing) (n : ℕ) → shut d ≡ Some l → next d (lines.Entry n) ≡ Some (Done (entered l n))
-entry_next (Start cs ns) l n e = let same : record { cells = cs; nodes = ns; types = []; parts = []; entry = 0 }
-    ≡ l = cc in ap (λ (m : Listing). Some (Done (entered m n))) same
-entry_next (InType cs ns ts v) l n e = let same : record {
-  cells = cs;
-  nodes = ns;
-  types = ts ++ v ∷ [];
-  parts = [];
-  entry = 0;
-} ≡ l = cc in ap (λ (m : Listing). Some (Done (entered m n))) same
-entry_next (InBlock cs ns ts ps p) l n e = let same : record {
-  cells = cs;
-  nodes = ns;
-  types = ts;
-  parts = ps ++ p ∷ [];
-  entry = 0;
-} ≡ l = cc in ap (λ (m : Listing). Some (Done (entered m n))) same
-entry_next (Done k) l n e = absurd cc
-
--- a draft that is in no block
-type_next : (t : tables.Draft) (d : Draft) (l : Listing) (i m : ℕ) → is_block t.place ≡ false → Holds t d → shut d
-    ≡ Some l → (next d (lines.Type i m) ≡ Some (InType l.cells l.nodes l.types (fresh_type i m))) × (l.parts ≡ [])
-type_next t (Start cs ns) l i m b h e = let same : record { cells = cs; nodes = ns; types = []; parts = []; entry = 0 }
-    ≡ l = cc in (
-      ap (λ (k : Listing). Some (InType k.cells k.nodes k.types (fresh_type i m))) same,
-      ap (λ (k : Listing). k.parts) (sym same),
-    )
-type_next t (InType cs ns ts v) l i m b h e = let same : record {
-  cells = cs;
-  nodes = ns;
-  types = ts ++ v ∷ [];
-  parts = [];
-  entry = 0;
-} ≡ l = cc in (
-  ap (λ (k : Listing). Some (InType k.cells k.nodes k.types (fresh_type i m)))
-      same,
-  ap (λ (k : Listing). k.parts) (sym same),
-)
-type_next t (InBlock cs ns ts ps p) l i m b h e = absurd (let both : true ≡ false = ap is_block (sym h.0) ∙ b in cc)
-type_next t (Done k) l i m b h e = absurd cc
-
-pub block_held : (t v : tables.Draft) (n : ℕ) (b : Block) (d : Draft) → Closes true t d → b
-    ≡ record { start = length t.instrs.items; code_type = n } → v.blocks.items ≡ t.blocks.items ++ b ∷ [] →
-    Adds true (record t { place = places.InBlock; blocks = v.blocks }) d (lines.Block n)
-block_held t v n b d h is e =
-    let l = h.0 in
-    let tables_are = h.3 in
-    let long : length t.instrs.items ≡ 0 + length (flat_map codes_of l.parts) = (let n1 = ap length tables_are.instrs
-    ∙ instrs_length 0 (flat_map codes_of l.parts) in omega arith) in
-    let same = codes_fresh l.parts n in (
-      InBlock l.cells l.nodes l.types l.parts (fresh_part n),
-      block_next d l n h.1,
-      (
-        refl,
-        record { regs = h.2.regs; queue = h.2.queue },
-        record {
-          cells = tables_are.cells;
-          nodes = tables_are.nodes;
-          types = tables_are.types;
-          blocks = e ∙ ap (λ k. k ++ b ∷ []) tables_are.blocks
-              ∙ ap (λ k. blocks_from 0 l.parts ++ k ∷ []) (is ∙ ap (λ m. record { start = m; code_type = n }) long)
-              ∙ sym (blocks_more 0 l.parts n);
-          instrs = tables_are.instrs ∙ ap (instrs_from 0) (sym same);
-          substs = tables_are.substs ∙ ap (flat_map rows_of) (sym same);
-        },
-      ),
-    )
-
-pub entry_held : (t : tables.Draft) (n : ℕ) (d : Draft) → Closes true t d →
-    Adds true (record t { place = places.Done n }) d (lines.Entry n)
-entry_held t n d h = (
-  Done (entered h.0 n),
-  entry_next d h.0 n h.1,
-  (
-    refl,
-    record { regs = h.2.regs; queue = h.2.queue },
-    record {
-      cells = h.3.cells;
-      nodes = h.3.nodes;
-      types = h.3.types;
-      blocks = h.3.blocks;
-      instrs = h.3.instrs;
-      substs = h.3.substs;
-    },
-  ),
-)
-
-pub type_held : (o t : tables.Draft) (i m : ℕ) (d : Draft) → is_block o.place ≡ false → Holds o d → Closes true t d →
-    Adds true (record t { place = places.InType i m }) d (lines.Type i m)
-type_held o t i m d b held h =
-    let more = type_next o d h.0 i m b held h.1 in (
-      InType h.0.cells h.0.nodes h.0.types (fresh_type i m),
-      more.0,
-      (
-        refl,
-        record { regs = h.2.regs; queue = h.2.queue },
-        record {
-          cells = h.3.cells;
-          nodes = h.3.nodes;
-          types = h.3.types;
-          blocks = h.3.blocks ∙ ap (blocks_from 0) more.1;
-          instrs = h.3.instrs ∙ ap (λ ps. instrs_from 0 (flat_map codes_of ps)) more.1;
-          substs = h.3.substs ∙ ap (λ ps. flat_map rows_of (flat_map codes_of ps)) more.1;
-        },
-      ),
-    )
-
--- ENDS
-
-pub closes_start : (t : tables.Draft) → t.place ≡ places.Start → (d : Draft) → Holds t d → Closes true t d
-closes_start t s (Start cs ns) h = (
-  record { cells = cs; nodes = ns; types = []; parts = []; entry = 0 },
-  refl,
-  h.1,
-  h.2,
-)
-closes_start t s (InType cs ns ts v) h = absurd (start_type t.place v.ints v.memory s h.0)
-closes_start t s (InBlock cs ns ts ps p) h = absurd (start_block t.place s h.0)
-closes_start t s (Done l) h = absurd (start_done t.place l.entry s h.0)
-
-pub closes_block : (t : tables.Draft) → t.place ≡ places.InBlock → (d : Draft) → Holds t d → Closes true t d
-closes_block t s (Start cs ns) h = absurd (start_block t.place h.0 s)
-closes_block t s (InType cs ns ts v) h = absurd (type_block t.place v.ints v.memory h.0 s)
-closes_block t s (InBlock cs ns ts ps p) h = (
-  record {
-    cells = cs;
-    nodes = ns;
-    types = ts;
-    parts = ps ++ p ∷ [];
-    entry = 0;
-  },
-  refl,
-  h.1,
-  h.2,
-)
-closes_block t s (Done l) h = absurd (block_done t.place l.entry s h.0)
-
--- a type by its parts
-type_is : (w v : CodeType) → places.InType w.ints w.memory ≡ places.InType v.ints v.memory → w.regs ≡ v.regs → w.queue
-    ≡ v.queue → w ≡ v
-type_is w v e r q =
-    let i : w.ints ≡ v.ints = cc in
-    let m : w.memory ≡ v.memory = cc in
-    ap (λ n. record { ints = n; regs = w.regs; queue = w.queue; memory = w.memory }) i
-    ∙ ap (λ n. record { ints = v.ints; regs = w.regs; queue = w.queue; memory = n }) m
-    ∙ ap (λ rs. record { ints = v.ints; regs = rs; queue = w.queue; memory = v.memory }) r
-    ∙ ap (λ qs. record { ints = v.ints; regs = v.regs; queue = qs; memory = v.memory }) q
-
-pub closes_type : (t u : tables.Draft) (w : CodeType) → t.place ≡ places.InType w.ints w.memory → w.regs
-    ≡ t.regs.items → w.queue ≡ t.queue.items → u.types.items ≡ t.types.items ++ w ∷ [] → u.regs.items ≡ [] →
-    u.queue.items ≡ []
-    → (d : Draft) → Holds t d → Closes true (record t { types = u.types; regs = u.regs; queue = u.queue }) d
-closes_type t u w s r q e f g (Start cs ns) h = absurd (start_type t.place w.ints w.memory h.0 s)
-closes_type t u w s r q e f g (InType cs ns ts v) h =
-    let same = type_is w v (sym s ∙ h.0) (r ∙ h.1.regs) (q ∙ h.1.queue) in (
-      record { cells = cs; nodes = ns; types = ts ++ v ∷ []; parts = []; entry = 0 },
-      refl,
-      record { regs = f; queue = g },
-      record {
-        cells = h.2.cells;
-        nodes = h.2.nodes;
-        types = e ∙ ap (λ l. l ++ w ∷ []) h.2.types
-            ∙ ap (λ k. ts ++ k ∷ []) same;
-        blocks = h.2.blocks;
-        instrs = h.2.instrs;
-        substs = h.2.substs;
-      },
-    )
-closes_type t u w s r q e f g (InBlock cs ns ts ps p) h = absurd (type_block t.place w.ints w.memory s h.0)
-closes_type t u w s r q e f g (Done l) h = absurd (type_done t.place w.ints w.memory l.entry s h.0)

@@ -1,4 +1,4 @@
--- What is given for a text is the answer that applies to it.
+-- What is returned for a text is its outcome.
 use Rattle.std.proofs.Common.{◌≡◌, List, ℕ, Result, Ok, Err, Vec, Global, sym, subst}
 use Rattle.std.specs.Prelude.{IfOk, IfErr}
 use Rattle.std.specs.Result.{IsErrAnd}
@@ -9,7 +9,7 @@ use Rattle.ft_asm.specs.Reads.{Answer, Is, TooLong, Text, Order, Broken, Applies
 use Rattle.ft_asm.specs.Refusals.{IsRefusal, IsAssembly, IsError, Gives, GivesBytes}
 use Rattle.ft_asm.proofs.Single.{one_answer}
 
--- a refusal that applies is the answer that applies
+-- a refusal that applies is the outcome
 refusal_is : (text : List ℕ) (e : AsmError) (x : Answer) → IsRefusal text e → Applies text x → IsError e x
 refusal_is text (errors.Text line) x h a = one_answer text (Text line) x h a
 refusal_is text (errors.Order line) x h a = one_answer text (Order line) x h a
@@ -17,14 +17,14 @@ refusal_is text errors.TooLong x h a = one_answer text TooLong x h a
 refusal_is text (errors.Object e) x h a = one_answer text (Broken e) x h a
 refusal_is text errors.NoMemory x h a = tt
 
--- an object that was given is the answer that applies, and so is a refusal
+-- an object that was returned is the outcome, and so is a refusal
 pub exact : (text : List ℕ) (r : Result objects.Object AsmError) → IfOk r (λ o. Applies text (Is o)) →
     IfErr r (IsRefusal text)
     → (x : Answer) → Applies text x → Gives r x
 exact text (Ok o) h i x a = one_answer text (Is o) x h a
 exact text (Err e) h i x a = refusal_is text e x i a
 
--- bytes that were given are those of the answer that applies, and a refusal is it
+-- bytes that were returned are those of the outcome, and a refusal is the outcome
 pub exact_bytes : (text : List ℕ) (r : Result (Vec ℕ Global) AsmError) → IfOk r (λ bytes. IsAssembly text bytes.items)
     → IfErr r (IsRefusal text) → (x : Answer) → Applies text x → GivesBytes r x
 exact_bytes text (Ok bytes) h i x a = record {

@@ -1,12 +1,15 @@
 pub mod FieldLaws
+pub mod RowLaws
 pub mod FormLaws
 pub mod Order
 pub mod Texts
+pub mod LawfulLines
 pub mod Lawful
 pub mod Faults
 pub mod Single
 pub mod WordLaws
 pub mod HeldLaws
+pub mod ClosedLaws
 pub mod Turned
 pub mod WriteLaws
 pub mod Total

@@ -1,4 +1,4 @@
--- The lines of a listing lead to that listing, and no line that leads nowhere stands in one.
+-- The lines of a listing lead to that listing, and none of them leads nowhere.
 use Rattle.std.proofs.Common.{◌≡◌, ℕ, List, [], ◌∷◌, ◌++◌, map, Option, Some, None, refl, ap, sym, ◌∙◌, append_assoc}
 use Rattle.std.proofs.Common.{append-nil}
 use Rattle.std.specs.Option.{option_and_then}

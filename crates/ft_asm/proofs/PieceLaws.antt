@@ -7,7 +7,6 @@ use Rattle.std.specs.List.{flat_map}
 use Rattle.std.proofs.lemmas.List.Concat.{flat_map-append}
 use Rattle.ft_isa.specs.declared.instr.Instr.{Instr}
 use Rattle.ft_isa.specs.declared.instr.Instr.TheVariants as instrs
-use Rattle.ft_isa.specs.declared.reg.Reg.{Reg}
 use Rattle.ft_isa.specs.declared.instr.Subst.{Subst}
 use Rattle.ft_isa.proofs.Lists.{there_below, drop_there}
 use Rattle.ft_static.specs.declared.node.Node.{Node}
@@ -21,8 +20,8 @@ use Rattle.ft_types.specs.Objects.{cell_head_of, name_of, type_head_of, regs_of,
 use Rattle.ft_types.specs.Spellable.{AreBlocks, subst_of, before, substs_of, Cover, IsSpellable}
 use Rattle.ft_asm.specs.declared.line.Line.{Line}
 use Rattle.ft_asm.specs.declared.line.Line.TheVariants as lines
-use Rattle.ft_asm.specs.Lines.{reg_word, code_words}
-use Rattle.ft_asm.specs.Listings.{pend_line, type_lines, part_lines, code_of, begins_at, parts_of}
+use Rattle.ft_asm.specs.Lines.{Form, operand_word, instr_form, form_words, code_words, placed}
+use Rattle.ft_asm.specs.Listings.{pend_line, type_lines, part_lines, rows_in, code_of, begins_at, parts_of}
 use Rattle.ft_asm.specs.Reads.{spaced, line_text, text_of}
 use Rattle.ft_asm.specs.Pieces.{cell_text, node_text, reg_text, pend_text, type_text, instr_text, row_text, part_of}
 use Rattle.ft_asm.specs.Pieces.{part_text, HasRows}
@@ -75,41 +74,29 @@ spaced_rows w (n ∷ ns) =
     ∙ append_assoc w (codes " ") (decimal n ++ flat_map row_text ns)
     ∙ ap (λ l. w ++ l) (sym (append_assoc (codes " ") (decimal n) (flat_map row_text ns)))
 
-regroup : (old j r s m f : List ℕ) → (((old ++ j) ++ r) ++ (s ++ m)) ++ f ≡ old ++ (j ++ ((r ++ s) ++ (m ++ f)))
-regroup old j r s m f =
-    append_assoc ((old ++ j) ++ r) (s ++ m) f
-    ∙ append_assoc (old ++ j) r ((s ++ m) ++ f)
-    ∙ append_assoc old j (r ++ ((s ++ m) ++ f))
-    ∙ ap (λ l. old ++ (j ++ l)) (ap (λ l. r ++ l) (append_assoc s m f) ∙ sym (append_assoc r s (m ++ f)))
+-- several words and then rows
+words_rows : (w : List ℕ) (ws : List (List ℕ)) (rows : List ℕ) → spaced (w ∷ (ws ++ map decimal rows))
+    ≡ spaced (w ∷ ws) ++ flat_map row_text rows
+words_rows w [] rows = spaced_rows w rows
+words_rows w (v ∷ vs) rows = ap (λ l. (w ++ codes " ") ++ l) (words_rows v vs rows)
+    ∙ sym (append_assoc (w ++ codes " ") (spaced (v ∷ vs)) (flat_map row_text rows))
 
--- first words, the node of a memory, and then rows
-rows_put : (old a b c d first words : List ℕ) (memory : ℕ) (rows : List ℕ) → a ≡ old ++ first → b ≡ a ++ words → c ≡ b
-    ++ row_text memory → d ≡ c ++ flat_map row_text rows
-    → d ≡ old ++ (first ++ ((words ++ codes " ") ++ spaced (decimal memory ∷ map decimal rows)))
-rows_put old a b c d first words memory rows p q r s =
-    s ∙ ap (λ l. l ++ flat_map row_text rows) (r ∙ ap (λ l. l ++ row_text memory) (q ∙ ap (λ l. l ++ words) p))
-    ∙ regroup old first words (codes " ") (decimal memory) (flat_map row_text rows)
-    ∙ ap (λ l. old ++ (first ++ ((words ++ codes " ") ++ l))) (sym (spaced_rows (decimal memory) rows))
+apart_form : (i : Instr) → instr_form i ≡ instr_form (placed 0 0 i)
+apart_form (instrs.JmpB rd s) = refl
+apart_form i = refl
 
--- a blue jump
-pub jump_put : (old a b c d : List ℕ) (substs : List ℕ) (rd : Reg) (t : Subst) → a ≡ old ++ codes "jmp_B " → b ≡ a
-    ++ reg_word rd → c ≡ b ++ row_text t.memory → d ≡ c ++ flat_map row_text (slice_range substs t.first t.past)
-    → d ≡ old ++ spaced (code_words (code_of substs (instrs.JmpB rd t)))
-jump_put old a b c d substs rd t p q r s = rows_put old a b c d (codes "jmp_B ") (reg_word rd) t.memory
-    (slice_range substs t.first t.past) p q r s
-
--- a blue branch
-pub branch_put : (old a b c d : List ℕ) (substs : List ℕ) (rz rd : Reg) (t : Subst) → a ≡ old ++ codes "bz_B " → b ≡ a
-    ++ spaced (reg_word rz ∷ reg_word rd ∷ []) → c ≡ b ++ row_text t.memory → d ≡ c
-    ++ flat_map row_text (slice_range substs t.first t.past)
-    → d ≡ old ++ spaced (code_words (code_of substs (instrs.BzB rz rd t)))
-branch_put old a b c d substs rz rd t p q r s =
-    let rest = spaced (decimal t.memory ∷ map decimal (slice_range substs t.first t.past)) in
-    rows_put old a b c d (codes "bz_B ") (reg_word rz ++ codes " "
-    ++ reg_word rd) t.memory (slice_range substs t.first t.past) p q r s
-    ∙ ap (λ l. old ++ (codes "bz_B " ++ l)) (ap (λ l. l
-    ++ rest) (append_assoc (reg_word rz ++ codes " ") (reg_word rd) (codes " "))
-    ∙ append_assoc (reg_word rz ++ codes " ") (reg_word rd ++ codes " ") rest)
+-- the words of an instruction, and then the rows of its substitution
+pub instr_put : (old a b substs : List ℕ) (i : Instr) (s : Option Subst) → s ≡ subst_of i → a ≡ old
+    ++ spaced (form_words (instr_form i)) → b ≡ a ++ flat_map row_text (rows_in substs s)
+    → b ≡ old ++ spaced (code_words (code_of substs i))
+instr_put old a b substs i s carried p q =
+    let f = instr_form i in
+    let rows = rows_in substs s in
+    q ∙ ap (λ l. l ++ flat_map row_text rows) p
+    ∙ append_assoc old (spaced (form_words f)) (flat_map row_text rows)
+    ∙ ap (λ l. old ++ l) (sym (words_rows f.first (map operand_word f.operands) rows)
+    ∙ ap (λ (g : Form). spaced (form_words g ++ map decimal rows)) (apart_form i)
+    ∙ ap (λ t. spaced (form_words (instr_form (placed 0 0 i)) ++ map decimal (rows_in substs t))) carried)
 
 -- the rows of a substitution are there
 first_covered : (nodes : List Node) (substs : List ℕ) (first : ℕ) (s : Option Subst) (ss : List Subst) →

@@ -1,4 +1,4 @@
--- At most one answer applies to a text.
+-- A text has at most one outcome.
 use Rattle.std.proofs.Common.{◌≡◌, ◌⊎◌, inl, inr, Option, Some, None, ℕ, suc, true, List, [], ◌∷◌, ◌++◌, length, refl}
 use Rattle.std.proofs.Common.{ap, sym, ◌∙◌, subst, append_assoc, append-nil, arith}
 use Rattle.std.specs.Prelude.{if◌then◌else◌}
@@ -113,7 +113,7 @@ one_first text n m f g = elim (apart f.before g.before f.after g.after f.line g.
 one_number : (text : List ℕ) (n m : ℕ) → First text n → First text m → n ≡ m
 one_number text n m f g = f.here ∙ ap (λ ls. suc (length ls)) (one_first text n m f g).0 ∙ sym g.here
 
--- and none where all lines begin a text
+-- and none if all lines begin a text
 no_first : (text : List ℕ) (n : ℕ) → First text n → ¬ (Begin (lines_of text))
 no_first text n f b = f.none (begin_prefix (lines_of text) (f.before ++ f.line ∷ []) f.after (f.split
     ∙ sym (append_assoc f.before (f.line ∷ []) f.after)) b)

@@ -8,11 +8,8 @@ use Rattle.std.specs.List.{AllByRecursion, AllZip, flat_map}
 use Rattle.std.proofs.lemmas.Fmt.{decimal_nonempty}
 use Rattle.std.proofs.lemmas.List.{length-append}
 use Rattle.std.proofs.lemmas.List.Concat.{flat_map-append, length-flat_map}
-use Rattle.ft_isa.specs.declared.op.Op.{Op}
-use Rattle.ft_isa.specs.Operations.{op_word}
-use Rattle.ft_isa.specs.declared.op.Op.TheVariants.{Add}
-use Rattle.ft_isa.specs.declared.colour.Colour.{Colour}
-use Rattle.ft_isa.specs.declared.colour.Colour.TheVariants.{Green, Blue}
+use Rattle.ft_isa.specs.declared.instr.Instr.{Instr}
+use Rattle.ft_isa.specs.declared.instr.Instr.TheVariants.{JmpB, BzB}
 use Rattle.ft_isa.proofs.Lists.{all_append}
 use Rattle.ft_types.specs.declared.object.Object.{Object}
 use Rattle.ft_types.specs.declared.object.Cell.{Cell}
@@ -22,15 +19,15 @@ use Rattle.ft_format.specs.Fits.{Is32, FitsCell, FitsNode, FitsReg, FitsPair, Fi
 use Rattle.ft_format.specs.Fits.{Fits}
 use Rattle.ft_text.specs.Lines.{with_byte, lines_of}
 use Rattle.ft_asm.specs.declared.line.Code.{Code}
-use Rattle.ft_asm.specs.declared.line.Code.TheVariants.{OpReg, OpWord, Mov, Ld, St, JmpG, JmpB, BzG, BzB, Halt, Idx}
 use Rattle.ft_asm.specs.declared.line.Line.{Line}
 use Rattle.ft_asm.specs.declared.line.Line.TheVariants as lines
 use Rattle.ft_asm.specs.Words.{is_blank, pieces_of, with_bytes, words_of, is_said, said_in}
-use Rattle.ft_asm.specs.Lines.{ld_word, st_word, code_words, line_words, FitsCode, FitsLine, IsForm}
+use Rattle.ft_asm.specs.Lines.{instr_form, form_words, code_words, line_words, placed, FitsCode, FitsLine, IsForm}
 use Rattle.ft_asm.specs.Listings.{Part, Listing, pend_line, type_lines, part_lines, listing_lines, rows_of, codes_of}
-use Rattle.ft_asm.specs.Listings.{instr_at, instrs_from, blocks_from, object_of}
+use Rattle.ft_asm.specs.Listings.{instrs_from, blocks_from, object_of}
 use Rattle.ft_asm.specs.Reads.{Reads}
 use Rattle.ft_asm.proofs.HeldLaws.{instrs_length}
+use Rattle.ft_asm.proofs.Texts.{first_is_word, instr_begins, code_rows}
 
 -- BYTES OF WORDS
 
@@ -80,57 +77,33 @@ said_bytes (l ∷ ls) = said_step (is_said (words_of l)) (words_of l) (said_in l
 -- what a line adds to the tables: a row, and the bytes of a name or the rows of a substitution
 abbrev weight : Line → ℕ
 weight (lines.Cell c) = suc (length c.name)
-weight (lines.Node n) = 1
-weight (lines.Type ints memory) = 1
-weight (lines.Reg r) = 1
-weight (lines.Pend address value) = 1
-weight (lines.Block t) = 1
 weight (lines.Code c) = suc (length (rows_of c))
-weight (lines.Entry b) = 1
+weight line = 1
 
 abbrev all_weights : List Line → ℕ
 all_weights [] = 0
 all_weights (l ∷ ls) = weight l + all_weights ls
-
-op_some : (op : Op) → 1 ≤ length (op_word op)
-op_some Add = omega arith
-op_some op = omega arith
-
-ld_some : (c : Colour) → 1 ≤ length (ld_word c)
-ld_some Green = omega arith
-ld_some Blue = omega arith
-
-st_some : (c : Colour) → 1 ≤ length (st_word c)
-st_some Green = omega arith
-st_some Blue = omega arith
 
 rows_bytes : (rows : List ℕ) → AllByRecursion Is32 rows → length rows ≤ bytes_in (map decimal rows)
 rows_bytes [] h = omega arith
 rows_bytes (n ∷ ns) h = let some = decimal_nonempty n (omega (arith, h.0)) in let rest = rows_bytes ns h.1 in
     omega arith
 
+bytes_on : (xs ys : List (List ℕ)) → bytes_in (xs ++ ys) ≡ bytes_in xs + bytes_in ys
+bytes_on [] ys = omega arith
+bytes_on (x ∷ xs) ys = let rest = bytes_on xs ys in omega arith
+
 code_weight : (c : Code) → FitsCode c → suc (length (rows_of c)) ≤ bytes_in (code_words c)
-code_weight (OpReg op rd rs rt) h = let some = op_some op in omega arith
-code_weight (OpWord op rd rs value) h = let some = op_some op in omega arith
-code_weight (Mov rd value basic) h = omega arith
-code_weight (Ld c rd rs) h = let some = ld_some c in omega arith
-code_weight (St c rd rs) h = let some = st_some c in omega arith
-code_weight (JmpG rd) h = omega arith
-code_weight (JmpB rd memory rows) h = let all = rows_bytes rows h.1 in omega arith
-code_weight (BzG rz rd) h = omega arith
-code_weight (BzB rz rd memory rows) h = let all = rows_bytes rows h.1 in omega arith
-code_weight Halt h = omega arith
-code_weight (Idx rd rs x m) h = omega arith
+code_weight c h =
+    let f = instr_form c.instr in
+    let some = (first_is_word f.first (instr_begins c.instr)).0 in
+    let on = bytes_on (form_words f) (map decimal c.rows) in
+    let rows = rows_bytes c.rows (code_rows c h) in
+    omega arith
 
 line_weight : (l : Line) → FitsLine l → weight l ≤ bytes_in (line_words l)
-line_weight (lines.Cell c) h = omega arith
-line_weight (lines.Node n) h = omega arith
-line_weight (lines.Type ints memory) h = omega arith
-line_weight (lines.Reg r) h = omega arith
-line_weight (lines.Pend a v) h = omega arith
-line_weight (lines.Block t) h = omega arith
 line_weight (lines.Code c) h = code_weight c h
-line_weight (lines.Entry b) h = omega arith
+line_weight line h = omega arith
 
 zip_weights : (wss : List (List (List ℕ))) (ls : List Line) → AllZip IsForm wss ls → all_weights ls ≤ all_bytes wss
 zip_weights [] [] h = omega arith
@@ -306,18 +279,11 @@ blocks_fit start (p ∷ ps) few h =
     let rest : start + length p.codes + length (flat_map codes_of ps) < 2 ^ 32 = omega arith in
     ((here, h.0), blocks_fit (start + length p.codes) ps rest own.1)
 
-instr_fits : (first : ℕ) (c : Code) → first + length (rows_of c) < 2 ^ 32 → FitsCode c → FitsInstr (instr_at first c)
-instr_fits first (OpReg op rd rs rt) few h = tt
-instr_fits first (OpWord op rd rs value) few h = h
-instr_fits first (Mov rd value basic) few h = h
-instr_fits first (Ld c rd rs) few h = tt
-instr_fits first (St c rd rs) few h = tt
-instr_fits first (JmpG rd) few h = tt
-instr_fits first (JmpB rd memory rows) few h = (omega arith, few, h.0)
-instr_fits first (BzG rz rd) few h = tt
-instr_fits first (BzB rz rd memory rows) few h = (omega arith, few, h.0)
-instr_fits first Halt few h = tt
-instr_fits first (Idx rd rs x m) few h = h
+placed_fits : (first past : ℕ) (i : Instr) → first ≤ past → past < 2 ^ 32 → FitsInstr i →
+    FitsInstr (placed first past i)
+placed_fits first past (JmpB rd s) up few h = (omega arith, few, h.2)
+placed_fits first past (BzB rz rd s) up few h = (omega arith, few, h.2)
+placed_fits first past i up few h = h
 
 instrs_fit : (first : ℕ) (cs : List Code) → first + length (flat_map rows_of cs) < 2 ^ 32 → AllByRecursion FitsCode cs →
     AllByRecursion FitsInstr (instrs_from first cs)
@@ -325,21 +291,10 @@ instrs_fit first [] few h = tt
 instrs_fit first (c ∷ cs) few h =
     let long = length-append (rows_of c) (flat_map rows_of cs) in
     let here : first + length (rows_of c) < 2 ^ 32 = omega arith in
-    let rest : first + length (rows_of c) + length (flat_map rows_of cs) < 2 ^ 32 = omega arith in
-    (instr_fits first c here h.0, instrs_fit (first + length (rows_of c)) cs rest h.1)
-
-code_rows : (c : Code) → FitsCode c → AllByRecursion Is32 (rows_of c)
-code_rows (OpReg op rd rs rt) h = tt
-code_rows (OpWord op rd rs value) h = tt
-code_rows (Mov rd value basic) h = tt
-code_rows (Ld c rd rs) h = tt
-code_rows (St c rd rs) h = tt
-code_rows (JmpG rd) h = tt
-code_rows (JmpB rd memory rows) h = h.1
-code_rows (BzG rz rd) h = tt
-code_rows (BzB rz rd memory rows) h = h.1
-code_rows Halt h = tt
-code_rows (Idx rd rs x m) h = tt
+    let rest : first + length (rows_of c) + length (flat_map rows_of cs) < 2 ^ 32 = omega arith in (
+      placed_fits first (first + length c.rows) c.instr (omega arith) here h.0.instr,
+      instrs_fit (first + length (rows_of c)) cs rest h.1,
+    )
 
 rows_fit : (cs : List Code) → AllByRecursion FitsCode cs → AllByRecursion Is32 (flat_map rows_of cs)
 rows_fit [] h = tt

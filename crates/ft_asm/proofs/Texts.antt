@@ -1,7 +1,7 @@
 -- What is written is read again as what it was written for.
 use Rattle.std.proofs.Common.{◌≡◌, ℕ, zero, suc, ◌+◌, ◌%◌, ◌^◌, ◌<◌, ◌≤◌, ◌==◌, Bool, true, false, ◌||◌, not, List, []}
 use Rattle.std.proofs.Common.{◌∷◌, ◌++◌, length, map, decimal, codes, refl, ap, sym, ◌∙◌, subst, append_assoc, arith}
-use Rattle.std.specs.Prelude.{if◌then◌else◌, ◌&&◌, nat_lt}
+use Rattle.std.specs.Prelude.{if◌then◌else◌, ◌&&◌, nat_lt, Option, Some, None}
 use Rattle.std.specs.List.{AllByRecursion, AllZip, flat_map, list_all}
 use Rattle.std.proofs.lemmas.Bool.{and_parts, and_from, not-true, ne_eqb, or_from, ltb-true}
 use Rattle.std.proofs.lemmas.Fmt.{decimal_by_steps, decimal_nonempty}
@@ -13,18 +13,26 @@ use Rattle.ft_isa.specs.declared.colour.Colour.TheVariants.{Green, Blue}
 use Rattle.ft_isa.specs.Operations.{op_word}
 use Rattle.ft_isa.specs.declared.op.Op.{Op}
 use Rattle.ft_isa.specs.declared.op.Op.TheVariants.{Add}
+use Rattle.ft_isa.specs.declared.instr.Instr.{Instr}
+use Rattle.ft_isa.specs.declared.instr.Instr.TheVariants.{OpReg, OpWord, Ld, St}
+use Rattle.ft_isa.specs.declared.instr.Subst.{Subst}
 use Rattle.ft_isa.specs.declared.reg.Reg.{Reg}
+use Rattle.ft_isa.proofs.Lists.{all_append}
+use Rattle.ft_types.specs.Spellable.{subst_of}
 use Rattle.ft_static.specs.declared.node.Shape.{Shape}
 use Rattle.ft_static.specs.declared.node.Shape.TheVariants as shapes
 use Rattle.ft_text.specs.Lines.{with_byte, lines_of}
 use Rattle.ft_asm.specs.declared.line.Code.{Code}
-use Rattle.ft_asm.specs.declared.line.Code.TheVariants.{OpReg, OpWord, Mov, Ld, St, JmpG, JmpB, BzG, BzB, Halt, Idx}
 use Rattle.ft_asm.specs.declared.line.Line.{Line}
 use Rattle.ft_asm.specs.declared.line.Line.TheVariants as lines
-use Rattle.ft_asm.specs.Words.{is_blank, pieces_of, with_word, with_bytes, words_of, is_said, with_said, said_in}
-use Rattle.ft_asm.specs.Lines.{reg_word, colour_word, base_word, refs_word, shape_words, ld_word, st_word, code_words}
-use Rattle.ft_asm.specs.Lines.{line_words, FitsCode, FitsLine, is_part, HasParts, IsAnyWord, IsForm}
-use Rattle.ft_format.specs.Fits.{Is32, FitsBase, FitsShape}
+use Rattle.ft_asm.specs.Words.{is_blank, is_comment, pieces_of, with_word, with_bytes, words_of, is_said, with_said}
+use Rattle.ft_asm.specs.Words.{said_in}
+use Rattle.ft_asm.specs.Lines.{reg_word, colour_word, base_word, refs_word, line_words, AReg, AColour}
+use Rattle.ft_asm.specs.Lines.{AByte, AnIndex, AWord, ABasic, AName, Operand, operand_word, Form, form_words, line_form}
+use Rattle.ft_asm.specs.Lines.{shape_form, instr_form, FitsRows, FitsCode, FitsLine, is_part, HasParts, IsAnyWord}
+use Rattle.ft_asm.specs.Lines.{IsForm}
+use Rattle.ft_asm.specs.Forms.{FitsOperand, FitsOperands}
+use Rattle.ft_format.specs.Fits.{Is32, FitsBase, FitsShape, FitsInstr}
 use Rattle.ft_asm.specs.Reads.{spaced, line_text}
 
 -- PARTS OF WORDS
@@ -81,15 +89,6 @@ colour_is_word : (c : Colour) → IsAnyWord (colour_word c)
 colour_is_word Green = (omega arith, (refl, tt))
 colour_is_word Blue = (omega arith, (refl, tt))
 
-op_passes : (op : Op) → (nat_lt 0 (length (op_word op)) && list_all is_part (op_word op)) ≡ true
-op_passes Add = refl
-op_passes op = refl
-
-op_is_word : (op : Op) → IsAnyWord (op_word op)
-op_is_word op =
-    let two = and_parts (nat_lt 0 (length (op_word op))) (list_all is_part (op_word op)) (op_passes op) in
-    (ltb-true 0 (length (op_word op)) two.0, parts_pass (op_word op) two.1)
-
 base_is_word : (base : Base) → FitsBase base → IsAnyWord (base_word base)
 base_is_word Int h = (omega arith, (refl, (refl, (refl, tt))))
 base_is_word (bases.Code t) h = word_on (codes "code:") (decimal t) (
@@ -112,97 +111,87 @@ rows_are_words : (rows : List ℕ) → AllByRecursion Is32 rows → AreWords (ma
 rows_are_words [] h = tt
 rows_are_words (n ∷ ns) h = (short n h.0, rows_are_words ns h.1)
 
-shape_are_words : (shape : Shape) → FitsShape shape → AreWords (shape_words shape)
-shape_are_words (shapes.Word w) h = ((omega arith, (refl, (refl, (refl, (refl, tt))))), (decimal_word w h, tt))
-shape_are_words (shapes.Var i) h = ((omega arith, (refl, (refl, (refl, tt)))), (byte_word i h, tt))
-shape_are_words (shapes.Op op a b) h = (op_is_word op, (short a h.0, (short b h.1, tt)))
-shape_are_words (shapes.Sel m a) h = ((omega arith, (refl, (refl, (refl, tt)))), (short m h.0, (short a h.1, tt)))
-shape_are_words shapes.Memory h = ((omega arith, (refl, (refl, (refl, (refl, (refl, (refl, tt))))))), tt)
-shape_are_words (shapes.Upd m a v) h = (
-  (omega arith, (refl, (refl, (refl, tt)))),
-  (short m h.0, (short a h.1, (short v h.2, tt))),
-)
-shape_are_words (shapes.Rem a m) h = ((omega arith, (refl, (refl, (refl, tt)))), (short a h.0, (short m h.1, tt)))
+-- FIRST WORDS
 
-ld_is_word : (c : Colour) → IsAnyWord (ld_word c)
-ld_is_word Green = (omega arith, (refl, (refl, (refl, (refl, tt)))))
-ld_is_word Blue = (omega arith, (refl, (refl, (refl, (refl, tt)))))
+-- whether bytes make a word that begins no comment
+abbrev begins : List ℕ → Bool
+begins w = (nat_lt 0 (length w) && list_all is_part w) && not (is_comment w)
 
-st_is_word : (c : Colour) → IsAnyWord (st_word c)
-st_is_word Green = (omega arith, (refl, (refl, (refl, (refl, tt)))))
-st_is_word Blue = (omega arith, (refl, (refl, (refl, (refl, tt)))))
+pub first_is_word : (w : List ℕ) → begins w ≡ true → IsAnyWord w
+first_is_word w e =
+    let two = and_parts (nat_lt 0 (length w)) (list_all is_part w) (and_parts (nat_lt 0 (length w)
+    && list_all is_part w) (not (is_comment w)) e).0 in
+    (ltb-true 0 (length w) two.0, parts_pass w two.1)
 
-code_are_words : (code : Code) → FitsCode code → AreWords (code_words code)
-code_are_words (OpReg op rd rs rt) h = (op_is_word op, (reg_is_word rd, (reg_is_word rs, (reg_is_word rt, tt))))
-code_are_words (OpWord op rd rs value) h = (
-  op_is_word op,
-  (reg_is_word rd, (reg_is_word rs, (colour_is_word value.colour, (decimal_word value.word h, tt)))),
+op_begins : (op : Op) → begins (op_word op) ≡ true
+op_begins Add = refl
+op_begins op = refl
+
+pub shape_begins : (shape : Shape) → begins (shape_form shape).first ≡ true
+shape_begins (shapes.Op op a b) = op_begins op
+shape_begins shape = refl
+
+pub instr_begins : (i : Instr) → begins (instr_form i).first ≡ true
+instr_begins (OpReg op rd rs rt) = op_begins op
+instr_begins (OpWord op rd rs value) = op_begins op
+instr_begins (Ld Green rd rs) = refl
+instr_begins (Ld Blue rd rs) = refl
+instr_begins (St Green rd rs) = refl
+instr_begins (St Blue rd rs) = refl
+instr_begins i = refl
+
+-- OPERANDS
+
+-- the operands of a node fit, and those of an instruction
+pub shape_operands : (shape : Shape) → FitsShape shape → FitsOperands (shape_form shape)
+shape_operands (shapes.Op op a b) h = assumption
+shape_operands shape h = assumption
+
+pub instr_operands : (i : Instr) → FitsInstr i → FitsOperands (instr_form i)
+instr_operands (OpReg op rd rs rt) h = assumption
+instr_operands i h = assumption
+
+operand_is_word : (o : Operand) → FitsOperand o → IsAnyWord (operand_word o)
+operand_is_word (AReg r) h = reg_is_word r
+operand_is_word (AColour c) h = colour_is_word c
+operand_is_word (AByte n) h = byte_word n h
+operand_is_word (AnIndex n) h = short n h
+operand_is_word (AWord n) h = decimal_word n h
+operand_is_word (ABasic basic) h = refs_is_word basic.refs basic.base h.1
+operand_is_word (AName name) h = h
+
+operands_are_words : (os : List Operand) → AllByRecursion FitsOperand os → AreWords (map operand_word os)
+operands_are_words [] h = tt
+operands_are_words (o ∷ os) h = (operand_is_word o h.0, operands_are_words os h.1)
+
+fitting_rows : (rows : List ℕ) (s : Option Subst) → FitsRows rows s → AllByRecursion Is32 rows
+fitting_rows rows None e = subst (AllByRecursion Is32) (sym e) tt
+fitting_rows rows (Some s) h = h
+
+pub code_rows : (code : Code) → FitsCode code → AllByRecursion Is32 code.rows
+code_rows code h = fitting_rows code.rows (subst_of code.instr) h.rows
+
+form_are_words : (f : Form) → begins f.first ≡ true → FitsOperands f → AreWords (form_words f)
+form_are_words f e h = (first_is_word f.first e, operands_are_words f.operands h)
+
+line_begins : (line : Line) → begins (line_form line).first ≡ true
+line_begins (lines.Code code) = instr_begins code.instr
+line_begins line = refl
+
+pub line_operands : (line : Line) → FitsLine line → FitsOperands (line_form line)
+line_operands (lines.Node n) h = (
+  h.0,
+  (first_is_word (shape_form n.shape).first (shape_begins n.shape), shape_operands n.shape h.1),
 )
-code_are_words (Mov rd value basic) h = (
-  (omega arith, (refl, (refl, (refl, tt)))),
-  (
-    reg_is_word rd,
-    (
-      colour_is_word value.colour,
-      (decimal_word value.word h.0, (refs_is_word basic.refs basic.base h.1.1, tt)),
-    ),
-  ),
-)
-code_are_words (Ld c rd rs) h = (ld_is_word c, (reg_is_word rd, (reg_is_word rs, tt)))
-code_are_words (St c rd rs) h = (st_is_word c, (reg_is_word rd, (reg_is_word rs, tt)))
-code_are_words (JmpG rd) h = ((omega arith, (refl, (refl, (refl, (refl, (refl, tt)))))), (reg_is_word rd, tt))
-code_are_words (JmpB rd m rows) h = (
-  (omega arith, (refl, (refl, (refl, (refl, (refl, tt)))))),
-  (reg_is_word rd, (short m h.0, rows_are_words rows h.1)),
-)
-code_are_words (BzG rz rd) h = (
-  (omega arith, (refl, (refl, (refl, (refl, tt))))),
-  (reg_is_word rz, (reg_is_word rd, tt)),
-)
-code_are_words (BzB rz rd m rows) h = (
-  (omega arith, (refl, (refl, (refl, (refl, tt))))),
-  (reg_is_word rz, (reg_is_word rd, (short m h.0, rows_are_words rows h.1))),
-)
-code_are_words Halt h = ((omega arith, (refl, (refl, (refl, (refl, tt))))), tt)
-code_are_words (Idx rd rs x m) h = (
-  (omega arith, (refl, (refl, (refl, tt)))),
-  (reg_is_word rd, (reg_is_word rs, (short x h.0, (short m h.1, tt)))),
-)
+line_operands (lines.Code code) h = instr_operands code.instr h.instr
+line_operands line h = assumption
 
 -- the words of a line are words
 pub line_are_words : (line : Line) → FitsLine line → AreWords (line_words line)
-line_are_words (lines.Cell c) h = (
-  (omega arith, (refl, (refl, (refl, (refl, tt))))),
-  (h.0, (refs_is_word c.basic.refs c.basic.base h.1.0.1, (decimal_word c.init h.1.1, tt))),
-)
-line_are_words (lines.Node n) h = (
-  (omega arith, (refl, (refl, (refl, (refl, tt))))),
-  (byte_word n.scope h.0, shape_are_words n.shape h.1),
-)
-line_are_words (lines.Type ints memory) h = (
-  (omega arith, (refl, (refl, (refl, (refl, tt))))),
-  (byte_word ints h.0, (short memory h.1, tt)),
-)
-line_are_words (lines.Reg r) h = (
-  (omega arith, (refl, (refl, (refl, tt)))),
-  (
-    reg_is_word r.reg,
-    (
-      colour_is_word r.colour,
-      (
-        refs_is_word r.basic.refs r.basic.base h.0.1,
-        (short r.expr h.1, tt),
-      ),
-    ),
-  ),
-)
-line_are_words (lines.Pend a v) h = (
-  (omega arith, (refl, (refl, (refl, (refl, tt))))),
-  (short a h.0, (short v h.1, tt)),
-)
-line_are_words (lines.Block t) h = ((omega arith, (refl, (refl, (refl, (refl, (refl, tt)))))), (short t h, tt))
-line_are_words (lines.Code code) h = code_are_words code h
-line_are_words (lines.Entry b) h = ((omega arith, (refl, (refl, (refl, (refl, (refl, tt)))))), (short b h, tt))
+line_are_words (lines.Code code) h = all_append IsAnyWord (form_words (instr_form code.instr)) (map decimal code.rows)
+    (form_are_words (instr_form code.instr) (instr_begins code.instr) (instr_operands code.instr h.instr))
+    (rows_are_words code.rows (code_rows code h))
+line_are_words line h = form_are_words (line_form line) (line_begins line) (line_operands line h)
 
 -- WORDS OF A LINE
 
@@ -272,42 +261,15 @@ lines_again (l ∷ ls) h =
 
 -- WHAT IS SAID
 
-op_said : (op : Op) (ws : List (List ℕ)) → is_said (op_word op ∷ ws) ≡ true
-op_said Add ws = refl
-op_said op ws = refl
-
-ld_said : (c : Colour) (ws : List (List ℕ)) → is_said (ld_word c ∷ ws) ≡ true
-ld_said Green ws = refl
-ld_said Blue ws = refl
-
-st_said : (c : Colour) (ws : List (List ℕ)) → is_said (st_word c ∷ ws) ≡ true
-st_said Green ws = refl
-st_said Blue ws = refl
-
-code_said : (code : Code) → is_said (code_words code) ≡ true
-code_said (OpReg op rd rs rt) = op_said op (reg_word rd ∷ reg_word rs ∷ reg_word rt ∷ [])
-code_said (OpWord op rd rs value) = op_said op (reg_word rd ∷ reg_word rs ∷ colour_word value.colour ∷ decimal
-    value.word ∷ [])
-code_said (Mov rd value basic) = refl
-code_said (Ld c rd rs) = ld_said c (reg_word rd ∷ reg_word rs ∷ [])
-code_said (St c rd rs) = st_said c (reg_word rd ∷ reg_word rs ∷ [])
-code_said (JmpG rd) = refl
-code_said (JmpB rd m rows) = refl
-code_said (BzG rz rd) = refl
-code_said (BzB rz rd m rows) = refl
-code_said Halt = refl
-code_said (Idx rd rs x m) = refl
+first_said : (w : List ℕ) (ws : List (List ℕ)) → begins w ≡ true → is_said (w ∷ ws) ≡ true
+first_said w ws e = (and_parts (nat_lt 0 (length w) && list_all is_part w) (not (is_comment w)) e).1
 
 -- no line begins a comment
 pub line_said : (line : Line) → is_said (line_words line) ≡ true
-line_said (lines.Cell c) = refl
-line_said (lines.Node n) = refl
-line_said (lines.Type ints memory) = refl
-line_said (lines.Reg r) = refl
-line_said (lines.Pend a v) = refl
-line_said (lines.Block t) = refl
-line_said (lines.Code code) = code_said code
-line_said (lines.Entry b) = refl
+line_said (lines.Code code) =
+    let f = instr_form code.instr in
+    first_said f.first (map operand_word f.operands ++ map decimal code.rows) (instr_begins code.instr)
+line_said line = refl
 
 -- written lines say themselves
 pub said_again : (ls : List Line) → AllByRecursion FitsLine ls → said_in (map bare ls) ≡ map line_words ls

@@ -66,7 +66,7 @@ no_word text e =
     (missing (nat_lt (position_or_len is_part text) (length text)) (position_or_len is_part text) e) in
     skip text ∙ ap words_of (drop_all (position_or_len is_part text) text past)
 
--- the words from the first byte of a word on
+-- the words from the first byte of a word
 pub from_word : (text : List ℕ) (start : ℕ) → position is_part text ≡ Some start → words_of text
     ≡ words_of (drop start text)
 from_word text start e = skip text ∙ ap (λ n. words_of (drop n text))

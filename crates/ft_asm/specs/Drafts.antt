@@ -1,4 +1,4 @@
--- What the lines so far say, and what one more makes of it: private to the assembler.
+-- What the lines so far say, and what one more line changes: private to the assembler.
 use Rattle.std.specs.Prelude.{ℕ, List, [], ◌∷◌, ◌++◌, map, Option, Some, None}
 use Rattle.std.specs.Option.{option_and_then}
 use Rattle.std.specs.List.{flat_map}
@@ -40,12 +40,12 @@ fresh_part t = record { code_type = t; codes = [] }
 abbrev pub with_code : Part → Code → Part
 with_code p c = record { code_type = p.code_type; codes = p.codes ++ c ∷ [] }
 
--- one more cell, where there is no node yet
+-- one more cell, if there is no node yet
 abbrev pub more_cells : List Cell → List Node → Cell → Option Draft
 more_cells cs [] c = Some (Start (cs ++ c ∷ []) [])
 more_cells cs (n ∷ ns) c = None
 
--- one more register row, where the code type has no queue row yet
+-- one more register row, if the code type has no queue row yet
 abbrev pub more_regs : List Cell → List Node → List CodeType → CodeType → List (ℕ × ℕ) → RegType → Option Draft
 more_regs cs ns ts t [] r = Some (InType cs ns ts (with_reg t r))
 more_regs cs ns ts t (q ∷ qs) r = None

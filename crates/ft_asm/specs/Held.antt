@@ -1,8 +1,7 @@
 -- Which tables hold what the lines so far say: private to the assembler.
-use Rattle.std.specs.Prelude.{◌≡◌, ℕ, Bool, true, false, List, [], ◌∷◌, ◌++◌, length, Option, Some, None}
+use Rattle.std.specs.Prelude.{◌≡◌, Bool, true, false, List, [], ◌∷◌, ◌++◌, length, Option, Some, None}
 use Rattle.std.specs.List.{flat_map}
 use Rattle.ft_static.specs.declared.node.Node.{Node}
-use Rattle.ft_isa.specs.declared.instr.Subst.{Subst}
 use Rattle.ft_isa.specs.declared.instr.Instr.{Instr}
 use Rattle.ft_asm.specs.declared.line.Code.{Code}
 use Rattle.ft_types.specs.declared.object.Object.{Object}
@@ -12,7 +11,7 @@ use Rattle.ft_asm.specs.declared.line.Line.{Line}
 use Rattle.ft_asm.specs.declared.draft.Place.{Place}
 use Rattle.ft_asm.specs.declared.draft.Place.TheVariants as places
 use Rattle.ft_asm.specs.declared.draft.Draft as tables
-use Rattle.ft_asm.specs.Listings.{Part, Listing, rows_of, codes_of, instrs_from, blocks_from, subst_at, instr_at, object_of}
+use Rattle.ft_asm.specs.Listings.{Part, Listing, rows_of, codes_of, instrs_from, blocks_from, instr_at, object_of}
 use Rattle.ft_asm.specs.Drafts.{Draft, Start, InType, InBlock, Done, next}
 
 -- whether a place is in a block
@@ -48,7 +47,7 @@ Holds t (InType cs ns ts u) = (t.place ≡ places.InType u.ints u.memory) × Are
 Holds t (InBlock cs ns ts ps p) = (t.place ≡ places.InBlock) × HasNoRows t × IsTables t cs ns ts (ps ++ p ∷ [])
 Holds t (Done l) = (t.place ≡ places.Done l.entry) × HasNoRows t × IsTables t l.cells l.nodes l.types l.parts
 
--- the tables after one more line, where it was taken, or that it leads nowhere
+-- the tables after one more line, or that this line is not allowed there
 abbrev pub Adds : Bool → tables.Draft → Draft → Line → Type 0
 Adds true t d line = (e : Draft) × (next d line ≡ Some e) × Holds t e
 Adds false t d line = next d line ≡ None
@@ -60,24 +59,12 @@ shut (InType cs ns ts u) = Some (record { cells = cs; nodes = ns; types = ts ++ 
 shut (InBlock cs ns ts ps p) = Some (record { cells = cs; nodes = ns; types = ts; parts = ps ++ p ∷ []; entry = 0 })
 shut (Done l) = None
 
--- the tables after the last code type was ended, where something may follow
+-- the tables after the last code type was ended, or that the draft is done
 abbrev pub Closes : Bool → tables.Draft → Draft → Type 0
 Closes true t d = (l : Listing) × (shut d ≡ Some l) × HasNoRows t × IsTables t l.cells l.nodes l.types l.parts
 Closes false t d = shut d ≡ None
 
--- rows were put at the end, and this is their substitution
-pub record PutsRows (t u : tables.Draft) (s : Subst) (memory : ℕ) (rows : List ℕ) : Type 0 where
-  pub place : u.place ≡ t.place
-  pub rows_kept : HasNoRows t → HasNoRows u
-  pub cells : u.cells.items ≡ t.cells.items
-  pub nodes : u.nodes.items ≡ t.nodes.items
-  pub types : u.types.items ≡ t.types.items
-  pub blocks : u.blocks.items ≡ t.blocks.items
-  pub instrs : u.instrs.items ≡ t.instrs.items
-  pub substs : u.substs.items ≡ t.substs.items ++ rows
-  pub subst : s ≡ subst_at (length t.substs.items) memory rows
-
--- the rows of this instruction were put at the end, and this is how it stands after them
+-- the rows of this instruction were put at the end, and this is the instruction with them
 pub record PutsCode (t u : tables.Draft) (code : Code) (i : Instr) : Type 0 where
   pub place : u.place ≡ t.place
   pub rows_kept : HasNoRows t → HasNoRows u

@@ -1,21 +1,23 @@
 -- The lines of assembly texts, by the words that are written.
-use Rattle.std.specs.Prelude.{◌≡◌, ℕ, zero, suc, ◌<◌, Bool, true, not, ◌&&◌, ◌==◌, List, [], ◌∷◌, ◌++◌, map, decimal, codes, length}
+use Rattle.std.specs.Prelude.{◌≡◌, ℕ, zero, suc, ◌<◌, Bool, true, not, ◌&&◌, ◌==◌, List, [], ◌∷◌, ◌++◌, map, decimal, codes, length, Option, Some, None}
 use Rattle.std.specs.List.{AllByRecursion}
 use Rattle.ft_isa.specs.Operations.{op_word}
-use Rattle.ft_isa.specs.Words.{IsWord}
 use Rattle.ft_isa.specs.declared.basic.Base.{Base}
 use Rattle.ft_isa.specs.declared.basic.Base.TheVariants.{Int}
 use Rattle.ft_isa.specs.declared.basic.Base.TheVariants as bases
 use Rattle.ft_isa.specs.declared.basic.Basic.{Basic}
 use Rattle.ft_isa.specs.declared.colour.Colour.{Colour}
 use Rattle.ft_isa.specs.declared.colour.Colour.TheVariants.{Green, Blue}
+use Rattle.ft_isa.specs.declared.instr.Instr.{Instr}
+use Rattle.ft_isa.specs.declared.instr.Instr.TheVariants.{OpReg, OpWord, Mov, Ld, St, JmpG, JmpB, BzG, BzB, Halt, Idx}
+use Rattle.ft_isa.specs.declared.instr.Subst.{Subst}
 use Rattle.ft_isa.specs.declared.reg.Reg.{Reg}
 use Rattle.ft_static.specs.declared.node.Shape.{Shape}
 use Rattle.ft_static.specs.declared.node.Shape.TheVariants as shapes
-use Rattle.ft_format.specs.Fits.{Is8, Is32, FitsBasic, FitsCell, FitsNode, FitsReg}
+use Rattle.ft_format.specs.Fits.{Is8, Is32, FitsCell, FitsNode, FitsReg, FitsInstr}
+use Rattle.ft_types.specs.Spellable.{subst_of}
 use Rattle.ft_asm.specs.Words.{is_blank}
 use Rattle.ft_asm.specs.declared.line.Code.{Code}
-use Rattle.ft_asm.specs.declared.line.Code.TheVariants.{OpReg, OpWord, Mov, Ld, St, JmpG, JmpB, BzG, BzB, Halt, Idx}
 use Rattle.ft_asm.specs.declared.line.Line.{Line}
 use Rattle.ft_asm.specs.declared.line.Line.TheVariants as lines
 
@@ -35,7 +37,7 @@ abbrev pub base_word : Base → List ℕ
 base_word Int = codes "int"
 base_word (bases.Code t) = codes "code:" ++ decimal t
 
--- so many times `ref:` before a base
+-- `ref:` this many times before a base
 abbrev pub refs_word : ℕ → Base → List ℕ
 refs_word zero base = base_word base
 refs_word (suc n) base = codes "ref:" ++ refs_word n base
@@ -46,15 +48,47 @@ basic_word basic = refs_word basic.refs basic.base
 
 -- WORDS OF A LINE
 
--- the words of a node after its scope
-abbrev pub shape_words : Shape → List (List ℕ)
-shape_words (shapes.Word w) = codes "word" ∷ decimal w ∷ []
-shape_words (shapes.Var i) = codes "var" ∷ decimal i ∷ []
-shape_words (shapes.Op op a b) = op_word op ∷ decimal a ∷ decimal b ∷ []
-shape_words (shapes.Sel memory at) = codes "sel" ∷ decimal memory ∷ decimal at ∷ []
-shape_words shapes.Memory = codes "memory" ∷ []
-shape_words (shapes.Upd memory at value) = codes "upd" ∷ decimal memory ∷ decimal at ∷ decimal value ∷ []
-shape_words (shapes.Rem a m) = codes "rem" ∷ decimal a ∷ decimal m ∷ []
+-- what a word stands for: a register, a colour, a number of 8, of 32 or of 64 bits, a basic type, or itself
+pub data Operand : Type 0 where
+  AReg : Reg → Operand
+  AColour : Colour → Operand
+  AByte : ℕ → Operand
+  AnIndex : ℕ → Operand
+  AWord : ℕ → Operand
+  ABasic : Basic → Operand
+  AName : List ℕ → Operand
+
+-- the word of an operand
+abbrev pub operand_word : Operand → List ℕ
+operand_word (AReg reg) = reg_word reg
+operand_word (AColour colour) = colour_word colour
+operand_word (AByte n) = decimal n
+operand_word (AnIndex n) = decimal n
+operand_word (AWord n) = decimal n
+operand_word (ABasic basic) = basic_word basic
+operand_word (AName name) = name
+
+-- how a line is written: its first word, and its operands in their order
+pub record Form : Type 0 where
+  pub first : List ℕ
+  pub operands : List Operand
+
+abbrev pub form : List ℕ → List Operand → Form
+form first operands = record { first = first; operands = operands }
+
+-- the words of a form
+abbrev pub form_words : Form → List (List ℕ)
+form_words f = f.first ∷ map operand_word f.operands
+
+-- the form of a node after its scope
+abbrev pub shape_form : Shape → Form
+shape_form (shapes.Word w) = form (codes "word") (AWord w ∷ [])
+shape_form (shapes.Var i) = form (codes "var") (AByte i ∷ [])
+shape_form (shapes.Op op a b) = form (op_word op) (AnIndex a ∷ AnIndex b ∷ [])
+shape_form (shapes.Sel memory at) = form (codes "sel") (AnIndex memory ∷ AnIndex at ∷ [])
+shape_form shapes.Memory = form (codes "memory") []
+shape_form (shapes.Upd memory at value) = form (codes "upd") (AnIndex memory ∷ AnIndex at ∷ AnIndex value ∷ [])
+shape_form (shapes.Rem a m) = form (codes "rem") (AnIndex a ∷ AnIndex m ∷ [])
 
 -- the first words of loads and stores
 abbrev pub ld_word : Colour → List ℕ
@@ -65,48 +99,60 @@ abbrev pub st_word : Colour → List ℕ
 st_word Green = codes "st_G"
 st_word Blue = codes "st_B"
 
--- the words of an instruction
+-- the form of an instruction, but for the rows of its substitution
+abbrev pub instr_form : Instr → Form
+instr_form (OpReg op rd rs rt) = form (op_word op) (AReg rd ∷ AReg rs ∷ AReg rt ∷ [])
+instr_form (OpWord op rd rs value) = form (op_word op) (AReg rd ∷ AReg rs ∷ AColour value.colour ∷ AWord value.word ∷ [])
+instr_form (Mov rd value basic) = form (codes "mov") (AReg rd ∷ AColour value.colour ∷ AWord value.word ∷ ABasic basic ∷ [])
+instr_form (Ld colour rd rs) = form (ld_word colour) (AReg rd ∷ AReg rs ∷ [])
+instr_form (St colour rd rs) = form (st_word colour) (AReg rd ∷ AReg rs ∷ [])
+instr_form (JmpG rd) = form (codes "jmp_G") (AReg rd ∷ [])
+instr_form (JmpB rd s) = form (codes "jmp_B") (AReg rd ∷ AnIndex s.memory ∷ [])
+instr_form (BzG rz rd) = form (codes "bz_G") (AReg rz ∷ AReg rd ∷ [])
+instr_form (BzB rz rd s) = form (codes "bz_B") (AReg rz ∷ AReg rd ∷ AnIndex s.memory ∷ [])
+instr_form Halt = form (codes "halt") []
+instr_form (Idx rd rs first m) = form (codes "idx") (AReg rd ∷ AReg rs ∷ AnIndex first ∷ AnIndex m ∷ [])
+
+-- the form of a line, but for the rows of an instruction
+abbrev pub line_form : Line → Form
+line_form (lines.Cell c) = form (codes "cell") (AName c.name ∷ ABasic c.basic ∷ AWord c.init ∷ [])
+line_form (lines.Node n) = form (codes "node") (AByte n.scope ∷ AName (shape_form n.shape).first ∷ (shape_form n.shape).operands)
+line_form (lines.Type ints memory) = form (codes "type") (AByte ints ∷ AnIndex memory ∷ [])
+line_form (lines.Reg r) = form (codes "reg") (AReg r.reg ∷ AColour r.colour ∷ ABasic r.basic ∷ AnIndex r.expr ∷ [])
+line_form (lines.Pend address value) = form (codes "pend") (AnIndex address ∷ AnIndex value ∷ [])
+line_form (lines.Block t) = form (codes "block") (AnIndex t ∷ [])
+line_form (lines.Code code) = instr_form code.instr
+line_form (lines.Entry b) = form (codes "entry") (AnIndex b ∷ [])
+
+-- the words of an instruction, and then its rows
 abbrev pub code_words : Code → List (List ℕ)
-code_words (OpReg op rd rs rt) = op_word op ∷ reg_word rd ∷ reg_word rs ∷ reg_word rt ∷ []
-code_words (OpWord op rd rs value) = op_word op ∷ reg_word rd ∷ reg_word rs ∷ colour_word value.colour ∷ decimal value.word ∷ []
-code_words (Mov rd value basic) = codes "mov" ∷ reg_word rd ∷ colour_word value.colour ∷ decimal value.word ∷ basic_word basic ∷ []
-code_words (Ld colour rd rs) = ld_word colour ∷ reg_word rd ∷ reg_word rs ∷ []
-code_words (St colour rd rs) = st_word colour ∷ reg_word rd ∷ reg_word rs ∷ []
-code_words (JmpG rd) = codes "jmp_G" ∷ reg_word rd ∷ []
-code_words (JmpB rd memory rows) = codes "jmp_B" ∷ reg_word rd ∷ decimal memory ∷ map decimal rows
-code_words (BzG rz rd) = codes "bz_G" ∷ reg_word rz ∷ reg_word rd ∷ []
-code_words (BzB rz rd memory rows) = codes "bz_B" ∷ reg_word rz ∷ reg_word rd ∷ decimal memory ∷ map decimal rows
-code_words Halt = codes "halt" ∷ []
-code_words (Idx rd rs first m) = codes "idx" ∷ reg_word rd ∷ reg_word rs ∷ decimal first ∷ decimal m ∷ []
+code_words code = form_words (instr_form code.instr) ++ map decimal code.rows
 
 -- the words of a line
 abbrev pub line_words : Line → List (List ℕ)
-line_words (lines.Cell c) = codes "cell" ∷ c.name ∷ basic_word c.basic ∷ decimal c.init ∷ []
-line_words (lines.Node n) = codes "node" ∷ decimal n.scope ∷ shape_words n.shape
-line_words (lines.Type ints memory) = codes "type" ∷ decimal ints ∷ decimal memory ∷ []
-line_words (lines.Reg r) = codes "reg" ∷ reg_word r.reg ∷ colour_word r.colour ∷ basic_word r.basic ∷ decimal r.expr ∷ []
-line_words (lines.Pend address value) = codes "pend" ∷ decimal address ∷ decimal value ∷ []
-line_words (lines.Block t) = codes "block" ∷ decimal t ∷ []
 line_words (lines.Code code) = code_words code
-line_words (lines.Entry b) = codes "entry" ∷ decimal b ∷ []
+line_words line = form_words (line_form line)
 
 -- WHAT FITS
 
--- the numbers of an instruction fit
-abbrev pub FitsCode : Code → Type 0
-FitsCode (OpReg op rd rs rt) = Unit {0}
-FitsCode (OpWord op rd rs value) = IsWord value.word
-FitsCode (Mov rd value basic) = IsWord value.word × FitsBasic basic
-FitsCode (Ld colour rd rs) = Unit {0}
-FitsCode (St colour rd rs) = Unit {0}
-FitsCode (JmpG rd) = Unit {0}
-FitsCode (JmpB rd memory rows) = Is32 memory × AllByRecursion Is32 rows
-FitsCode (BzG rz rd) = Unit {0}
-FitsCode (BzB rz rd memory rows) = Is32 memory × AllByRecursion Is32 rows
-FitsCode Halt = Unit {0}
-FitsCode (Idx rd rs first m) = Is32 first × Is32 m
+-- an instruction whose substitution, where it carries one, has the rows between these places
+abbrev pub placed : ℕ → ℕ → Instr → Instr
+placed first past (JmpB rd s) = JmpB rd (record { first = first; past = past; memory = s.memory })
+placed first past (BzB rz rd s) = BzB rz rd (record { first = first; past = past; memory = s.memory })
+placed first past i = i
 
--- whether bytes make a word: there are some, and none is a blank or a line feed
+-- the rows fit, and there are none where there is no substitution
+abbrev pub FitsRows : List ℕ → Option Subst → Type 0
+FitsRows rows None = rows ≡ []
+FitsRows rows (Some s) = AllByRecursion Is32 rows
+
+-- the numbers of an instruction and of its rows fit; its own substitution has no rows, since they stand apart
+pub record FitsCode (code : Code) : Type 0 where
+  pub instr : FitsInstr code.instr
+  pub apart : placed 0 0 code.instr ≡ code.instr
+  pub rows : FitsRows code.rows (subst_of code.instr)
+
+-- whether bytes make a word: there are some, and none of them is a blank or a line feed
 abbrev pub is_part : ℕ → Bool
 is_part byte = not (is_blank byte) && not (byte == 10)
 

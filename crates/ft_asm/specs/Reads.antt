@@ -1,4 +1,4 @@
--- Which text reads as which object, the text of an object, and what a text is refused for.
+-- Which text reads as which object, the text of an object, and why a text is refused.
 use Rattle.std.specs.Prelude.{◌⊎◌, ◌≡◌, ℕ, suc, ◌≤◌, ◌<◌, true, List, [], ◌∷◌, ◌++◌, length, Option, Some, None, codes}
 use Rattle.std.specs.List.{AllZip, flat_map}
 use Rattle.ft_types.specs.declared.object.Object.{Object}
@@ -16,11 +16,11 @@ use Rattle.ft_asm.specs.Words.{words_of, is_said, said_in}
 use Rattle.ft_asm.specs.Lines.{line_words, reg_word, colour_word, IsForm}
 use Rattle.ft_asm.specs.Listings.{Listing, listing_lines, object_of, listing_of}
 
--- those of these lines of a text that say something say this listing, line by line
+-- the meaningful lines of a text spell this listing, line by line
 abbrev pub Say : List (List ℕ) → Listing → Type 0
 Say texts listing = AllZip IsForm (said_in texts) (listing_lines listing)
 
--- the lines of the text, in the order, mean the tables of the object
+-- the lines of the text, in the prescribed order, mean the tables of the object
 pub record Reads (text : List ℕ) (object : Object) : Type 0 where
   pub listing : Listing
   pub said : Say (lines_of text) listing
@@ -48,7 +48,7 @@ cell_line name basic init = lines.Cell (record { name = name; basic = basic; ini
 abbrev pub text_of : Object → List ℕ
 text_of object = flat_map line_text (listing_lines (listing_of object))
 
--- some text of the order has these lines so far, and then others
+-- some text that reads as an object begins with these lines
 pub record Begin (texts : List (List ℕ)) : Type 0 where
   pub whole : List ℕ
   pub object : Object
@@ -56,7 +56,7 @@ pub record Begin (texts : List (List ℕ)) : Type 0 where
   pub rest : List (List ℕ)
   pub so_far : lines_of whole ≡ texts ++ rest
 
--- the lines of the text before this one begin a text of the order, and this one says something
+-- some text that reads as an object begins with the lines before this one, and this one is meaningful
 pub record Stops (text : List ℕ) (number : ℕ) : Type 0 where
   pub before : List (List ℕ)
   pub line : List ℕ
@@ -66,25 +66,26 @@ pub record Stops (text : List ℕ) (number : ℕ) : Type 0 where
   pub begin : Begin before
   pub said : is_said (words_of line) ≡ true
 
--- the line of this number is the first at fault, and none of the forms
+-- line n is the first at fault: it has none of the forms
 pub record IsTextFault (text : List ℕ) (number : ℕ) : Type 0 where
   pub stop : Stops text number
   pub none : (form : Line) → ¬ (IsForm (words_of stop.line) form)
 
--- the line of this number is the first at fault: one of the forms, but no text of the order has the lines up to it
+-- line n is the first at fault: it has one of the forms, but no text that reads as an object begins with the lines up
+-- to it
 pub record IsOrderFault (text : List ℕ) (number : ℕ) : Type 0 where
   pub stop : Stops text number
   pub form : Line
   pub is_form : IsForm (words_of stop.line) form
   pub none : ¬ (Begin (stop.before ++ stop.line ∷ []))
 
--- all lines begin a text of the order, but the text is none: the line of this number, after the last, is missing
+-- some text that reads as an object begins with all lines, but they are not one: line n, after the last, is missing
 pub record Lacks (text : List ℕ) (number : ℕ) : Type 0 where
   pub here : number ≡ suc (length (lines_of text))
   pub begin : Begin (lines_of text)
   pub none : (object : Object) → ¬ (Reads text object)
 
--- what is said of a text: the object that it reads as, or why it is refused
+-- the outcome of a text: the object that it reads as, or why it is refused
 pub data Answer : Type 0 where
   Is : Object → Answer
   TooLong : Answer
@@ -96,7 +97,7 @@ pub data Answer : Type 0 where
 abbrev pub rule_broken : Object → Option ObjectError
 rule_broken object = broken (spelling Second object)
 
--- the answer applies to the text
+-- this is the outcome of the text
 abbrev pub Applies : List ℕ → Answer → Type 0
 Applies text TooLong = 134217728 < length text
 Applies text (Is object) = (length text ≤ 134217728) × Reads text object × (rule_broken object ≡ None)

@@ -1,23 +1,19 @@
--- What a line makes of those before it: private to the assembler.
+-- The state after one more line: private to the assembler.
 use Rattle.std.specs.Prelude.{◌≡◌, ◌⊎◌, ℕ, true, false, List, Some, None}
-use Rattle.ft_types.specs.declared.object.Object as objects
-use Rattle.ft_asm.specs.declared.asm_error.AsmError.{AsmError}
-use Rattle.ft_asm.specs.declared.asm_error.AsmError.TheVariants as errors
 use Rattle.ft_asm.specs.declared.assembly.Turn.{Turn}
 use Rattle.ft_asm.specs.declared.assembly.Turn.TheVariants.{On, Bad, Stuck}
 use Rattle.ft_asm.specs.declared.draft.Draft as tables
 use Rattle.ft_asm.specs.declared.line.Line.{Line}
 use Rattle.ft_asm.specs.Words.{words_of, is_said}
-use Rattle.ft_asm.specs.Reads.{rule_broken}
 use Rattle.ft_asm.specs.Forms.{line_in}
 use Rattle.ft_asm.specs.Drafts.{Draft, next}
 use Rattle.ft_asm.specs.Held.{Holds}
 
--- where a line leads to: nowhere else, as it says nothing, or to the next
+-- where a line leads: nowhere else, if it says nothing, or to the next draft
 abbrev pub Leads : Draft → List ℕ → Draft → Type 0
 Leads d line e = ((is_said (words_of line) ≡ false) × (d ≡ e)) ⊎ ((l : Line) × (is_said (words_of line) ≡ true) × (line_in (words_of line) ≡ Some l) × (next d l ≡ Some e))
 
--- what a line makes of the lines before it
+-- the state after one more line
 abbrev pub Turns : Turn → tables.Draft → Draft → List ℕ → Type 0
 Turns On t d line = (e : Draft) × Holds t e × Leads d line e
 Turns Bad t d line = (is_said (words_of line) ≡ true) × (line_in (words_of line) ≡ None)

@@ -6,12 +6,12 @@ use Rattle.ft_text.specs.Lines.{with_byte}
 abbrev pub is_blank : ℕ → Bool
 is_blank byte = (byte == 32) || (byte == 9)
 
--- what stands before, between and after the blanks of a line
+-- the pieces of a line between blanks
 abbrev pub pieces_of : List ℕ → List (List ℕ)
 pieces_of [] = [] ∷ []
 pieces_of (byte ∷ bytes) = if is_blank byte then [] ∷ pieces_of bytes else with_byte byte (pieces_of bytes)
 
--- a word, where it has a byte, before other words
+-- a word, if it has a byte, before other words
 abbrev pub with_word : List ℕ → List (List ℕ) → List (List ℕ)
 with_word [] words = words
 with_word (byte ∷ bytes) words = (byte ∷ bytes) ∷ words
@@ -21,7 +21,7 @@ abbrev pub with_bytes : List (List ℕ) → List (List ℕ)
 with_bytes [] = []
 with_bytes (piece ∷ pieces) = with_word piece (with_bytes pieces)
 
--- the words of a line, which stand between blanks
+-- the words of a line, separated by blanks
 abbrev pub words_of : List ℕ → List (List ℕ)
 words_of line = with_bytes (pieces_of line)
 
@@ -30,16 +30,16 @@ abbrev pub is_comment : List ℕ → Bool
 is_comment [] = false
 is_comment (byte ∷ bytes) = byte == 35
 
--- whether the words of a line say something: there are some, and the first begins no comment
+-- whether the words of a line say something: there are some, and the first does not begin a comment
 abbrev pub is_said : List (List ℕ) → Bool
 is_said [] = false
 is_said (word ∷ words) = not (is_comment word)
 
--- words after others, where they say something
+-- words before others, if they say something
 abbrev pub with_said : List (List ℕ) → List (List (List ℕ)) → List (List (List ℕ))
 with_said words lines = if is_said words then words ∷ lines else lines
 
--- the words of those of these lines that say something
+-- the words of the meaningful ones of these lines
 abbrev pub said_in : List (List ℕ) → List (List (List ℕ))
 said_in [] = []
 said_in (line ∷ lines) = with_said (words_of line) (said_in lines)

@@ -5,11 +5,11 @@ use thiserror::Error;
 /// Why a text is refused. `line` counts lines from 1.
 #[derive(Clone, Copy, Debug, PartialEq, Eq, Error)]
 pub enum AsmError {
-    /// This is the first line at fault, and it is none of the forms.
+    /// The first line at fault has none of the forms.
     #[error("asm 1 {line}")]
     Text { line: u32 },
-    /// This is the first line at fault: it is one of the forms, but no text of the order has the lines up
-    /// to it. Or no line is at fault, and this line, after the last, is missing.
+    /// The first line at fault has one of the forms, but no text that reads as an object begins with the lines up to
+    /// it. Or no line is at fault, and this one, after the last, is missing.
     #[error("asm 2 {line}")]
     Order { line: u32 },
     /// The text has more than 134,217,728 bytes.
@@ -18,7 +18,7 @@ pub enum AsmError {
     /// The spelling of the tables that the text means breaks this rule of the object format, the first.
     #[error("{0}")]
     Object(ObjectError),
-    /// There was no memory left.
+    /// Memory ran out.
     #[error("out of memory")]
     NoMemory,
 }

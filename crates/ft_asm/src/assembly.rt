@@ -19,20 +19,20 @@ use ft_types::Object;
 use ft_view::View;
 use std::alloc::Global;
 
-/// The most bytes of a text.
+/// The maximum bytes of a text.
 const LIMIT: usize = 134_217_728;
 
-/// What a line makes of the lines so far.
+/// What a line does to the lines so far.
 enum Turn {
     /// They go on.
     On,
-    /// It is none of the forms.
+    /// It has none of the forms.
     Bad,
-    /// It may not stand here.
+    /// It is not allowed here.
     Stuck,
 }
 
-/// Takes one line more.
+/// Adds one more line.
 fn take_line(draft: &mut Draft, alloc: Global, line: &[u8]) -> Result<Turn, NoMemory>
     ensures { (d : drafts.Draft) → Holds draft.old d → IfOk result (λ turn. Turns turn draft.new d line.now) }
 {
@@ -86,7 +86,7 @@ struct Assembled {
     bytes: Vec<u8>,
 }
 
-/// The object that a text reads as, with its spelling, or what `assemble` refuses the text for.
+/// The object that a text reads as, with its spelling, or why `assemble` refuses the text.
 fn assemble_whole(alloc: Global, text: &[u8]) -> Result<Assembled, AsmError>
     ensures reads { IfOk result (λ whole. Applies text.now (Is whole.object)) }
     ensures lawful { IfOk result (λ whole. IsSpellable whole.object) }
@@ -103,16 +103,16 @@ fn assemble_whole(alloc: Global, text: &[u8]) -> Result<Assembled, AsmError>
     }
 }
 
-/// The object that a text reads as; or the first line at fault; or the first rule of the format that the
-/// spelling of its tables breaks, with its place; or out of memory. The text is read in one pass, and
-/// the memory that is taken grows as its tables do.
+/// The object that a text reads as; or the first line at fault; or the first rule of the format that the spelling of
+/// its tables breaks, with its place; or out of memory. The text is read in one pass, and the memory grows with its
+/// tables.
 pub fn assemble(alloc: Global, text: &[u8]) -> Result<Object, AsmError>
-    // What is given is the object that the text reads as, and it obeys the rules.
+    // The result is the object that the text reads as, and it obeys the rules.
     ensures reads { IfOk result (λ object. Applies text.now (Is object)) }
     ensures lawful { IfOk result IsSpellable }
-    // A refusal comes only where it applies to the text.
+    // A refusal is returned only if it applies to the text.
     ensures refused { IfErr result (IsRefusal text.now) }
-    // Whatever answer applies to the text, it is the one that is given, unless memory runs out.
+    // Whatever outcome the text has, it is returned, unless memory runs out.
     ensures exact { (answer : Answer) → Applies text.now answer → Gives result answer }
 {
     match assemble_whole(alloc, text) {
@@ -121,14 +121,14 @@ pub fn assemble(alloc: Global, text: &[u8]) -> Result<Object, AsmError>
     }
 }
 
-/// The bytes of the object that a text reads as, in version 2 of the format; or what `assemble` refuses the text
-/// for. The object is spelled once, by which it is judged.
+/// The bytes of the object that a text reads as, in version 2 of the format; or why `assemble` refuses the text. The
+/// object is spelled once, and judged by this spelling.
 pub fn assemble_bytes(alloc: Global, text: &[u8]) -> Result<Vec<u8>, AsmError>
-    // What is given are the bytes of the object that the text reads as.
+    // The result is the bytes of the object that the text reads as.
     ensures reads { IfOk result (λ bytes. IsAssembly text.now bytes.items) }
-    // A refusal comes only where it applies to the text.
+    // A refusal is returned only if it applies to the text.
     ensures refused { IfErr result (IsRefusal text.now) }
-    // Whatever answer applies to the text, it is the one that is given, unless memory runs out.
+    // Whatever outcome the text has, it is returned, unless memory runs out.
     ensures exact { (answer : Answer) → Applies text.now answer → GivesBytes result answer }
 {
     match assemble_whole(alloc, text) {

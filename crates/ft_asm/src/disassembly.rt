@@ -16,7 +16,7 @@ use ft_isa::NoMemory;
 use ft_types::Program;
 use std::alloc::Global;
 
-/// Puts the lines of the cells at the end.
+/// Appends the lines of the cells.
 #[tactic(auto, using(ft_types::proofs::Counted::spellable_counted))]
 fn put_cells<P: Program>(out: &mut Vec<u8>, program: &P) -> Result<(), NoMemory>
     requires { IsSpellable (P.object program.now) }
@@ -30,7 +30,7 @@ fn put_cells<P: Program>(out: &mut Vec<u8>, program: &P) -> Result<(), NoMemory>
     Ok(())
 }
 
-/// Puts the lines of the nodes at the end.
+/// Appends the lines of the nodes.
 fn put_nodes<P: Program>(out: &mut Vec<u8>, program: &P) -> Result<(), NoMemory>
     requires { IsSpellable (P.object program.now) }
     ensures { OnOk result (out.new.items ≡ out.old.items ++ flat_map node_text (P.object program.now).nodes) }
@@ -41,7 +41,7 @@ fn put_nodes<P: Program>(out: &mut Vec<u8>, program: &P) -> Result<(), NoMemory>
     Ok(())
 }
 
-/// Puts the lines of the register rows of code type `t` at the end.
+/// Appends the lines of the register rows of code type `t`.
 fn put_regs<P: Program>(out: &mut Vec<u8>, program: &P, t: u32, count: u32) -> Result<(), NoMemory>
     requires there { t < length (P.object program.now).types }
     requires count { count ≡ length (reg_rows (P.object program.now) t) }
@@ -53,7 +53,7 @@ fn put_regs<P: Program>(out: &mut Vec<u8>, program: &P, t: u32, count: u32) -> R
     Ok(())
 }
 
-/// Puts the lines of the queue rows of code type `t` at the end.
+/// Appends the lines of the queue rows of code type `t`.
 fn put_pends<P: Program>(out: &mut Vec<u8>, program: &P, t: u32, count: u32) -> Result<(), NoMemory>
     requires there { t < length (P.object program.now).types }
     requires count { count ≡ length (queue_rows (P.object program.now) t) }
@@ -66,7 +66,7 @@ fn put_pends<P: Program>(out: &mut Vec<u8>, program: &P, t: u32, count: u32) -> 
     Ok(())
 }
 
-/// Puts the lines of code type `t` and of its rows at the end.
+/// Appends the lines of code type `t` and of its rows.
 #[tactic(auto, using(ft_types::proofs::Counted::spellable_counted))]
 fn put_code_type<P: Program>(out: &mut Vec<u8>, program: &P, t: u32) -> Result<(), NoMemory>
     requires spellable { IsSpellable (P.object program.now) }
@@ -80,7 +80,7 @@ fn put_code_type<P: Program>(out: &mut Vec<u8>, program: &P, t: u32) -> Result<(
     Ok(())
 }
 
-/// Puts the lines of the code types at the end.
+/// Appends the lines of the code types.
 #[tactic(auto, using(ft_types::proofs::Counted::spellable_counted))]
 fn put_types<P: Program>(out: &mut Vec<u8>, program: &P) -> Result<(), NoMemory>
     requires { IsSpellable (P.object program.now) }
@@ -93,7 +93,7 @@ fn put_types<P: Program>(out: &mut Vec<u8>, program: &P) -> Result<(), NoMemory>
     Ok(())
 }
 
-/// Puts the lines of the instructions from `start` up to `end` at the end.
+/// Appends the lines of the instructions from `start` up to `end`.
 pub fn put_codes<P: Program>(
     out: &mut Vec<u8>,
     program: &P,
@@ -125,7 +125,7 @@ fn block_end<P: Program>(program: &P, b: u32) -> u32
     }
 }
 
-/// Puts the lines of block `b` at the end.
+/// Appends the lines of block `b`.
 fn put_part<P: Program>(out: &mut Vec<u8>, program: &P, b: u32) -> Result<(), NoMemory>
     requires spellable { IsSpellable (P.object program.now) }
     requires there { b < length (P.object program.now).blocks }
@@ -138,7 +138,7 @@ fn put_part<P: Program>(out: &mut Vec<u8>, program: &P, b: u32) -> Result<(), No
     Ok(())
 }
 
-/// Puts the lines of the blocks at the end.
+/// Appends the lines of the blocks.
 #[tactic(auto, using(ft_types::proofs::Counted::spellable_counted))]
 fn put_parts<P: Program>(out: &mut Vec<u8>, program: &P) -> Result<(), NoMemory>
     requires { IsSpellable (P.object program.now) }
@@ -155,7 +155,7 @@ fn put_parts<P: Program>(out: &mut Vec<u8>, program: &P) -> Result<(), NoMemory>
 pub fn disassemble<P: Program>(alloc: Global, program: &P) -> Result<Vec<u8>, NoMemory>
     requires { IsSpellable (P.object program.now) }
     ensures text { IfOk result (λ text. text.items ≡ text_of (P.object program.now)) }
-    // It reads as the object, and as no other.
+    // It reads as this object and no other.
     ensures reads { IfOk result (λ text. Reads text.items (P.object program.now)) }
     ensures only { IfOk result (λ text. (other : Object) → Reads text.items other → other ≡ P.object program.now) }
 {

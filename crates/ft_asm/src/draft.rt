@@ -3,7 +3,8 @@ ghost use Rattle.std.specs.Prelude.{◌≡◌, IfOk};
 ghost use Rattle.ft_asm.specs.Drafts as drafts;
 ghost use Rattle.std.specs.Prelude.{[]};
 ghost use Rattle.ft_asm.specs.declared.line.Line.TheVariants as lines;
-ghost use Rattle.ft_asm.specs.Held.{Holds, Adds, is_block, Closes, PutsRows, PutsCode, Ends};
+ghost use Rattle.ft_asm.specs.Held.{Holds, Adds, is_block, Closes, PutsCode, Ends};
+ghost use Rattle.ft_asm.specs.Lines.{placed};
 
 use crate::line::{Code, Line};
 use ft_isa::{Instr, NoMemory, Subst};
@@ -39,6 +40,31 @@ pub(crate) struct Draft {
     substs: Vec<u32>,
 }
 
+/// An instruction whose substitution, where it carries one, has the rows between these places.
+fn with_places(instr: Instr, first: u32, past: u32) -> Instr
+    ensures { result ≡ placed first past instr }
+{
+    match instr {
+        Instr::JmpB { rd, subst } => {
+            let subst = Subst {
+                first,
+                past,
+                memory: subst.memory,
+            };
+            Instr::JmpB { rd, subst }
+        }
+        Instr::BzB { rz, rd, subst } => {
+            let subst = Subst {
+                first,
+                past,
+                memory: subst.memory,
+            };
+            Instr::BzB { rz, rd, subst }
+        }
+        other => other,
+    }
+}
+
 impl Draft {
     /// No line yet.
     pub(crate) fn new(alloc: Global) -> Draft
@@ -57,7 +83,7 @@ impl Draft {
         }
     }
 
-    /// One more cell; `false` where none may stand here.
+    /// One more cell; `false` if none is allowed here.
     fn add_cell(&mut self, cell: Cell) -> Result<bool, NoMemory>
         ensures { (d : drafts.Draft) → Holds self.old d → IfOk result (λ taken. Adds taken self.new d (lines.Cell cell)) }
     {
@@ -71,7 +97,7 @@ impl Draft {
         Ok(true)
     }
 
-    /// One more node; `false` where none may stand here.
+    /// One more node; `false` if none is allowed here.
     fn add_node(&mut self, node: Node) -> Result<bool, NoMemory>
         ensures { (d : drafts.Draft) → Holds self.old d → IfOk result (λ taken. Adds taken self.new d (lines.Node node)) }
     {
@@ -82,7 +108,7 @@ impl Draft {
         Ok(true)
     }
 
-    /// Ends the last code type; `false` where nothing may follow.
+    /// Ends the last code type; `false` if nothing may follow.
     fn close(&mut self, alloc: Global) -> Result<bool, NoMemory>
         ensures { (d : drafts.Draft) → Holds self.old d → IfOk result (λ going. Closes going self.new d) }
     {
@@ -105,14 +131,14 @@ impl Draft {
         }
     }
 
-    /// Whether the last line stands in a block.
+    /// Whether the last line is in a block.
     fn is_in_block(&self) -> bool
         ensures { result ≡ is_block self.now.place }
     {
         matches!(self.place, Place::InBlock)
     }
 
-    /// One more code type; `false` where none may stand here.
+    /// One more code type; `false` if none is allowed here.
     fn add_type(&mut self, alloc: Global, ints: u8, memory: u32) -> Result<bool, NoMemory>
         ensures { (d : drafts.Draft) → Holds self.old d → IfOk result (λ taken. Adds taken self.new d (lines.Type ints memory)) }
     {
@@ -126,7 +152,7 @@ impl Draft {
         Ok(true)
     }
 
-    /// One more register row; `false` where none may stand here.
+    /// One more register row; `false` if none is allowed here.
     fn add_reg(&mut self, row: RegType) -> Result<bool, NoMemory>
         ensures { (d : drafts.Draft) → Holds self.old d → IfOk result (λ taken. Adds taken self.new d (lines.Reg row)) }
     {
@@ -140,7 +166,7 @@ impl Draft {
         Ok(true)
     }
 
-    /// One more queue row; `false` where none may stand here.
+    /// One more queue row; `false` if none is allowed here.
     fn add_pend(&mut self, address: u32, value: u32) -> Result<bool, NoMemory>
         ensures { (d : drafts.Draft) → Holds self.old d → IfOk result (λ taken. Adds taken self.new d (lines.Pend address value)) }
     {
@@ -151,7 +177,7 @@ impl Draft {
         Ok(true)
     }
 
-    /// One more block; `false` where none may stand here.
+    /// One more block; `false` if none is allowed here.
     fn add_block(&mut self, alloc: Global, code_type: u32) -> Result<bool, NoMemory>
         ensures { (d : drafts.Draft) → Holds self.old d → IfOk result (λ taken. Adds taken self.new d (lines.Block code_type)) }
     {
@@ -167,7 +193,7 @@ impl Draft {
         Ok(true)
     }
 
-    /// The entry block; `false` where it may not stand here.
+    /// The entry block; `false` if it is not allowed here.
     fn add_entry(&mut self, alloc: Global, block: u32) -> Result<bool, NoMemory>
         ensures { (d : drafts.Draft) → Holds self.old d → IfOk result (λ taken. Adds taken self.new d (lines.Entry block)) }
     {
@@ -178,65 +204,21 @@ impl Draft {
         Ok(true)
     }
 
-    /// The substitution of these rows, which are put at the end.
-    fn add_rows(&mut self, rows: &[u32], memory: u32) -> Result<Subst, NoMemory>
-        ensures { IfOk result (λ s. PutsRows self.old self.new s memory rows.now) }
+    /// The instruction that a line says, whose rows are appended.
+    fn placed(&mut self, code: Code) -> Result<Instr, NoMemory>
+        ensures { IfOk result (PutsCode self.old self.new code) }
     {
         let Ok(first) = u32::try_from(self.substs.len()) else {
             return Err(NoMemory);
         };
-        self.substs.extend_from_slice(rows)?;
+        self.substs.extend_from_slice(code.rows.as_slice())?;
         let Ok(past) = u32::try_from(self.substs.len()) else {
             return Err(NoMemory);
         };
-        Ok(Subst {
-            first,
-            past,
-            memory,
-        })
+        Ok(with_places(code.instr, first, past))
     }
 
-    /// The instruction that a line says, of which the rows are put at the end.
-    fn placed(&mut self, code: Code) -> Result<Instr, NoMemory>
-        ensures { IfOk result (PutsCode self.old self.new code) }
-    {
-        match code {
-            Code::OpReg { op, rd, rs, rt } => Ok(Instr::OpReg { op, rd, rs, rt }),
-            Code::OpWord { op, rd, rs, value } => Ok(Instr::OpWord { op, rd, rs, value }),
-            Code::Mov { rd, value, basic } => Ok(Instr::Mov { rd, value, basic }),
-            Code::Ld { colour, rd, rs } => Ok(Instr::Ld { colour, rd, rs }),
-            Code::St { colour, rd, rs } => Ok(Instr::St { colour, rd, rs }),
-            Code::JmpG { rd } => Ok(Instr::JmpG { rd }),
-            Code::JmpB { rd, memory, rows } => {
-                let subst = self.add_rows(rows.as_slice(), memory)?;
-                Ok(Instr::JmpB { rd, subst })
-            }
-            Code::BzG { rz, rd } => Ok(Instr::BzG { rz, rd }),
-            Code::BzB {
-                rz,
-                rd,
-                memory,
-                rows,
-            } => {
-                let subst = self.add_rows(rows.as_slice(), memory)?;
-                Ok(Instr::BzB { rz, rd, subst })
-            }
-            Code::Halt => Ok(Instr::Halt),
-            Code::Idx {
-                rd,
-                rs,
-                first,
-                length,
-            } => Ok(Instr::Idx {
-                rd,
-                rs,
-                first,
-                length,
-            }),
-        }
-    }
-
-    /// One more instruction; `false` where none may stand here.
+    /// One more instruction; `false` if none is allowed here.
     fn add_code(&mut self, code: Code) -> Result<bool, NoMemory>
         ensures { (d : drafts.Draft) → Holds self.old d → IfOk result (λ taken. Adds taken self.new d (lines.Code code)) }
     {
@@ -248,7 +230,7 @@ impl Draft {
         Ok(true)
     }
 
-    /// One more line; `false` where it may not stand here.
+    /// One more line; `false` if it is not allowed here.
     pub(crate) fn add(&mut self, alloc: Global, line: Line) -> Result<bool, NoMemory>
         ensures { (d : drafts.Draft) → Holds self.old d → IfOk result (λ taken. Adds taken self.new d line) }
     {
@@ -264,7 +246,7 @@ impl Draft {
         }
     }
 
-    /// The object of the tables, where the entry block was said.
+    /// The object of the tables, if the entry block was given.
     pub(crate) fn finish(self) -> Option<Object>
         ensures { (d : drafts.Draft) → Holds self d → Ends result d }
     {

@@ -2,7 +2,7 @@
 ghost use Rattle.std.specs.Prelude.{◌≡◌, ◌≤◌, ◌^◌, option_map, IfSome};
 ghost use Rattle.std.specs.Str.{bytes_eq};
 ghost use Rattle.ft_asm.specs.Words.{words_of};
-ghost use Rattle.ft_asm.specs.Forms.{number_of, below, reg_in, colour_in, basic_in, base_in, taken, ended, any_word};
+ghost use Rattle.ft_asm.specs.Forms.{number_of, below, reg_in, colour_in, basic_in, base_in, taken, ended};
 
 use crate::line::Line;
 use crate::words::next_word;
@@ -162,7 +162,7 @@ pub(crate) fn take_index(text: &[u8]) -> Option<(u32, &[u8])>
     Some((index, rest))
 }
 
-/// The basic type of a word, of at most so many refs.
+/// The basic type of a word, with at most this many refs.
 #[tactic(auto, unfolding(crate::specs::Forms::basic_in))]
 fn basic_within(room: u8, word: &[u8]) -> Option<Basic>
     ensures basic { result ≡ basic_in room word.now }
@@ -228,7 +228,7 @@ pub(crate) fn take_basic(text: &[u8]) -> Option<(Basic, &[u8])>
     Some((basic, rest))
 }
 
-/// The line, where no word is left.
+/// The line, if no word is left.
 pub(crate) fn end(text: &[u8], line: Line) -> Option<Line>
     ensures { result ≡ ended line (words_of text.now) }
 {

@@ -1,7 +1,7 @@
 //! Lines by their first words.
 ghost use Rattle.std.specs.Prelude.{◌≡◌, IfOk};
 ghost use Rattle.ft_asm.specs.Words.{words_of};
-ghost use Rattle.ft_asm.specs.Forms.{cell_in, type_in, reg_row_in, pend_in, block_in, entry_in, line_with};
+ghost use Rattle.ft_asm.specs.Forms.{all_in, cell_row, type_row, reg_row, pend_row, block_row, entry_row, line_with};
 ghost use Rattle.ft_asm.specs.Said.{Says};
 
 use crate::code_forms::code_of;
@@ -17,7 +17,7 @@ use std::alloc::Global;
 
 /// A cell.
 fn cell_of(alloc: Global, text: &[u8]) -> Result<Option<Line>, NoMemory>
-    ensures { IfOk result (λ line. line ≡ cell_in (words_of text.now)) }
+    ensures { IfOk result (λ line. line ≡ all_in cell_row (words_of text.now)) }
 {
     let Some((word, text)) = next_word(text) else {
         return Ok(None);
@@ -36,7 +36,7 @@ fn cell_of(alloc: Global, text: &[u8]) -> Result<Option<Line>, NoMemory>
 
 /// A code type.
 fn type_of(text: &[u8]) -> Option<Line>
-    ensures { result ≡ type_in (words_of text.now) }
+    ensures { result ≡ all_in type_row (words_of text.now) }
 {
     let (ints, text) = take_byte(text)?;
     let (memory, text) = take_index(text)?;
@@ -45,7 +45,7 @@ fn type_of(text: &[u8]) -> Option<Line>
 
 /// A register row.
 fn reg_row_of(text: &[u8]) -> Option<Line>
-    ensures { result ≡ reg_row_in (words_of text.now) }
+    ensures { result ≡ all_in reg_row (words_of text.now) }
 {
     let (reg, text) = take_reg(text)?;
     let (colour, text) = take_colour(text)?;
@@ -64,7 +64,7 @@ fn reg_row_of(text: &[u8]) -> Option<Line>
 
 /// A queue row.
 fn pend_of(text: &[u8]) -> Option<Line>
-    ensures { result ≡ pend_in (words_of text.now) }
+    ensures { result ≡ all_in pend_row (words_of text.now) }
 {
     let (address, text) = take_index(text)?;
     let (value, text) = take_index(text)?;
@@ -73,7 +73,7 @@ fn pend_of(text: &[u8]) -> Option<Line>
 
 /// A block.
 fn block_of(text: &[u8]) -> Option<Line>
-    ensures { result ≡ block_in (words_of text.now) }
+    ensures { result ≡ all_in block_row (words_of text.now) }
 {
     let (code_type, text) = take_index(text)?;
     end(text, Line::Block(code_type))
@@ -81,7 +81,7 @@ fn block_of(text: &[u8]) -> Option<Line>
 
 /// The entry block.
 fn entry_of(text: &[u8]) -> Option<Line>
-    ensures { result ≡ entry_in (words_of text.now) }
+    ensures { result ≡ all_in entry_row (words_of text.now) }
 {
     let (block, text) = take_index(text)?;
     end(text, Line::Entry(block))
@@ -91,11 +91,11 @@ fn entry_of(text: &[u8]) -> Option<Line>
 fn line_of(alloc: Global, word: &[u8], text: &[u8]) -> Result<Option<Line>, NoMemory>
     ensures { IfOk result (λ line. line ≡ line_with word.now (words_of text.now)) }
 {
-    if is_same(word, b"cell") {
-        return cell_of(alloc, text);
-    }
     if is_same(word, b"node") {
         return Ok(node_of(text));
+    }
+    if is_same(word, b"cell") {
+        return cell_of(alloc, text);
     }
     if is_same(word, b"type") {
         return Ok(type_of(text));
@@ -117,11 +117,11 @@ fn line_of(alloc: Global, word: &[u8], text: &[u8]) -> Result<Option<Line>, NoMe
 
 /// What a line says.
 pub(crate) enum Said {
-    /// It has no word, or its first begins a comment.
+    /// It has no word, or the first begins a comment.
     Nothing,
     /// It says this.
     Line(Line),
-    /// It is none of the forms.
+    /// It has none of the forms.
     Bad,
 }
 

@@ -2,18 +2,18 @@
 ghost use Rattle.std.specs.Prelude.{◌≡◌, ◌≤◌, ◌++◌, ◌∷◌, [], length, decimal, slice_range, OnOk};
 ghost use Rattle.std.specs.List.{flat_map};
 ghost use Rattle.ft_types.specs.Spellable.{subst_of};
-ghost use Rattle.ft_asm.specs.Lines.{reg_word, colour_word, ld_word, st_word, code_words};
+ghost use Rattle.ft_asm.specs.Lines.{reg_word, colour_word, ld_word, st_word, instr_form, form_words, code_words};
 ghost use Rattle.ft_asm.specs.Listings.{code_of};
 ghost use Rattle.ft_asm.specs.Reads.{spaced};
 ghost use Rattle.ft_asm.specs.Pieces.{row_text, code_text, HasRows};
-ghost use Rattle.ft_asm.specs.declared.line.Code.TheVariants as codes;
 ghost use Rattle.ft_isa.specs.declared.instr.Instr.TheVariants as instrs;
 
+use crate::code_forms::carried;
 use crate::writing::{put, put_basic, put_colour, put_number, put_op, put_reg};
 use ft_isa::{Basic, Colour, Coloured, Instr, NoMemory, Op, Reg, Subst};
 use ft_types::Program;
 
-/// Puts the words of two registers at the end.
+/// Appends the words of two registers.
 fn put_regs(out: &mut Vec<u8>, a: Reg, b: Reg) -> Result<(), NoMemory>
     ensures { OnOk result (out.new.items ≡ out.old.items ++ spaced (reg_word a ∷ reg_word b ∷ [])) }
 {
@@ -22,7 +22,7 @@ fn put_regs(out: &mut Vec<u8>, a: Reg, b: Reg) -> Result<(), NoMemory>
     put_reg(out, b)
 }
 
-/// Puts the words of a coloured word at the end.
+/// Appends the words of a coloured word.
 fn put_value(out: &mut Vec<u8>, value: Coloured) -> Result<(), NoMemory>
     ensures { OnOk result (out.new.items ≡ out.old.items ++ spaced (colour_word value.colour ∷ decimal value.word ∷ [])) }
 {
@@ -31,9 +31,9 @@ fn put_value(out: &mut Vec<u8>, value: Coloured) -> Result<(), NoMemory>
     put_number(out, value.word)
 }
 
-/// Puts an operation on two registers at the end.
+/// Appends an operation on two registers.
 fn put_op_reg(out: &mut Vec<u8>, op: Op, rd: Reg, rs: Reg, rt: Reg) -> Result<(), NoMemory>
-    ensures { OnOk result (out.new.items ≡ out.old.items ++ spaced (code_words (codes.OpReg op rd rs rt))) }
+    ensures { OnOk result (out.new.items ≡ out.old.items ++ spaced (form_words (instr_form (instrs.OpReg op rd rs rt)))) }
 {
     put_op(out, op)?;
     put(out, b" ")?;
@@ -42,9 +42,9 @@ fn put_op_reg(out: &mut Vec<u8>, op: Op, rd: Reg, rs: Reg, rt: Reg) -> Result<()
     put_reg(out, rt)
 }
 
-/// Puts an operation on a register and a word at the end.
+/// Appends an operation on a register and a word.
 fn put_op_word(out: &mut Vec<u8>, op: Op, rd: Reg, rs: Reg, value: Coloured) -> Result<(), NoMemory>
-    ensures { OnOk result (out.new.items ≡ out.old.items ++ spaced (code_words (codes.OpWord op rd rs value))) }
+    ensures { OnOk result (out.new.items ≡ out.old.items ++ spaced (form_words (instr_form (instrs.OpWord op rd rs value)))) }
 {
     put_op(out, op)?;
     put(out, b" ")?;
@@ -53,9 +53,9 @@ fn put_op_word(out: &mut Vec<u8>, op: Op, rd: Reg, rs: Reg, value: Coloured) -> 
     put_value(out, value)
 }
 
-/// Puts a `mov` at the end.
+/// Appends a `mov`.
 fn put_mov(out: &mut Vec<u8>, rd: Reg, value: Coloured, basic: Basic) -> Result<(), NoMemory>
-    ensures { OnOk result (out.new.items ≡ out.old.items ++ spaced (code_words (codes.Mov rd value basic))) }
+    ensures { OnOk result (out.new.items ≡ out.old.items ++ spaced (form_words (instr_form (instrs.Mov rd value basic)))) }
 {
     put(out, b"mov ")?;
     put_reg(out, rd)?;
@@ -65,7 +65,7 @@ fn put_mov(out: &mut Vec<u8>, rd: Reg, value: Coloured, basic: Basic) -> Result<
     put_basic(out, basic)
 }
 
-/// Puts the first word of a load at the end.
+/// Appends the first word of a load.
 fn put_ld_word(out: &mut Vec<u8>, colour: Colour) -> Result<(), NoMemory>
     ensures { OnOk result (out.new.items ≡ out.old.items ++ ld_word colour) }
 {
@@ -75,16 +75,16 @@ fn put_ld_word(out: &mut Vec<u8>, colour: Colour) -> Result<(), NoMemory>
     }
 }
 
-/// Puts a load at the end.
+/// Appends a load.
 fn put_ld(out: &mut Vec<u8>, colour: Colour, rd: Reg, rs: Reg) -> Result<(), NoMemory>
-    ensures { OnOk result (out.new.items ≡ out.old.items ++ spaced (code_words (codes.Ld colour rd rs))) }
+    ensures { OnOk result (out.new.items ≡ out.old.items ++ spaced (form_words (instr_form (instrs.Ld colour rd rs)))) }
 {
     put_ld_word(out, colour)?;
     put(out, b" ")?;
     put_regs(out, rd, rs)
 }
 
-/// Puts the first word of a store at the end.
+/// Appends the first word of a store.
 fn put_st_word(out: &mut Vec<u8>, colour: Colour) -> Result<(), NoMemory>
     ensures { OnOk result (out.new.items ≡ out.old.items ++ st_word colour) }
 {
@@ -94,34 +94,34 @@ fn put_st_word(out: &mut Vec<u8>, colour: Colour) -> Result<(), NoMemory>
     }
 }
 
-/// Puts a store at the end.
+/// Appends a store.
 fn put_st(out: &mut Vec<u8>, colour: Colour, rd: Reg, rs: Reg) -> Result<(), NoMemory>
-    ensures { OnOk result (out.new.items ≡ out.old.items ++ spaced (code_words (codes.St colour rd rs))) }
+    ensures { OnOk result (out.new.items ≡ out.old.items ++ spaced (form_words (instr_form (instrs.St colour rd rs)))) }
 {
     put_st_word(out, colour)?;
     put(out, b" ")?;
     put_regs(out, rd, rs)
 }
 
-/// Puts a green jump at the end.
+/// Appends a green jump.
 fn put_jmp_green(out: &mut Vec<u8>, rd: Reg) -> Result<(), NoMemory>
-    ensures { OnOk result (out.new.items ≡ out.old.items ++ spaced (code_words (codes.JmpG rd))) }
+    ensures { OnOk result (out.new.items ≡ out.old.items ++ spaced (form_words (instr_form (instrs.JmpG rd)))) }
 {
     put(out, b"jmp_G ")?;
     put_reg(out, rd)
 }
 
-/// Puts a green branch at the end.
+/// Appends a green branch.
 fn put_bz_green(out: &mut Vec<u8>, rz: Reg, rd: Reg) -> Result<(), NoMemory>
-    ensures { OnOk result (out.new.items ≡ out.old.items ++ spaced (code_words (codes.BzG rz rd))) }
+    ensures { OnOk result (out.new.items ≡ out.old.items ++ spaced (form_words (instr_form (instrs.BzG rz rd)))) }
 {
     put(out, b"bz_G ")?;
     put_regs(out, rz, rd)
 }
 
-/// Puts an `idx` at the end.
+/// Appends an `idx`.
 fn put_idx(out: &mut Vec<u8>, rd: Reg, rs: Reg, first: u32, length: u32) -> Result<(), NoMemory>
-    ensures { OnOk result (out.new.items ≡ out.old.items ++ spaced (code_words (codes.Idx rd rs first length))) }
+    ensures { OnOk result (out.new.items ≡ out.old.items ++ spaced (form_words (instr_form (instrs.Idx rd rs first length)))) }
 {
     put(out, b"idx ")?;
     put_regs(out, rd, rs)?;
@@ -131,7 +131,51 @@ fn put_idx(out: &mut Vec<u8>, rd: Reg, rs: Reg, first: u32, length: u32) -> Resu
     put_number(out, u64::from(length))
 }
 
-/// Puts a row of a substitution at the end, with a space before it.
+/// Puts a blue jump at the end, but for its rows.
+fn put_jmp_blue(out: &mut Vec<u8>, rd: Reg, subst: Subst) -> Result<(), NoMemory>
+    ensures { OnOk result (out.new.items ≡ out.old.items ++ spaced (form_words (instr_form (instrs.JmpB rd subst)))) }
+{
+    put(out, b"jmp_B ")?;
+    put_reg(out, rd)?;
+    put(out, b" ")?;
+    put_number(out, u64::from(subst.memory))
+}
+
+/// Puts a blue branch at the end, but for its rows.
+fn put_bz_blue(out: &mut Vec<u8>, rz: Reg, rd: Reg, subst: Subst) -> Result<(), NoMemory>
+    ensures { OnOk result (out.new.items ≡ out.old.items ++ spaced (form_words (instr_form (instrs.BzB rz rd subst)))) }
+{
+    put(out, b"bz_B ")?;
+    put_regs(out, rz, rd)?;
+    put(out, b" ")?;
+    put_number(out, u64::from(subst.memory))
+}
+
+/// Puts the words of an instruction at the end, but for the rows of its substitution.
+fn put_instr(out: &mut Vec<u8>, instr: Instr) -> Result<(), NoMemory>
+    ensures { OnOk result (out.new.items ≡ out.old.items ++ spaced (form_words (instr_form instr))) }
+{
+    match instr {
+        Instr::OpReg { op, rd, rs, rt } => put_op_reg(out, op, rd, rs, rt),
+        Instr::OpWord { op, rd, rs, value } => put_op_word(out, op, rd, rs, value),
+        Instr::Mov { rd, value, basic } => put_mov(out, rd, value, basic),
+        Instr::Ld { colour, rd, rs } => put_ld(out, colour, rd, rs),
+        Instr::St { colour, rd, rs } => put_st(out, colour, rd, rs),
+        Instr::JmpG { rd } => put_jmp_green(out, rd),
+        Instr::JmpB { rd, subst } => put_jmp_blue(out, rd, subst),
+        Instr::BzG { rz, rd } => put_bz_green(out, rz, rd),
+        Instr::BzB { rz, rd, subst } => put_bz_blue(out, rz, rd, subst),
+        Instr::Halt => put(out, b"halt"),
+        Instr::Idx {
+            rd,
+            rs,
+            first,
+            length,
+        } => put_idx(out, rd, rs, first, length),
+    }
+}
+
+/// Appends a row of a substitution, with a space before it.
 fn put_row(out: &mut Vec<u8>, row: u32) -> Result<(), NoMemory>
     ensures { OnOk result (out.new.items ≡ out.old.items ++ row_text row) }
 {
@@ -139,7 +183,7 @@ fn put_row(out: &mut Vec<u8>, row: u32) -> Result<(), NoMemory>
     put_number(out, u64::from(row))
 }
 
-/// Puts the rows of a substitution at the end, each with a space before it.
+/// Appends the rows of a substitution, each with a space before it.
 fn put_rows<P: Program>(out: &mut Vec<u8>, program: &P, subst: Subst) -> Result<(), NoMemory>
     requires { subst.past ≤ length (P.object program.now).substs }
     ensures { OnOk result (out.new.items ≡ out.old.items ++ flat_map row_text (slice_range (P.object program.now).substs subst.first subst.past)) }
@@ -150,64 +194,16 @@ fn put_rows<P: Program>(out: &mut Vec<u8>, program: &P, subst: Subst) -> Result<
     Ok(())
 }
 
-/// Puts a blue jump at the end.
-fn put_jmp_blue<P: Program>(
-    out: &mut Vec<u8>,
-    program: &P,
-    rd: Reg,
-    subst: Subst,
-) -> Result<(), NoMemory>
-    requires { subst.past ≤ length (P.object program.now).substs }
-    ensures { OnOk result (out.new.items ≡ out.old.items ++ spaced (code_words (code_of (P.object program.now).substs (instrs.JmpB rd subst)))) }
-{
-    put(out, b"jmp_B ")?;
-    put_reg(out, rd)?;
-    put_row(out, subst.memory)?;
-    put_rows(out, program, subst)?;
-    Ok(())
-}
-
-/// Puts a blue branch at the end.
-fn put_bz_blue<P: Program>(
-    out: &mut Vec<u8>,
-    program: &P,
-    rz: Reg,
-    rd: Reg,
-    subst: Subst,
-) -> Result<(), NoMemory>
-    requires { subst.past ≤ length (P.object program.now).substs }
-    ensures { OnOk result (out.new.items ≡ out.old.items ++ spaced (code_words (code_of (P.object program.now).substs (instrs.BzB rz rd subst)))) }
-{
-    put(out, b"bz_B ")?;
-    put_regs(out, rz, rd)?;
-    put_row(out, subst.memory)?;
-    put_rows(out, program, subst)?;
-    Ok(())
-}
-
-/// Puts the words of an instruction at the end.
+/// Appends the words of an instruction.
 fn put_words<P: Program>(out: &mut Vec<u8>, program: &P, instr: Instr) -> Result<(), NoMemory>
     requires { HasRows (P.object program.now).substs (subst_of instr) }
     ensures { OnOk result (out.new.items ≡ out.old.items ++ spaced (code_words (code_of (P.object program.now).substs instr))) }
 {
-    match instr {
-        Instr::OpReg { op, rd, rs, rt } => put_op_reg(out, op, rd, rs, rt),
-        Instr::OpWord { op, rd, rs, value } => put_op_word(out, op, rd, rs, value),
-        Instr::Mov { rd, value, basic } => put_mov(out, rd, value, basic),
-        Instr::Ld { colour, rd, rs } => put_ld(out, colour, rd, rs),
-        Instr::St { colour, rd, rs } => put_st(out, colour, rd, rs),
-        Instr::JmpG { rd } => put_jmp_green(out, rd),
-        Instr::JmpB { rd, subst } => put_jmp_blue(out, program, rd, subst),
-        Instr::BzG { rz, rd } => put_bz_green(out, rz, rd),
-        Instr::BzB { rz, rd, subst } => put_bz_blue(out, program, rz, rd, subst),
-        Instr::Halt => put(out, b"halt"),
-        Instr::Idx {
-            rd,
-            rs,
-            first,
-            length,
-        } => put_idx(out, rd, rs, first, length),
+    put_instr(out, instr)?;
+    if let Some(subst) = carried(instr) {
+        put_rows(out, program, subst)?;
     }
+    Ok(())
 }
 
 /// The line of an instruction.

@@ -1,9 +1,9 @@
 //! Assembly text: objects as lines of words.
 //!
-//! The crate promises that `assemble` gives the one object that a text reads as, or refuses the text
-//! exactly, and that `disassemble` gives the text of an object, which reads as that object and no other.
-//! `specs/Words.antt`, `specs/Lines.antt` and `specs/Listings.antt` say what lines mean,
-//! `specs/Reads.antt` which text reads as which object and what a text is refused for.
+//! The crate promises that `assemble` returns the one object that a text spells, or refuses the text
+//! exactly, and that `disassemble` writes the text of an object, which spells that object and no other.
+//! `specs/Words.antt`, `specs/Lines.antt` and `specs/Listings.antt` say what lines mean, `specs/Reads.antt`
+//! which text spells which object and why a text is refused.
 #![tactic(auto)]
 
 mod asm_error;

@@ -1,7 +1,7 @@
 //! The lines of nodes, after their first word.
-ghost use Rattle.std.specs.Prelude.{◌≡◌};
+ghost use Rattle.std.specs.Prelude.{◌≡◌, option_map};
 ghost use Rattle.ft_asm.specs.Words.{words_of};
-ghost use Rattle.ft_asm.specs.Forms.{node_in, word_node_in, var_node_in, sel_node_in, memory_node_in, upd_node_in, rem_node_in, shape_in, op_shape_in};
+ghost use Rattle.ft_asm.specs.Forms.{row_in, word_row, var_row, op_shape_row, sel_row, memory_row, upd_row, rem_row, op_shape_in, shape_in, node_in};
 
 use crate::fields::{end, is_same, take_byte, take_index, take_word};
 use crate::line::Line;
@@ -9,132 +9,92 @@ use crate::words::next_word;
 use ft_isa::Op;
 use ft_static::{Node, Shape};
 
-/// A word node.
-fn word_node(scope: u8, text: &[u8]) -> Option<Line>
-    ensures { result ≡ word_node_in scope (words_of text.now) }
+/// A word node, and the text after its words.
+fn word_shape(text: &[u8]) -> Option<(Shape, &[u8])>
+    ensures { row_in word_row (words_of text.now) ≡ option_map (λ p. (p.0, words_of p.1.now)) result }
 {
     let (word, text) = take_word(text)?;
-    end(
-        text,
-        Line::Node(Node {
-            scope,
-            shape: Shape::Word(word),
-        }),
-    )
+    Some((Shape::Word(word), text))
 }
 
 /// A variable node.
-fn var_node(scope: u8, text: &[u8]) -> Option<Line>
-    ensures { result ≡ var_node_in scope (words_of text.now) }
+fn var_shape(text: &[u8]) -> Option<(Shape, &[u8])>
+    ensures { row_in var_row (words_of text.now) ≡ option_map (λ p. (p.0, words_of p.1.now)) result }
 {
     let (i, text) = take_byte(text)?;
-    end(
-        text,
-        Line::Node(Node {
-            scope,
-            shape: Shape::Var(i),
-        }),
-    )
+    Some((Shape::Var(i), text))
 }
 
-/// A node that is an operation.
-fn op_shape_of(scope: u8, word: &[u8], text: &[u8]) -> Option<Line>
-    ensures { result ≡ op_shape_in scope word.now (words_of text.now) }
+/// A node that is this operation.
+fn op_shape_of(op: Op, text: &[u8]) -> Option<(Shape, &[u8])>
+    ensures { row_in (op_shape_row op) (words_of text.now) ≡ option_map (λ p. (p.0, words_of p.1.now)) result }
 {
-    let op = Op::of_word(word)?;
     let (a, text) = take_index(text)?;
     let (b, text) = take_index(text)?;
-    end(
-        text,
-        Line::Node(Node {
-            scope,
-            shape: Shape::Op { op, a, b },
-        }),
-    )
+    Some((Shape::Op { op, a, b }, text))
+}
+
+/// A node that is an operation, by its word.
+fn op_shape<'t>(word: &[u8], text: &'t [u8]) -> Option<(Shape, &'t [u8])>
+    ensures { op_shape_in word.now (words_of text.now) ≡ option_map (λ p. (p.0, words_of p.1.now)) result }
+{
+    let Some(op) = Op::of_word(word) else {
+        return None;
+    };
+    op_shape_of(op, text)
 }
 
 /// A `sel` node.
-fn sel_node(scope: u8, text: &[u8]) -> Option<Line>
-    ensures { result ≡ sel_node_in scope (words_of text.now) }
+fn sel_shape(text: &[u8]) -> Option<(Shape, &[u8])>
+    ensures { row_in sel_row (words_of text.now) ≡ option_map (λ p. (p.0, words_of p.1.now)) result }
 {
     let (memory, text) = take_index(text)?;
     let (at, text) = take_index(text)?;
-    end(
-        text,
-        Line::Node(Node {
-            scope,
-            shape: Shape::Sel { memory, at },
-        }),
-    )
-}
-
-/// A memory node.
-fn memory_node(scope: u8, text: &[u8]) -> Option<Line>
-    ensures { result ≡ memory_node_in scope (words_of text.now) }
-{
-    end(
-        text,
-        Line::Node(Node {
-            scope,
-            shape: Shape::Memory,
-        }),
-    )
+    Some((Shape::Sel { memory, at }, text))
 }
 
 /// An `upd` node.
-fn upd_node(scope: u8, text: &[u8]) -> Option<Line>
-    ensures { result ≡ upd_node_in scope (words_of text.now) }
+fn upd_shape(text: &[u8]) -> Option<(Shape, &[u8])>
+    ensures { row_in upd_row (words_of text.now) ≡ option_map (λ p. (p.0, words_of p.1.now)) result }
 {
     let (memory, text) = take_index(text)?;
     let (at, text) = take_index(text)?;
     let (value, text) = take_index(text)?;
-    end(
-        text,
-        Line::Node(Node {
-            scope,
-            shape: Shape::Upd { memory, at, value },
-        }),
-    )
+    Some((Shape::Upd { memory, at, value }, text))
 }
 
 /// A `rem` node.
-fn rem_node(scope: u8, text: &[u8]) -> Option<Line>
-    ensures { result ≡ rem_node_in scope (words_of text.now) }
+fn rem_shape(text: &[u8]) -> Option<(Shape, &[u8])>
+    ensures { row_in rem_row (words_of text.now) ≡ option_map (λ p. (p.0, words_of p.1.now)) result }
 {
     let (a, text) = take_index(text)?;
     let (length, text) = take_index(text)?;
-    end(
-        text,
-        Line::Node(Node {
-            scope,
-            shape: Shape::Rem { a, length },
-        }),
-    )
+    Some((Shape::Rem { a, length }, text))
 }
 
-/// A node of a scope, by the word after it.
-fn shape_of(scope: u8, word: &[u8], text: &[u8]) -> Option<Line>
-    ensures { result ≡ shape_in scope word.now (words_of text.now) }
+/// A node by the word after its scope.
+fn shape_of<'t>(word: &[u8], text: &'t [u8]) -> Option<(Shape, &'t [u8])>
+    ensures { shape_in word.now (words_of text.now) ≡ option_map (λ p. (p.0, words_of p.1.now)) result }
 {
     if is_same(word, b"word") {
-        return word_node(scope, text);
+        return word_shape(text);
     }
     if is_same(word, b"var") {
-        return var_node(scope, text);
+        return var_shape(text);
     }
     if is_same(word, b"sel") {
-        return sel_node(scope, text);
+        return sel_shape(text);
     }
     if is_same(word, b"memory") {
-        return memory_node(scope, text);
+        return Some((Shape::Memory, text));
     }
     if is_same(word, b"upd") {
-        return upd_node(scope, text);
+        return upd_shape(text);
     }
     if is_same(word, b"rem") {
-        return rem_node(scope, text);
+        return rem_shape(text);
     }
-    op_shape_of(scope, word, text)
+    op_shape(word, text)
 }
 
 /// A node.
@@ -143,5 +103,6 @@ pub(crate) fn node_of(text: &[u8]) -> Option<Line>
 {
     let (scope, text) = take_byte(text)?;
     let (word, text) = next_word(text)?;
-    shape_of(scope, word, text)
+    let (shape, text) = shape_of(word, text)?;
+    end(text, Line::Node(Node { scope, shape }))
 }

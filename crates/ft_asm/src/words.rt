@@ -16,14 +16,14 @@ fn first_blank(text: &[u8]) -> Option<usize>
     text.iter().position(|byte| is_blank(*byte))
 }
 
-/// The place of the first byte that is no blank.
+/// The place of the first byte that is not a blank.
 fn first_part(text: &[u8]) -> Option<usize>
     ensures { result ≡ position (λ byte. not (is_blank byte)) text.now }
 {
     text.iter().position(|byte| !is_blank(*byte))
 }
 
-/// The first word of a text, and the text after it; `None` where it has no word.
+/// The first word of a text, and the text after it; `None` if it has no word.
 pub(crate) fn next_word(text: &[u8]) -> Option<(&[u8], &[u8])>
     ensures words { MatchOption result (words_of text.now ≡ []) (λ p. words_of text.now ≡ p.0.now ∷ words_of p.1.now) }
     ensures shorter { IfSome result (λ p. length p.1.now < length text.now) }

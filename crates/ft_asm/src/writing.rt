@@ -1,7 +1,7 @@
 //! Lines, written.
 ghost use Rattle.std.specs.Prelude.{◌≡◌, [], ◌∷◌, ◌++◌, decimal, OnOk};
 ghost use Rattle.ft_isa.specs.Operations.{op_word};
-ghost use Rattle.ft_asm.specs.Lines.{reg_word, colour_word, basic_word, base_word, shape_words};
+ghost use Rattle.ft_asm.specs.Lines.{reg_word, colour_word, basic_word, base_word, shape_form, form_words};
 ghost use Rattle.ft_asm.specs.Reads.{line_text, spaced, cell_line, reg_head};
 ghost use Rattle.ft_asm.specs.declared.line.Line.TheVariants as lines;
 
@@ -10,7 +10,7 @@ use ft_static::{Node, Shape};
 use ft_types::RegType;
 use itoa::Buffer;
 
-/// Puts a piece at the end.
+/// Appends a piece.
 pub(crate) fn put(out: &mut Vec<u8>, piece: &[u8]) -> Result<(), NoMemory>
     ensures { OnOk result (out.new.items ≡ out.old.items ++ piece.now) }
 {
@@ -18,7 +18,7 @@ pub(crate) fn put(out: &mut Vec<u8>, piece: &[u8]) -> Result<(), NoMemory>
     Ok(())
 }
 
-/// Puts a number at the end, in decimal digits.
+/// Appends a number, in decimal digits.
 pub(crate) fn put_number(out: &mut Vec<u8>, number: u64) -> Result<(), NoMemory>
     ensures { OnOk result (out.new.items ≡ out.old.items ++ decimal number) }
 {
@@ -26,7 +26,7 @@ pub(crate) fn put_number(out: &mut Vec<u8>, number: u64) -> Result<(), NoMemory>
     put(out, digits.format(number).as_bytes())
 }
 
-/// Puts the word of a register at the end.
+/// Appends the word of a register.
 pub(crate) fn put_reg(out: &mut Vec<u8>, reg: Reg) -> Result<(), NoMemory>
     ensures { OnOk result (out.new.items ≡ out.old.items ++ reg_word reg) }
 {
@@ -34,7 +34,7 @@ pub(crate) fn put_reg(out: &mut Vec<u8>, reg: Reg) -> Result<(), NoMemory>
     put_number(out, u64::from(reg.number()))
 }
 
-/// Puts the word of a colour at the end.
+/// Appends the word of a colour.
 pub(crate) fn put_colour(out: &mut Vec<u8>, colour: Colour) -> Result<(), NoMemory>
     ensures { OnOk result (out.new.items ≡ out.old.items ++ colour_word colour) }
 {
@@ -44,14 +44,14 @@ pub(crate) fn put_colour(out: &mut Vec<u8>, colour: Colour) -> Result<(), NoMemo
     }
 }
 
-/// Puts the word of an operation at the end.
+/// Appends the word of an operation.
 pub(crate) fn put_op(out: &mut Vec<u8>, op: Op) -> Result<(), NoMemory>
     ensures { OnOk result (out.new.items ≡ out.old.items ++ op_word op) }
 {
     put(out, op.word())
 }
 
-/// Puts the word of a base at the end.
+/// Appends the word of a base.
 fn put_base(out: &mut Vec<u8>, base: Base) -> Result<(), NoMemory>
     ensures { OnOk result (out.new.items ≡ out.old.items ++ base_word base) }
 {
@@ -64,7 +64,7 @@ fn put_base(out: &mut Vec<u8>, base: Base) -> Result<(), NoMemory>
     }
 }
 
-/// Puts the word of a basic type at the end.
+/// Appends the word of a basic type.
 pub(crate) fn put_basic(out: &mut Vec<u8>, basic: Basic) -> Result<(), NoMemory>
     ensures { OnOk result (out.new.items ≡ out.old.items ++ basic_word basic) }
 {
@@ -92,7 +92,7 @@ pub(crate) fn put_cell(
     put(out, b"\n")
 }
 
-/// Puts two numbers at the end, with a space between them.
+/// Appends two numbers, with a space between them.
 fn put_pair(out: &mut Vec<u8>, a: u32, b: u32) -> Result<(), NoMemory>
     ensures { OnOk result (out.new.items ≡ out.old.items ++ spaced (decimal a ∷ decimal b ∷ [])) }
 {
@@ -103,7 +103,7 @@ fn put_pair(out: &mut Vec<u8>, a: u32, b: u32) -> Result<(), NoMemory>
 
 /// The words of a node after its scope.
 fn put_shape(out: &mut Vec<u8>, shape: Shape) -> Result<(), NoMemory>
-    ensures { OnOk result (out.new.items ≡ out.old.items ++ spaced (shape_words shape)) }
+    ensures { OnOk result (out.new.items ≡ out.old.items ++ spaced (form_words (shape_form shape))) }
 {
     match shape {
         Shape::Word(word) => {

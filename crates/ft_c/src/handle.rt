@@ -1,4 +1,4 @@
-//! What C holds of a run that goes on from call to call: a pointer to it, or none.
+//! C's reference to a run that continues across calls: a pointer to it, or none.
 ghost use Rattle.std.specs.Prelude.{◌≡◌, Option, None, Some};
 ghost use Rattle.std.specs.Option.{option_map};
 ghost use Rattle.ft_c.specs.Held.{held};
@@ -11,7 +11,7 @@ use std::marker::Model;
 use std::mem::replace;
 use std::ptr::null_mut;
 
-/// A run of C's: whether there is one, and where it is. It owns the run.
+/// A run that C owns: whether there is one, and its address.
 #[repr(C)]
 #[derive(Drop)]
 pub struct Handle {
@@ -46,7 +46,7 @@ impl Handle {
         }
     }
 
-    /// The run, where there is one.
+    /// The run, if there is one.
     fn unseal(self, alloc: Global) -> Option<Loose<Task, Global>>
         ensures { option_map (λ l. l.value) result ≡ self.task }
     {
@@ -62,7 +62,7 @@ impl Handle {
     }
 }
 
-/// Takes the run out of a handle, which holds none then.
+/// Takes the run out of a handle and leaves it empty.
 pub(crate) fn take(alloc: Global, machine: &mut Handle) -> Option<Box<Task, Global>>
     ensures taken { option_map (λ b. b.value) result ≡ machine.old.task }
     ensures emptied { machine.new.task ≡ None }

@@ -1,8 +1,8 @@
 //! The exports of the C library: the calls of `ft_embed`, with plain C types.
 //!
-//! Each export states the clauses of the call behind it again, over the same definitions. A `Handle` is
-//! what C holds of a run that goes on from call to call: a pointer to a `Task`, or none
-//! (`specs/Held.antt`, `specs/Handles.antt`). No C function is declared here.
+//! Each export restates the clauses of its counterpart, over the same definitions. A `Handle` is C's
+//! reference to a run that continues across calls: a pointer to a `Task`, or none (`specs/Held.antt`,
+//! `specs/Handles.antt`). No C function is declared here.
 #![tactic(auto)]
 
 mod cells;

@@ -14,9 +14,8 @@ use ft_embed::{
 };
 use std::alloc::Global;
 
-/// Checks the object that bytes spell. The answer is 0 for an object that is accepted; 7 for bytes that
-/// spell none, with the first rule that they break; 8 for an object that is refused, with its refusal; or
-/// 5, out of memory.
+/// Checks the object that bytes spell. Returns 0 for an object that is accepted; 7 for bytes that spell none, with the
+/// first rule that they break; 8 for an object that is refused, with its refusal; or 5, out of memory.
 #[unsafe(no_mangle)]
 pub extern "C" fn talft_check(alloc: Global, bytes: &[u8], why: &mut Refused) -> u32
     ensures verdict { result ≢ 5 → Tells result why.new (verdict_on bytes.now) }
@@ -28,11 +27,11 @@ pub extern "C" fn talft_check(alloc: Global, bytes: &[u8], why: &mut Refused) ->
     verdict.status
 }
 
-/// Checks the object that bytes spell, and runs it from its start for at most `steps` steps, under the fault
-/// that a text says, as `4:r1:6`, and with the answers to wild loads that another one says, as `5,stop`. An
-/// empty text says none. The outputs go into the array. The answer is 0 for a run that is done; 1 for one
-/// that is detected; 9 for one that still runs after the steps; 14 where the array is full; 2 where one of the
-/// texts says nothing; 7 or 8 for bytes that are refused; or 5, out of memory.
+/// Checks the object that bytes spell, and runs it from its start for at most `steps` steps, under the fault that
+/// `fault` spells, such as `4:r1:6`, and with the answers to wild loads that `wild` spells, such as `5,stop`. An empty
+/// text means none. The outputs go into the array. Returns 0 for a run that is done; 1 for one that is detected; 9 for
+/// one that is still running after the steps; 14 if the array is full; 2 if a text is invalid; 7 or 8 for bytes that
+/// are refused; or 5, out of memory.
 #[unsafe(no_mangle)]
 pub extern "C" fn talft_run(
     alloc: Global,
@@ -59,9 +58,9 @@ pub extern "C" fn talft_run(
     answer.status
 }
 
-/// Checks the object that bytes spell, and runs it as `talft_run` does. Where the fault is detected, it is run
-/// again without the fault, and its outputs take the place of the first ones. So the outputs and the end are
-/// those of the run without a fault. The answer is 0, 9, 14, 2, 7, 8 or 5, as that of `talft_run`.
+/// Checks the object that bytes spell, and runs it as `talft_run` does. If the fault is detected, it is run again
+/// without the fault, and its outputs replace the first ones. So the outputs and the end are those of the run without a
+/// fault. Returns 0, 9, 14, 2, 7, 8 or 5, as `talft_run` does.
 #[unsafe(no_mangle)]
 pub extern "C" fn talft_recover(
     alloc: Global,
@@ -87,8 +86,8 @@ pub extern "C" fn talft_recover(
     answer.status
 }
 
-/// Writes the bytes of the object that bytes spell in version 2 of the format. The answer is 0; 15
-/// where they find no room; 7 for bytes that spell no object; or 5, out of memory.
+/// Writes the bytes of the object that bytes spell in version 2 of the format. Returns 0; 15 if they do not fit; 7 for
+/// bytes that spell no object; or 5, out of memory.
 #[unsafe(no_mangle)]
 pub extern "C" fn talft_upgrade(
     alloc: Global,
@@ -109,8 +108,8 @@ pub extern "C" fn talft_upgrade(
     written.status
 }
 
-/// Writes the schedule of the object that bytes spell, in version 2 of the format. The answer is 0; 15
-/// where its bytes find no room; 7 or 8 for bytes that are refused; or 5, out of memory.
+/// Writes the schedule of the object that bytes spell, in version 2 of the format. Returns 0; 15 if its bytes do not
+/// fit; 7 or 8 for bytes that are refused; or 5, out of memory.
 #[unsafe(no_mangle)]
 pub extern "C" fn talft_schedule(
     alloc: Global,
@@ -132,8 +131,8 @@ pub extern "C" fn talft_schedule(
     written.status
 }
 
-/// Writes the name of a cell of the object that bytes spell. The answer is 0; 15 where it finds no room;
-/// 7 for bytes that spell no object; or 16 where there is no such cell.
+/// Writes the name of a cell of the object that bytes spell. Returns 0; 15 if it does not fit; 7 for bytes that spell
+/// no object; or 16 if there is no such cell.
 #[unsafe(no_mangle)]
 pub extern "C" fn talft_name(
     bytes: &[u8],

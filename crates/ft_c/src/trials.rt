@@ -9,10 +9,10 @@ use ft_embed::{FaultTotals, FaultVerdict, Refused, campaign};
 use std::alloc::Global;
 
 /// Checks the object that bytes spell, and runs it without a fault and under each fault of a list, each for at most
-/// `steps` steps, which are at most 1,000,000, and with the answers to wild loads that a text says. The list is a text
-/// of lines such as `4:r1:6`. The verdicts go into the array, in the list's order. The answer is 0; 15 where they
-/// find no room; 11 for a list that is refused; 2 for a text that says no answers, or too many steps; 7 or 8 for
-/// bytes that are refused; or 5, out of memory.
+/// `steps` steps, which are at most 1,000,000, and with the answers to wild loads that a text spells. The list is a
+/// text of lines such as `4:r1:6`. The verdicts go into the array, in the list's order. Returns 0; 15 if they do not
+/// fit; 11 for a list that is refused; 2 for a text that spells no answers, or too many steps; 7 or 8 for bytes that
+/// are refused; or 5, out of memory.
 #[unsafe(no_mangle)]
 pub extern "C" fn talft_campaign(
     alloc: Global,

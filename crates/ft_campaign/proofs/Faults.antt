@@ -57,7 +57,7 @@ one_list text xs ys h i = same_faults (lines_of text) xs ys h.lines i.lines
 
 -- ONE REFUSAL
 
--- a line that is no strike's text does not stand before some that are
+-- a line that is not a strike is not among the first, which are
 not_before : (bs cs : List (List ℕ)) (l m : List ℕ) (ps qs : List (List ℕ)) (ys : List Strike) → bs ++ l ∷ ps ≡ cs
     ++ m ∷ qs → AreStrikeTexts cs ys → ((x : Strike) → ¬ (IsStrikeText l x)) → ¬ (length bs < length cs)
 not_before [] [] l m ps qs ys e h bad lt = absurd (omega arith)
@@ -69,7 +69,7 @@ not_before (b ∷ bs) (c ∷ cs) l m ps qs [] e h bad lt = absurd h
 not_before (b ∷ bs) (c ∷ cs) l m ps qs (y ∷ ys) e h bad lt =
     not_before bs cs l m ps qs ys (ap (drop 1) e) h.1 bad (omega arith)
 
--- some line is no strike's text, so the lines are no strikes' texts
+-- some line is not a strike, so the lines are not strikes
 no_texts : (bs : List (List ℕ)) (l : List ℕ) (ps : List (List ℕ)) (ys : List Strike) →
     AreStrikeTexts (bs ++ l ∷ ps) ys → ((x : Strike) → ¬ (IsStrikeText l x)) → ⊥
 no_texts [] l ps [] h bad = absurd h
@@ -143,7 +143,7 @@ exact_list text (Err (Line n)) ok err xs h = absurd (no_error text xs (Line n) (
 exact_list text (Err TooMany) ok err xs h = absurd (no_error text xs TooMany (λ e. cc) h err)
 exact_list text (Err NoMemory) ok err xs h = refl
 
--- a text that is refused has its refusal as the answer, or there is no memory
+-- a text that is refused has its refusal as the result, or there is no memory
 pub exact_error : (text : List ℕ) (r : Result (Vec Strike Global) ListError) → IfOk r (λ v. IsFaultList text v.items) →
     IfErr r (IsListError text) → (e : ListError) → e ≢ NoMemory → IsListError text e →
     MatchResult r (λ v. ⊥) (λ f. (f ≡ e) ⊎ (f ≡ NoMemory))

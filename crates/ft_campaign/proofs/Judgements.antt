@@ -23,7 +23,7 @@ use Rattle.ft_campaign.proofs.Meetings.{has_met}
 pub refuted : {F : Type 0} (b : Bool) → Decides b F → b ≡ false → ¬ F
 refuted b d e f = (let t : b ≡ true = d.1 f in let bad : true ≡ false = sym t ∙ e in cc)
 
--- so many outputs
+-- n outputs
 begun_long : (ys xs : List Output) (at : ℕ) → Begins ys at xs → length xs ≡ at
 begun_long ys xs at h = let few = h.few in ap length h.front ∙ length-take-le at ys few
 
@@ -75,7 +75,7 @@ module _ (o : Object) (x : Strike) (w : List Wild) (n at : ℕ) (status : Status
 cut_front : (xs zs ys : List Output) → xs ++ zs ≡ ys → zs ≡ drop (length xs) ys
 cut_front xs zs ys e = sym (drop-append_seam xs zs) ∙ ap (drop (length xs)) e
 
--- a front and what comes after it begins the whole where the later part begins the rest
+-- a front and what comes after it are a prefix of the whole if the later part is a prefix of the rest
 prefix_both : (ys zs : List Output) (at : ℕ) → IsPrefix zs (drop at ys) → IsPrefix (take at ys ++ zs) ys
 prefix_both ys zs at h = (
   h.0,
@@ -169,7 +169,7 @@ module _ (o : Object) (x : Strike) (w : List Wild) (n at m count : ℕ) (c : Kep
         ),
   )
 
--- outputs that do not begin the others
+-- outputs that are not a prefix of the others
 pub apart_corrupt : (o : Object) (x : Strike) (w : List Wild) (n : ℕ) → is_struck o (Some x) w n ≡ true →
     ¬ (IsPrefix (outputs_after o (Some x) w n) (outputs_after o None w n)) → IsVerdict o x w n verdicts.Corrupt
 apart_corrupt o x w n struck apart = (

@@ -133,7 +133,7 @@ one_or_two (suc zero) some most = inl refl
 one_or_two (suc (suc zero)) some most = inr refl
 one_or_two (suc (suc (suc m))) some most = absurd (omega (arith, most))
 
--- the lengths before one or two steps, of which a second one follows a fetch
+-- the lengths before one or two steps; a second one follows a fetch
 pub lengths_on : (o : Object) (w : List Wild) (k m : ℕ) (s : State) (v : List Wild) (xs : List ℕ) (b : ℕ) → s
     ≡ state_after o None w k → v ≡ wild_after o None w k
     → AreLengths o w k xs → b ≡ length s.queue → 0 < m → m ≤ 2 → (1 < m → s.fetched ≡ None) →

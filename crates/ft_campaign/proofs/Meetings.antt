@@ -1,4 +1,4 @@
--- Runs from a step on, and runs that meet.
+-- Runs from some step, and runs that meet.
 use Rattle.std.proofs.Common.{◌≡◌, ℕ, zero, suc, ◌+◌, ◌-◌, ◌<◌, ◌≤◌, List, [], Some, None, refl, ap, sym, subst, ◌∙◌}
 use Rattle.std.proofs.Common.{arith, add-zero}
 use Rattle.std.proofs.lemmas.List.{append-nil}
@@ -54,7 +54,7 @@ met_by o x w m (suc j) h =
       state = ap (λ (r : Ran). r.state) p ∙ sym (ap (λ (r : Ran). r.state) q);
     }
 
--- the law of meetings: states agree from there on, and so does the rest of the outputs
+-- the law of meetings: states agree from there, and so does the rest of the outputs
 pub has_met : (o : Object) (x : Strike) (w : List Wild) (m n : ℕ) → Meets o x w m → m ≤ n → HasMet o x w m n
 has_met o x w m n h le = subst (HasMet o x w m) (there m n le) (met_by o x w m (n - m) h)
   where

@@ -28,7 +28,7 @@ use Rattle.ft_campaign.specs.Snapshots.{IsRacing, IsMeeting}
 use Rattle.ft_campaign.proofs.Meetings.{spares}
 use Rattle.ft_campaign.proofs.Judgements.{apart_corrupt}
 
--- no end comes before step m, where the run is running just before it
+-- no end comes before step m, if the run is running just before it
 pub end_far : (o : Object) (x : Strike) (w : List Wild) (n i m : ℕ) → status_after o (Some x) w i ≡ Running →
     m ≤ i + 1 → m ≤ n → ((e : ℕ) → Meets o x w e → e < n → m ≤ e) → (e : ℕ) → IsEnd o x w n e → m ≤ e
 end_far o x w n i m running near within unmet e (last is) = omega (arith, within, is)
@@ -47,7 +47,7 @@ unmet_next o x w n s next first unmet e m lt =
     subst (λ k. next ≤ k) (sym is) (first m.kept.0 (subst (λ k. s < k) is (unmet e m lt)) (let le : e ≤ n =
     omega (arith, lt) in subst (λ k. k ≤ n) is le))
 
--- and none there, where it is tested
+-- and none there, if it is tested
 pub unmet_there : (o : Object) (x : Strike) (w : List Wild) (n m : ℕ) → ((e : ℕ) → Meets o x w e → e < n → m ≤ e) →
     (m < n → ¬ (Meets o x w m)) → (e : ℕ) → Meets o x w e → e < n → m < e
 unmet_there o x w n m unmet apart e h lt =
@@ -69,7 +69,7 @@ count_fits o w m n le =
 
 module _ (o : Object) (x : Strike) (w : List Wild) (n s : ℕ) (q : State) (l : List Wild) (at : ℕ)
     (h : IsRacing o x w n s q l at) where
-  -- the run so many steps later
+  -- the run that many steps later
   pub reached : (t : ℕ) → 0 < t → run o (Some x) w (s + t) ≡ joined (outputs_after o (Some x) w s) (span o t q l)
   reached t some =
       let from = h.from in
@@ -180,7 +180,7 @@ module _ (o : Object) (x : Strike) (w : List Wild) (n s : ℕ) (q : State) (l : 
           IsEnd o x w n e → s + t.done ≤ e
       steps_stopped e = let p = subst (λ v. WentSo v o q l whole at new number t.done) e f.went in ends_later p.0
 
-      -- the machine runs on
+      -- the machine is still running
       module _ (on : t.how ≡ On) (some : 0 < number) (m : ℕ) (m_is : m ≡ s + number) where
         went_on : (t.done ≡ number) × Continues whole at new (span o t.done q l).outputs
             × ((span o t.done q l).state.status ≡ Running)
@@ -242,7 +242,7 @@ module _ (o : Object) (x : Strike) (w : List Wild) (n s : ℕ) (q : State) (l : 
           count_is = g.count_is;
         }
 
-        -- no end comes before this place, and where the runs don't meet there, no meeting comes up to it
+        -- no end comes before this place, and if the runs don't meet there, no meeting comes up to it
         pub steps_on : ((e : ℕ) → Meets o x w e → e < n → m ≤ e) → (e : ℕ) → IsEnd o x w n e → m ≤ e
         steps_on unmet = end_far o x w n m m on_running (omega arith) on_within unmet
 

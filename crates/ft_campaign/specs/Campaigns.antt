@@ -1,4 +1,4 @@
--- What a campaign answers and writes.
+-- What a campaign returns and writes.
 use Rattle.std.specs.Prelude.{◌≡◌, ℕ, ◌*◌, ◌<◌, List, length}
 use Rattle.ft_edge.specs.Logs.{SinkLog}
 use Rattle.ft_edge.specs.Lines.{with_lines, BreaksOff}

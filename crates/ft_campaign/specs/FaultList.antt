@@ -7,24 +7,24 @@ use Rattle.ft_text.specs.Lines.{lines_of}
 use Rattle.ft_campaign.specs.declared.fault_list.ListError.{ListError}
 use Rattle.ft_campaign.specs.declared.fault_list.ListError.TheVariants.{Line, TooMany, NoMemory}
 
--- the lines are the texts of these strikes, in turn
+-- the lines spell these strikes, in turn
 abbrev pub AreStrikeTexts : List (List ℕ) → List Strike → Type 0
 AreStrikeTexts lines faults = AllZip IsStrikeText lines faults
 
--- a fault list has at most 4,194,304 bytes and at most 65,536 lines, which are the texts of its strikes
+-- a fault list has at most 4,194,304 bytes and at most 65,536 lines, which spell its strikes
 pub record IsFaultList (text : List ℕ) (faults : List Strike) : Type 0 where
   pub short : length text ≤ 4194304
   pub lines : AreStrikeTexts (lines_of text) faults
   pub few : length faults ≤ 65536
 
--- some lines are the texts of strikes, and another line follows
+-- some lines spell strikes, and another line follows
 pub record GoesOn (lines before : List (List ℕ)) (line : List ℕ) : Type 0 where
   pub faults : List Strike
   pub texts : AreStrikeTexts before faults
   pub after : List (List ℕ)
   pub whole : lines ≡ before ++ line ∷ after
 
--- the line with this number, counted from 1, is the first that is no strike's text
+-- line n, counted from 1, is the first that is not a strike
 pub record IsFirstBad (lines : List (List ℕ)) (number : ℕ) : Type 0 where
   pub before : List (List ℕ)
   pub line : List ℕ
@@ -33,14 +33,14 @@ pub record IsFirstBad (lines : List (List ℕ)) (number : ℕ) : Type 0 where
   pub counted : number ≡ length before + 1
   pub early : number ≤ 65536
 
--- the first 65,536 lines are the texts of strikes, and there are more
+-- the first 65,536 lines spell strikes, and there are more
 pub record IsLong (lines : List (List ℕ)) : Type 0 where
   pub before : List (List ℕ)
   pub line : List ℕ
   pub goes_on : GoesOn lines before line
   pub counted : length before ≡ 65536
 
--- a refusal, in the order in which they come; out of memory says nothing
+-- a refusal, in the order in which they apply; out of memory claims nothing
 abbrev pub IsListError : List ℕ → ListError → Type 0
 IsListError text (Line number) = (length text ≤ 4194304) × IsFirstBad (lines_of text) number
 IsListError text TooMany = (4194304 < length text) ⊎ ((length text ≤ 4194304) × IsLong (lines_of text))

@@ -31,7 +31,7 @@ WentSo On o s w whole old new number done = (done ≡ number) × Continues whole
 WentSo Stopped o s w whole old new number done = (0 < done) × Continues whole old new (span o done s w).outputs × (¬ ((span o done s w).state.status ≡ Running))
 WentSo Apart o s w whole old new number done = (0 < done) × (¬ (IsPrefix (take old whole ++ (span o done s w).outputs) whole))
 
--- some steps were taken beside the outputs of another run, of which the first `old` had been passed
+-- some steps were taken beside the outputs of another run, the first `old` of which had been passed
 pub record Follows (o : Object) (s : State) (w : List Wild) (s' : State) (w' : List Wild) (whole : List Output) (old new number : ℕ) (t : Followed) : Type 0 where
   pub few : t.done ≤ number
   pub state_is : s' ≡ (span o t.done s w).state
@@ -39,7 +39,7 @@ pub record Follows (o : Object) (s : State) (w : List Wild) (s' : State) (w' : L
   pub running : (j : ℕ) → j < t.done → (span o j s w).state.status ≡ Running
   pub went : WentSo t.how o s w whole old new number t.done
 
--- how steps went that ended so
+-- how steps went, by how they ended
 abbrev pub how_of : Pause → How
 how_of pause.Running = On
 how_of pause.Done = Stopped

@@ -29,13 +29,13 @@ pub data IsEnd (o : Object) (x : Strike) (w : List Wild) (n e : ℕ) : Type 0 wh
 abbrev pub first : Strike → ℕ
 first x = 1024 * (x.step / 1024)
 
--- what a fault may cost in steps: nothing where it strikes nothing, and else the way from its snapshot to an end, so
--- to the least of the ends
+-- what a fault may cost in steps: 0 if it strikes nothing, else the steps from its snapshot to some end, such as the
+-- first
 pub data IsCost (o : Object) (w : List Wild) (n : ℕ) (x : Strike) (c : ℕ) : Type 0 where
   idle : is_struck o (Some x) w n ≡ false → IsCost o w n x c
   upto : (e : ℕ) → IsEnd o x w n e → c ≡ e - first x → IsCost o w n x c
 
--- what two runs that meet after m steps come to after n
+-- what two runs that meet after m steps become after n
 pub record HasMet (o : Object) (x : Strike) (w : List Wild) (m n : ℕ) : Type 0 where
   pub rest : List Output
   pub struck : outputs_after o (Some x) w n ≡ outputs_after o (Some x) w m ++ rest
@@ -66,12 +66,12 @@ pub record IsClean (o : Object) (w : List Wild) (n : ℕ) (c : KeptRun) : Type 0
   pub within : upto ≤ n
   pub past : (i : ℕ) → upto ≤ i → i < n → ¬ (status_after o None w i ≡ Running)
 
--- what was put so far begins all outputs
+-- what was put so far is a prefix of all outputs
 pub record Begins (whole : List Output) (at : ℕ) (so_far : List Output) : Type 0 where
   pub front : so_far ≡ take at whole
   pub few : at ≤ length whole
 
--- a struck run that has come to its last step, with outputs that begin the other's
+-- a struck run that has reached its last step, with outputs that are a prefix of the other's
 pub record HasEnded (o : Object) (x : Strike) (w : List Wild) (n at : ℕ) (status : Status) (last : ℕ) : Type 0 where
   pub struck : is_struck o (Some x) w n ≡ true
   pub begins : Begins (outputs_after o None w n) at (outputs_after o (Some x) w n)
@@ -79,7 +79,7 @@ pub record HasEnded (o : Object) (x : Strike) (w : List Wild) (n at : ℕ) (stat
   pub running : status ≡ Detected → status_after o (Some x) w last ≡ Running
   pub detected : status ≡ Detected → status_after o (Some x) w (last + 1) ≡ Detected
 
--- a struck run that meets the other after m steps, with outputs that begin the other's
+-- a struck run that meets the other after m steps, with outputs that are a prefix of the other's
 pub record IsAtMeeting (o : Object) (x : Strike) (w : List Wild) (n at m count : ℕ) : Type 0 where
   pub struck : is_struck o (Some x) w n ≡ true
   pub begins : Begins (outputs_after o None w n) at (outputs_after o (Some x) w m)
@@ -88,8 +88,8 @@ pub record IsAtMeeting (o : Object) (x : Strike) (w : List Wild) (n at m count :
   pub running : status_after o None w m ≡ Running
   pub count_is : count ≡ length (outputs_after o None w m)
 
--- a machine is in the struck run after s steps, past the strike, with outputs that begin the other's, and the runs have
--- not met up to there
+-- a machine is in the struck run after s steps, past the strike, with outputs that are a prefix of the other's, and the
+-- runs have not met up to there
 pub record IsRacing (o : Object) (x : Strike) (w : List Wild) (n s : ℕ) (machine : State) (left : List Wild) (at : ℕ) : Type 0 where
   pub state : machine ≡ struck_before (Some x) s (state_after o (Some x) w s)
   pub wild : left ≡ wild_after o (Some x) w s
@@ -99,7 +99,7 @@ pub record IsRacing (o : Object) (x : Strike) (w : List Wild) (n s : ℕ) (machi
   pub within : s ≤ n
   pub unmet : (e : ℕ) → Meets o x w e → e < n → s < e
 
--- the number of outputs of the run without a fault where the other one meets it after s steps
+-- the number of outputs of the run without a fault if the other run meets it after s steps
 pub record IsMeeting (o : Object) (x : Strike) (w : List Wild) (s count : ℕ) : Type 0 where
   pub kept : (j : ℕ) × (s ≡ 1024 * j)
   pub state : state_after o (Some x) w s ≡ state_after o None w s

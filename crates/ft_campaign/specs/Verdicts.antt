@@ -14,7 +14,7 @@ use Rattle.ft_campaign.specs.declared.verdict.Verdict.TheVariants as verdicts
 abbrev pub IsSame : Object → Strike → List Wild → ℕ → Type 0
 IsSame o x w n = (outputs_after o (Some x) w n ≡ outputs_after o None w n) × (status_after o (Some x) w n ≡ status_after o None w n)
 
--- the struck run is detected, and its outputs begin the other's
+-- the struck run is detected, and its outputs are a prefix of the other's
 abbrev pub IsNoticed : Object → Strike → List Wild → ℕ → Type 0
 IsNoticed o x w n = (status_after o (Some x) w n ≡ Detected) × IsPrefix (outputs_after o (Some x) w n) (outputs_after o None w n)
 

@@ -13,6 +13,6 @@ pub enum CampaignEnd {
     },
     /// A line could not be written.
     WriteFault,
-    /// There was no memory left. Nothing was written.
+    /// Memory ran out. Nothing was written.
     NoMemory,
 }

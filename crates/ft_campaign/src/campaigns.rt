@@ -17,14 +17,14 @@ use ft_types::Program;
 use std::alloc::Global;
 use std::sync::ledger::Ledger;
 
-/// The most that the number of faults times the number of steps may be.
+/// The maximum of the number of faults times the number of steps.
 const PRODUCT_LIMIT: u64 = 1_000_000_000;
 
-/// Takes the run of a program without a fault and its run under each fault, each for at most `n` steps
-/// and with the same answers to wild loads. Puts a line of the verdict of each fault, in the list's
-/// order, and then a line of the totals. `steps` counts the machine's steps. `TooMuch` comes exactly
-/// when the number of faults times `n` is above 1,000,000,000; it and `NoMemory` put nothing.
-/// `WriteFault` comes only where a put failed, and nothing is put after it.
+/// Takes the run of a program without a fault and its run under each fault, each for at most `n` steps and with the
+/// same answers to wild loads. Writes a line for the verdict of each fault, in the list's order, and then a line of the
+/// totals. `steps` counts the machine's steps. `TooMuch` is returned exactly if the number of faults times `n` is above
+/// 1,000,000,000; with it and with `NoMemory` nothing was put. `WriteFault` is returned only if a put failed, and
+/// nothing is put after it.
 pub fn survey<P: Program, K: Sink, L: Ledger>(
     alloc: Global,
     program: &P,
@@ -57,8 +57,7 @@ pub fn survey<P: Program, K: Sink, L: Ledger>(
     }
 }
 
-/// As `survey`, on an accepted program: no verdict is `Corrupt`, and the run without a fault is never
-/// detected.
+/// Like `survey`, on an accepted program: no verdict is `Corrupt`, and the run without a fault is never detected.
 pub fn campaign<'a, P: Program, K: Sink, L: Ledger>(
     alloc: Global,
     checked: &Checked<'a, P>,

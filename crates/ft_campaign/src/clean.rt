@@ -14,7 +14,7 @@ use ft_isa::{Output, Site, Strike};
 use ft_machine::{Machine, WildLeft};
 use ft_semantics::Status;
 
-/// How many steps lie between one snapshot and the next.
+/// How many steps there are from one snapshot to the next.
 pub(crate) const SPACING: u64 = 1024;
 
 /// The run without a fault after some steps.
@@ -37,13 +37,13 @@ pub(crate) struct KeptRun<'w> {
     pub(crate) lengths: Vec<u8>,
     /// A snapshot at each multiple of 1,024 before a step of the running machine.
     pub(crate) snapshots: Vec<Snapshot<'w>>,
-    /// How it stood after its last step.
+    /// Its status after its last step.
     pub(crate) status: Status,
-    /// The number of the step at which it stopped, where it did.
+    /// The number of the step at which it stopped, if it did.
     pub(crate) last: u64,
 }
 
-/// Whether outputs after the first `from` begin those after the first `at`.
+/// Whether outputs after the first `from` are a prefix of those after the first `at`.
 fn is_noticed_later(outputs: &[Output], from: usize, at: usize) -> bool
     requires from { from ≤ length outputs.now }
     requires at { at ≤ length outputs.now }
@@ -52,7 +52,7 @@ fn is_noticed_later(outputs: &[Output], from: usize, at: usize) -> bool
     outputs[at..].starts_with(&outputs[from..])
 }
 
-/// Whether a run stands detected.
+/// Whether a run is detected.
 fn is_detected(status: Status) -> bool
     ensures { Decides result (status ≡ Status.Detected) }
 {
@@ -63,7 +63,7 @@ fn is_detected(status: Status) -> bool
     }
 }
 
-/// Whether a site is there beside a queue of so many entries.
+/// Whether a site exists beside a queue with this many entries.
 fn is_site(site: Site, entries: u8) -> bool
     ensures { result ≡ is_site site entries }
 {
@@ -88,7 +88,7 @@ impl<'w> KeptRun<'w> {
         }
     }
 
-    /// Whether a run with the first `at` outputs and this status ends as this one.
+    /// Whether a run with the first `at` outputs and this status ends like this one.
     fn ends_alike(&self, at: usize, status: Status) -> bool
         ensures { Decides result ((status ≡ self.now.status) × (at ≡ length self.now.outputs.items)) }
     {
@@ -98,7 +98,7 @@ impl<'w> KeptRun<'w> {
         at == self.outputs.len()
     }
 
-    /// The verdict on a struck run that came to its last step, with outputs that are the first `at`.
+    /// The verdict on a struck run that reached its last step, with the first `at` outputs.
     pub(crate) fn verdict_at_end(&self, at: usize, status: Status, last: u64) -> Verdict
         ensures { (o : Object) (x : Fault) (w : List Answer) (n : ℕ) → IsClean o w n self.now → HasEnded o x w n at status last → IsVerdict o x w n result }
     {
@@ -111,8 +111,7 @@ impl<'w> KeptRun<'w> {
         Verdict::Corrupt
     }
 
-    /// Whether the run stands detected, and its outputs after the first `from` begin those after the
-    /// first `at`.
+    /// Whether the run is detected, and its outputs after the first `from` are a prefix of those after the first `at`.
     fn is_noticed(&self, from: usize, at: usize) -> bool
         requires from { from ≤ length self.now.outputs.items }
         requires at { at ≤ length self.now.outputs.items }
@@ -124,8 +123,7 @@ impl<'w> KeptRun<'w> {
         is_noticed_later(self.outputs.as_slice(), from, at)
     }
 
-    /// The verdict on a struck run that met this one, with outputs that are the first `at`, where this
-    /// one had `count`.
+    /// The verdict on a struck run that met this one, with the first `at` outputs, when this one had `count`.
     pub(crate) fn verdict_at_meeting(&self, at: usize, count: usize) -> Verdict
         requires at { at ≤ length self.now.outputs.items }
         requires count { count ≤ length self.now.outputs.items }

@@ -15,7 +15,7 @@ use ft_types::Program;
 use std::alloc::Global;
 use std::sync::ledger::Ledger;
 
-/// Where the run is: its machine, the answers left, and the number of its outputs.
+/// The state of the run: its machine, the answers left, and the number of its outputs.
 #[derive(Clone, Copy)]
 struct Moment<'a, 'w> {
     machine: &'a Machine,
@@ -47,7 +47,7 @@ fn snapshot_of<'w, P: Program>(
     })
 }
 
-/// Keeps a snapshot before step `k`, where one is due.
+/// Keeps a snapshot before step `k`, if one is due.
 fn keep_snapshot<'w, P: Program>(
     alloc: Global,
     program: &P,
@@ -73,8 +73,8 @@ fn keep_snapshot<'w, P: Program>(
     Ok(())
 }
 
-/// How many steps are taken at once before the step with number `n`: both of an instruction where nothing is fetched and no
-/// snapshot is due in between, and else one. `kept` is the number of snapshots.
+/// How many steps are taken at once before the step with number `n`: both of an instruction if nothing is fetched and
+/// no snapshot is due in between, else one. `kept` is the number of snapshots.
 fn steps_at_once(machine: &Machine, k: u64, n: u64, kept: usize) -> u64
     requires before { k < n }
     requires kept { k < 1024 * kept }

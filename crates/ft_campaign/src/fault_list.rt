@@ -8,24 +8,24 @@ use ft_text::read_line;
 use std::alloc::Global;
 use thiserror::Error;
 
-/// Why a text is no fault list.
+/// Why a text is not a fault list.
 #[derive(Clone, Copy, Debug, PartialEq, Eq, Error)]
 pub enum ListError {
-    /// The line with this number, counted from 1, is no strike's text.
+    /// The line with this number, counted from 1, is not a strike.
     #[error("line {number} is no strike")]
     Line { number: u32 },
     /// The text has more than 4,194,304 bytes or more than 65,536 lines.
     #[error("too many faults")]
     TooMany,
-    /// There was no memory left.
+    /// Memory ran out.
     #[error("out of memory")]
     NoMemory,
 }
 
-/// The most bytes of a fault list.
+/// The maximum bytes of a fault list.
 const BYTE_LIMIT: usize = 4_194_304;
 
-/// The most lines of a fault list.
+/// The maximum lines of a fault list.
 const LINE_LIMIT: usize = 65_536;
 
 /// Reads the lines of a text of at most `BYTE_LIMIT` bytes.
@@ -51,15 +51,14 @@ fn read_lines(alloc: Global, bytes: &[u8]) -> Result<Vec<Strike>, ListError>
     Ok(faults)
 }
 
-/// Reads a fault list: a text of lines, each the text of a strike, `K:SITE:V`, with a line feed at its
-/// end; the last line may lack it. The empty text is the empty list. `TooMany` comes first where there
-/// are more than 4,194,304 bytes; then `Line` for the first of the first 65,536 lines that is no
-/// strike's text; then `TooMany` where there are more lines.
+/// Reads a fault list: a text of lines, each a strike, `K:SITE:V`, with a line feed at its end; the last line may lack
+/// it. The empty text is the empty list. `TooMany` comes first if there are more than 4,194,304 bytes; then `Line` for
+/// the first of the first 65,536 lines that is not a strike; then `TooMany` if there are more lines.
 pub fn read_faults(alloc: Global, bytes: &[u8]) -> Result<Vec<Strike>, ListError>
     ensures ok { IfOk result (λ faults. IsFaultList bytes.now faults.items) }
     ensures err { IfErr result (IsListError bytes.now) }
 
-    // A fault list is read as its faults, and a text that is refused as its refusal.
+    // A fault list is read as its faults, and any other text as its refusal.
     ensures exact { (faults : List Fault) → IsFaultList bytes.now faults → MatchResult result (λ read. read.items ≡ faults) (λ e. e ≡ ListError.NoMemory) }
     ensures exact_err { (error : ListError) → error ≢ ListError.NoMemory → IsListError bytes.now error → MatchResult result (λ read. ⊥) (λ e. (e ≡ error) ⊎ (e ≡ ListError.NoMemory)) }
 {

@@ -14,7 +14,7 @@ use std::sync::ledger::Ledger;
 /// How some steps of a struck run went.
 #[derive(Clone, Copy)]
 pub(crate) enum How {
-    /// The machine runs on.
+    /// The machine is still running.
     On,
     /// The machine has stopped.
     Stopped,
@@ -29,7 +29,7 @@ pub(crate) struct Followed {
     pub(crate) how: How,
 }
 
-/// Whether an output is the one at a place of others; then the place is behind it.
+/// Whether an output is the one at a place of others; then the place moves past it.
 fn is_next(whole: &[Output], at: &mut usize, output: Output) -> bool
     requires { at.old ≤ length whole.now }
     ensures heeds { Heeds result whole.now at.old at.new (output ∷ []) }
@@ -48,7 +48,7 @@ fn is_next(whole: &[Output], at: &mut usize, output: Output) -> bool
     }
 }
 
-/// The outputs of the run without a fault, of which the struck run has put the first ones. It does not go on after an
+/// The outputs of the run without a fault, the first ones of which the struck run has put. It does not go on after an
 /// output that is not the next of them.
 #[derive(Drop)]
 pub(crate) struct Expected<'a> {
@@ -71,7 +71,7 @@ impl<'a> Outlet for Expected<'a> {
     }
 }
 
-/// How steps went that ended so.
+/// How steps went, by how they ended.
 fn how_of(pause: Pause) -> How
     ensures { result ≡ how_of pause }
 {
@@ -129,7 +129,7 @@ impl Outlet for OutputCount {
     }
 }
 
-/// Takes some steps, after which the machine still runs, and counts their outputs.
+/// Takes some steps after which the machine is still running, and counts their outputs.
 pub(crate) fn count_outputs<P: Program, L: Ledger>(
     machine: &mut Machine,
     program: &P,

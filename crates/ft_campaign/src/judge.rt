@@ -37,7 +37,7 @@ fn judge_fault<'w, P: Program, L: Ledger>(
     if !clean.is_struck(fault) {
         return Verdict::Idle;
     }
-    // The length of a vector has a bound, by which the sum of the counts fits.
+    // The length of a vector is bounded, so the sum of the counts fits.
     let _limit = clean.outputs.len();
     let snapshots = clean.snapshots.as_slice();
     let snapshot = &snapshots[(fault.step / SPACING) as usize];

@@ -1,4 +1,4 @@
-//! Laws of verdicts and of fault lists, over the definitions alone. Each function does nothing: its
+//! Laws of verdicts and of fault lists, over the definitions only. Each function does nothing: its
 //! clauses are the law.
 ghost use Rattle.std.specs.Prelude.{◌≡◌, ◌≢◌, ◌≤◌, ℕ, List};
 ghost use Rattle.ft_isa.specs.declared.plan.Strike.{Strike};
@@ -24,14 +24,14 @@ pub fn verdicts_are_one()
     ensures { (o : Object) (x : Strike) (w : List Wild) (n : ℕ) (u v : Verdict) → IsVerdict o x w n u → IsVerdict o x w n v → u ≡ v }
 {}
 
-/// A text is at most one fault list, has at most one refusal beside out of memory, and never both.
+/// A text is at most one fault list, has at most one refusal besides out of memory, and never both.
 pub fn one_text_has_one_list()
     ensures list { (text : List ℕ) (xs ys : List Strike) → IsFaultList text xs → IsFaultList text ys → xs ≡ ys }
     ensures refusal { (text : List ℕ) (e f : ListError) → e ≢ NoMemory → f ≢ NoMemory → IsListError text e → IsListError text f → e ≡ f }
     ensures either { (text : List ℕ) (xs : List Strike) (e : ListError) → e ≢ NoMemory → IsFaultList text xs → ¬ (IsListError text e) }
 {}
 
-/// Where two runs meet, they come to the same state, and the rest of their outputs is the same.
+/// If two runs meet, they reach the same state, and the rest of their outputs is the same.
 pub fn runs_that_meet_stay_together()
     ensures { (o : Object) (x : Strike) (w : List Wild) (m n : ℕ) → Meets o x w m → m ≤ n → HasMet o x w m n }
 {}

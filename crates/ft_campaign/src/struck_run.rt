@@ -1,4 +1,4 @@
-//! A struck run, from its strike on.
+//! A struck run, from its strike.
 ghost use Rattle.std.specs.Prelude.{◌≡◌, ◌≤◌, ◌<◌, ◌+◌, ◌-◌, ◌*◌, ℕ, List, length, Decides, IfSome, IfNone, true, None, Some};
 ghost use Rattle.ft_isa.specs.declared.plan.Strike.{Strike as Fault};
 ghost use Rattle.ft_isa.specs.declared.plan.Wild.{Wild as Answer};
@@ -72,7 +72,7 @@ fn is_here(snapshot: &Snapshot, machine: &Machine, left: &WildLeft) -> bool
     same_answers(left, &snapshot.wild)
 }
 
-/// The number of outputs of the run without a fault, where the struck run meets it after step `s`.
+/// The number of outputs of the run without a fault, if the struck run meets it after step `s`.
 fn meeting(clean: &KeptRun, s: u64, machine: &Machine, left: &WildLeft) -> Option<usize>
     ensures some { (o : Object) (x : Fault) (w : List Answer) (n : ℕ) → IsClean o w n clean.now → machine.now ≡ state_after o (Some x) w s
         → left.now ≡ wild_after o (Some x) w s → IfSome result (IsMeeting o x w s) }

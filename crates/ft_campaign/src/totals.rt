@@ -7,7 +7,7 @@ use crate::verdict::Verdict;
 /// How many faults have each verdict: 65,536 at most in all.
 #[derive(Clone, Copy, Debug, PartialEq, Eq)]
 pub struct Totals {
-    /// Faults that did nothing that is seen.
+    /// Faults without a visible effect.
     pub masked: u32,
     /// Faults that were detected.
     pub detected: u32,

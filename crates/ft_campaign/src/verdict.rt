@@ -7,7 +7,7 @@ pub enum Verdict {
     Idle,
     /// Outputs and status are those of the run without it.
     Masked,
-    /// The run stopped at the fault, and its outputs begin those of the run without it.
+    /// The run detected the fault and stopped, and its outputs are a prefix of those of the run without it.
     Detected {
         /// The number of the step that detected it, counted from 0.
         at: u64,

@@ -6,7 +6,7 @@ use Rattle.std.proofs.Math.Nat.{mul-le-mul_left, mul-le-mul_right}
 use Rattle.std.proofs.lemmas.List.{take_more}
 use Rattle.std.proofs.lemmas.Option.{get_or_from_slice_get, slice_get_within}
 use Rattle.ft_isa.specs.declared.instr.Instr.{Instr}
-use Rattle.ft_isa.specs.declared.instr.Instr.TheVariants.{OpReg, OpWord, Mov, Ld, St, JmpG, JmpB, BzG, BzB, Halt, Idx}
+use Rattle.ft_isa.specs.declared.instr.Instr.TheVariants.{Ld, JmpB, BzB}
 use Rattle.ft_static.specs.Form.{updates}
 use Rattle.ft_types.specs.declared.object.Object.{Object}
 use Rattle.ft_types.specs.declared.object.Block.{Block}
@@ -36,19 +36,12 @@ start_within o s t h = let a = trees_within o 81 0 (omega arith) (omega arith) i
 pub rule_within : (o : Object) (k : Context) (i : Instr) → updates k.memory ≤ length o.nodes + length o.instrs →
     length k.queue ≤ 8 → rule_cost o k i ≤ transfers i * visit_cost o + walk_cost o
 unfolding walk_cost
-rule_within o k (OpReg op rd rs rt) m q = omega arith
-rule_within o k (OpWord op rd rs value) m q = omega arith
-rule_within o k (Mov rd value basic) m q = omega arith
 rule_within o k (Ld colour rd rs) m q = omega (arith, m, q)
-rule_within o k (St colour rd rs) m q = omega arith
-rule_within o k (JmpG rd) m q = omega arith
 rule_within o k (JmpB rd subst) m q = let a = trees_within o 210 (length o.nodes) (omega arith) (omega arith) in
     omega (arith, a)
-rule_within o k (BzG rz rd) m q = omega arith
 rule_within o k (BzB rz rd subst) m q = let a = trees_within o 210 (length o.nodes) (omega arith) (omega arith) in
     omega (arith, a)
-rule_within o k Halt m q = omega arith
-rule_within o k (Idx rd rs first count) m q = omega arith
+rule_within o k i m q = omega arith
 
 -- one instruction more
 cost_push : (o : Object) (is : List Instr) (i : Instr) → instrs_cost o (is ++ i ∷ [])

@@ -216,7 +216,7 @@ refusal_rest o t e h = rw (e, h) refl
 pub type_found : (o : Object) (b : ℕ) (x : Block) → slice_get o.blocks b ≡ Some x → block_type o b ≡ x.code_type
 type_found o b x f = ap (λ (y : Option Block). unwrap_or (option_map code_type_of y) 0) f
 
--- a start stays one where the list of forms grows
+-- a start stays one if the list of forms grows
 pub start_kept : (o : Object) (fs gs : List Normal) (s : Start) → Keeps fs gs → IsStart o fs s → IsStart o gs s
 start_kept o fs gs s k h =
     let e = context_stays fs gs s.context k h.held in

@@ -1,22 +1,14 @@
 -- The most steps that a check takes.
 use Rattle.std.specs.Prelude.{ℕ, ◌+◌, ◌*◌, List, [], ◌∷◌, length}
 use Rattle.ft_isa.specs.declared.instr.Instr.{Instr}
-use Rattle.ft_isa.specs.declared.instr.Instr.TheVariants.{OpReg, OpWord, Mov, Ld, St, JmpG, JmpB, BzG, BzB, Halt, Idx}
+use Rattle.ft_isa.specs.declared.instr.Instr.TheVariants.{JmpB, BzB}
 use Rattle.ft_types.specs.declared.object.Object.{Object}
 
 -- 1 for a blue jump or branch
 abbrev pub transfers : Instr → ℕ
-transfers (OpReg op rd rs rt) = 0
-transfers (OpWord op rd rs value) = 0
-transfers (Mov rd value basic) = 0
-transfers (Ld colour rd rs) = 0
-transfers (St colour rd rs) = 0
-transfers (JmpG rd) = 0
 transfers (JmpB rd subst) = 1
-transfers (BzG rz rd) = 0
 transfers (BzB rz rd subst) = 1
-transfers Halt = 0
-transfers (Idx rd rs first m) = 0
+transfers i = 0
 
 -- how many blue jumps and branches there are
 abbrev pub transfer_count : List Instr → ℕ
@@ -40,7 +32,7 @@ check_cost o = (most_visits o + 9 * length o.instrs) * (1 + most_updates o)
 unfoldable pub visit_cost : Object → ℕ
 visit_cost o = 210 * length o.nodes * (1 + most_updates o)
 
--- the most steps for an instruction beside its nodes
+-- the most steps for an instruction apart from its nodes
 unfoldable pub walk_cost : Object → ℕ
 walk_cost o = 9 * (1 + most_updates o)
 

@@ -1,4 +1,4 @@
--- What the answers of the checker say of an object.
+-- What the results of the checker say about an object.
 use Rattle.std.specs.Prelude.{◌≡◌, ◌≤◌, ℕ, List, length, Bool, true, false, Option, Some, None, Result, Ok, Err}
 use Rattle.ft_typing.specs.Accepted.{Refusal, IsAccepted}
 use Rattle.ft_types.specs.Spellable.{IsSpellable}
@@ -21,33 +21,33 @@ IsRefusalOf x (CellType k) = x ≡ Some (refusals.CellType k)
 IsRefusalOf x (Refused b i why) = x ≡ Some (refusals.Refused b i why)
 IsRefusalOf x NoMemory = Unit {0}
 
--- what an answer says: nothing is refused, or this is
+-- what a result says: nothing is refused, or this is
 abbrev pub Judges : {A : Type 0} → Option Refusal → Result A CheckError → Type 0
 Judges x (Ok a) = x ≡ None
 Judges x (Err e) = IsRefusalOf x e
 
--- what an error of an instruction says of what the walk of its block gives from there, at instruction k, on
+-- what an error of an instruction says about the walk of its block from instruction k
 abbrev pub StopsAt : Option (ℕ × Premise) → ℕ → RuleError → Type 0
 StopsAt x k (rule.Refused why) = x ≡ Some (k, why)
 StopsAt x k rule.NoMemory = Unit {0}
 
--- what it says whether the block has ended: the walk refuses nothing, or it goes on
+-- what `true` and `false` say: the block has ended and the walk refuses nothing, or the walk continues
 abbrev pub HasEnded : Option (ℕ × Premise) → Option (ℕ × Premise) → Bool → Type 0
 HasEnded x later true = x ≡ None
 HasEnded x later false = x ≡ later
 
--- what the answer of one turn of a block says of what the walk of the block gives from instruction k on
+-- what the result of one turn of a block says about the walk of the block from instruction k
 abbrev pub Turns : Option (ℕ × Premise) → ℕ → Option (ℕ × Premise) → Result Bool RuleError → Type 0
 Turns x k later (Ok ended) = HasEnded x later ended
 Turns x k later (Err e) = StopsAt x k e
 
--- what a checked program keeps: its object obeys the rules of its tables, and is accepted
+-- the invariant of a checked program: its object obeys the rules of its tables, and is accepted
 pub record IsChecked (o : Object) : Type 0 where
   pub spellable : IsSpellable o
   pub accepted : IsAccepted o
 
--- the context of a start is where the blocks of its code type begin: its forms are held, its code types are the object's,
--- its queue has at most 8 pairs, and its memory at most as many updates as there are nodes
+-- the context of a start is the one where the blocks of its code type begin: its forms are held, its code types are the
+-- object's, its queue has at most 8 pairs, and its memory at most as many updates as there are nodes
 pub record IsStart (o : Object) (fs : List Normal) (s : Start) : Type 0 where
   pub context : context_in fs s.context ≡ start_context o s.code_type
   pub held : HoldsForms fs s.context
@@ -55,7 +55,7 @@ pub record IsStart (o : Object) (fs : List Normal) (s : Start) : Type 0 where
   pub pending : pending_count s.context ≤ 8
   pub count : updates (context_in fs s.context).memory ≤ length o.nodes
 
--- a start is there, and it is of code type t
+-- a start exists, and it is of code type t
 abbrev pub IsStartOf : ℕ → Option Start → Type 0
 IsStartOf t None = ⊥
 IsStartOf t (Some s) = s.code_type ≡ t

@@ -21,11 +21,11 @@ use crate::keys::keys_of;
 use ft_isa::{Instr, NoMemory, Steps};
 use ft_norm::Interner;
 use ft_rules::{Context, Next, RuleError, Shared, Why, apply_rule_over};
-use ft_types::Program;
+use ft_types::{Program, end_of};
 use std::alloc::Global;
 use std::sync::ledger::Ledger;
 
-/// Types one instruction, which is the last of its block or not. Answers whether the block has ended.
+/// Types one instruction, which is the last of its block or not. Returns whether the block has ended.
 fn turn<P: Program, L: Ledger>(
     context: &mut Context,
     shared: &mut Shared,
@@ -66,20 +66,7 @@ fn turn<P: Program, L: Ledger>(
     }
 }
 
-/// Where block `b` ends: where the next block begins, or after the last instruction.
-fn end_of<P: Program>(program: &P, b: u32) -> u32
-    requires spellable { IsSpellable (P.object program.now) }
-    requires there { b < length (P.object program.now).blocks }
-    ensures { result ≡ block_end (P.object program.now) b }
-{
-    let counts = program.counts();
-    if b + 1 < counts.blocks {
-        return program.block(b + 1).start;
-    }
-    counts.instrs
-}
-
-/// What is answered for an instruction that does not type.
+/// The result for an instruction that does not type.
 fn refused(block: u32, index: u32, error: RuleError) -> CheckError
     ensures { (x : Option (ℕ × Premise)) → StopsAt x index error → IsRefusalOf (option_map (λ r. Refused block r.0 r.1) x) result }
 {
@@ -106,8 +93,7 @@ fn is_start_of(last: &Option<Start>, t: u32) -> bool
     }
 }
 
-/// Makes the start of code type `t` in the place of the last start that was made, where that is of
-/// another code type.
+/// Makes the start of code type `t` in place of the last start that was made, if that is of another code type.
 fn renew<P: Program, L: Ledger>(
     last: &mut Option<Start>,
     alloc: Global,
@@ -139,8 +125,8 @@ fn renew<P: Program, L: Ledger>(
     Ok(())
 }
 
-/// Types the instructions of block `b` in turn, from the start of its code type. The context is the one that is changed
-/// for this block, whatever it was.
+/// Types the instructions of block `b` in turn, from the start of its code type. The context is changed for this block,
+/// whatever it was.
 fn check_block<P: Program, L: Ledger>(
     program: &P,
     b: u32,

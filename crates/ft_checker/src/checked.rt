@@ -7,7 +7,7 @@ ghost use Rattle.ft_checker.specs.Judges.{IsChecked};
 use ft_types::Program;
 use std::marker::Model;
 
-/// A program that is accepted: `check` found it so, or it is known where it was made.
+/// A program that is accepted: `check` found this, or it is known where the program was made.
 #[derive(Drop)]
 pub struct Checked<'a, P: Program> {
     pub(crate) program: &'a P,
@@ -26,7 +26,7 @@ impl<'a, P: Program> Model for Checked<'a, P> {
 }
 
 impl<'a, P: Program> Checked<'a, P> {
-    /// A program that is known to be accepted. Nothing is checked.
+    /// Wraps a program already known to be accepted, without checking it.
     pub fn of_accepted(program: &'a P) -> Checked<'a, P>
         requires spellable { IsSpellable (P.object program.now) }
         requires accepted { IsAccepted (P.object program.now) }

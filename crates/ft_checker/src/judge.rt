@@ -1,5 +1,5 @@
 //! The whole check.
-ghost use Rattle.std.specs.Prelude.{◌≡◌, ◌+◌, ◌≤◌, IfOk};
+ghost use Rattle.std.specs.Prelude.{◌≡◌, ◌+◌, ◌<◌, ◌≤◌, IfOk};
 ghost use Rattle.ft_typing.specs.Accepted.{refusal};
 ghost use Rattle.ft_types.specs.Spellable.{IsSpellable};
 ghost use Rattle.ft_checker.specs.Costs.{check_cost};
@@ -13,9 +13,10 @@ use crate::error::CheckError;
 use ft_isa::Steps;
 use ft_types::Program;
 use std::alloc::Global;
-use std::sync::ledger::Ledger;
+use std::marker::Brand;
+use std::sync::ledger::{Blank, Ledger};
 
-/// Tries the entry block's code type, then the cells, then the blocks.
+/// Tests the entry block's code type, then the cells, then the blocks.
 fn judge<P: Program, L: Ledger>(
     alloc: Global,
     program: &P,
@@ -34,10 +35,10 @@ fn judge<P: Program, L: Ledger>(
     check_blocks(alloc, program, steps)
 }
 
-/// Checks a program. Ok comes exactly when its object is accepted. Otherwise the error is exactly the
-/// refusal: `EntryType`, then the lowest cell with `CellType`, then the first instruction that is
-/// refused, by blocks in order. It counts a step for each node that is handled, for each update that a
-/// walk of `sel` passes, and for each update that is applied for a pending memory.
+/// Checks a program. Ok is returned exactly if its object is accepted. Otherwise the error is exactly the refusal:
+/// `EntryType`, then the lowest cell with `CellType`, then the first instruction that is refused, by blocks in order.
+/// It counts a step for each node that is handled, for each update that a walk of `sel` passes, and for each update
+/// that is applied for a pending memory.
 pub fn check<'a, P: Program, L: Ledger>(
     alloc: Global,
     program: &'a P,
@@ -52,4 +53,33 @@ pub fn check<'a, P: Program, L: Ledger>(
         Ok(()) => Ok(Checked { program }),
         Err(error) => Err(error),
     }
+}
+
+/// Checks a program, with steps counted from 0.
+fn check_from_0<'a, P: Program, L: Ledger>(
+    alloc: Global,
+    program: &'a P,
+    blank: Blank,
+) -> Result<Checked<'a, P>, CheckError>
+    requires name { blank.name ≡ L.name }
+    requires parts { blank.parts ≡ L.parts }
+    requires some { 0 < L.parts }
+    requires spellable { IsSpellable (P.object program.now) }
+    ensures judged { Judges (refusal (P.object program.now)) result }
+    ensures program { IfOk result (λ k. k ≡ program.now) }
+{
+    let mut steps = Steps::<L>::new(blank);
+    check(alloc, program, &mut steps)
+}
+
+/// The same check, for callers that count no steps.
+pub fn check_uncounted<'a, P: Program>(
+    alloc: Global,
+    program: &'a P,
+) -> Result<Checked<'a, P>, CheckError>
+    requires { IsSpellable (P.object program.now) }
+    ensures judged { Judges (refusal (P.object program.now)) result }
+    ensures program { IfOk result (λ k. k ≡ program.now) }
+{
+    check_from_0::<P, Brand>(alloc, program, Blank::new(1))
 }

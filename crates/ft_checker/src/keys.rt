@@ -54,7 +54,7 @@ fn base_number(base: Base) -> u32 {
     }
 }
 
-/// Where a substitution's rows lie, as one word. The node for its memory is noted beside it.
+/// The place of a substitution's rows, as one word. The node for its memory is noted beside it.
 fn rows_of(subst: Subst) -> u64 {
     joined(subst.first, subst.past)
 }
@@ -151,8 +151,8 @@ fn note_substs<P: Program>(lanes: &mut Lanes, program: &P)
     lanes.note(waiting as u64, rows as u64);
 }
 
-/// Two keys that depend on the nodes, the code types, the instructions and the substitution rows. So
-/// who makes an object can't know in which places of the table its forms will lie, short of trying.
+/// Two keys that depend on the nodes, the code types, the instructions and the substitution rows. So whoever makes an
+/// object cannot know which places of the table its forms will have, short of trying.
 pub fn keys_of<P: Program>(program: &P) -> (u64, u64)
     requires { IsSpellable (P.object program.now) }
 {

@@ -1,11 +1,10 @@
 //! The checker of objects.
 //!
-//! The crate promises that `check` answers Ok exactly when an object is accepted. Otherwise it answers
-//! exactly why the object is refused: the entry's code type, the lowest cell with a word of another
-//! type, or the first instruction that is refused, with its block, its index and the first failing
-//! premise. It takes no more steps than `specs/Costs.antt` says. A `Checked` keeps that its program is
-//! accepted. The definitions are `Accepted` in `ft_typing/specs`. What the answers say of them is in
-//! `specs/Judges.antt`.
+//! The crate promises that `check` returns Ok exactly when an object is accepted. Otherwise it returns
+//! exactly why the object is refused: the entry's code type, the lowest cell with a word of another type,
+//! or the first instruction that is refused, with its block, its index and the first failing premise. It
+//! takes no more steps than `specs/Costs.antt` says. A `Checked` guarantees that its program is accepted.
+//! The definitions are `Accepted` in `ft_typing/specs`; `specs/Judges.antt` relates the results to them.
 #![tactic(auto)]
 
 mod blocks;
@@ -18,4 +17,4 @@ mod keys;
 
 pub use checked::Checked;
 pub use error::CheckError;
-pub use judge::check;
+pub use judge::{check, check_uncounted};

@@ -82,7 +82,7 @@ no_usage_of : (f : Word → Request) (x : Option Word) → ((w : Word) → Some 
 no_usage_of f None h e = absurd (cc)
 no_usage_of f (Some w) h e = h w e
 
--- no number of turns asks for the line on usage
+-- no number of turns asks for the usage line
 no_usage_of_number : (x : Option ℕ) → option_map Demonstrates x ≡ Some Usage → ⊥
 no_usage_of_number None e = absurd (cc)
 no_usage_of_number (Some n) e = absurd (cc)
@@ -157,7 +157,7 @@ asks_only words options v operand given request split only is asked other h =
     let found = asked_for words options v operand given other split only (by_command words request other asked h) in
     ap (λ x. unwrap_or x request) (sym found ∙ is)
 
--- words whose options ask for nothing are no command
+-- words whose options ask for nothing are not a command
 pub asks_nothing : (words options : List Word) (v : Verb) (operand : Word) (given : Given) → words
     ≡ name_of v ∷ operand ∷ options
     → ((g : Given) → GivesAll (allowed_of v) options none_given g → g ≡ given) → request_of v operand given ≡ None →
@@ -166,7 +166,7 @@ asks_nothing words options v operand given split only none request h =
     let found = asked_for words options v operand given request split only h in
     let e = sym none ∙ found in cc
 
--- words of which the options give nothing are no command
+-- words whose options give nothing are not a command
 pub no_command : (words options : List Word) (v : Verb) (operand : Word) → words ≡ name_of v ∷ operand ∷ options →
     ((g : Given) → GivesAll (allowed_of v) options none_given g → ⊥) → (request : Request) → AreCommand words request →
     ⊥
@@ -177,7 +177,7 @@ no_command words options v operand split none request h =
     subst (λ u. GivesAll (allowed_of u) h.options none_given h.given) verbs h.gives in
     none h.given (subst (λ ws. GivesAll (allowed_of v) ws none_given h.given) (rests _ _ _ _ _ _ same) gives)
 
--- what words that are no command ask for
+-- what words that are not a command ask for
 pub usage_only : (words : List Word) → ((request : Request) → AreCommand words request → ⊥) → (other : Request) →
     Asks words other → other ≡ Usage
 usage_only words none Usage h = refl

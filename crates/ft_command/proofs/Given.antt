@@ -116,14 +116,14 @@ pub gives_back : (allowed : Allowed) (words more : List Word) (name value : Word
 gives_back allowed words more name value old new g split one h =
     subst (λ ws. GivesAll allowed ws old g) (sym split) (new, (one, h))
 
--- words give nothing where the option at their front gives nothing
+-- words give nothing if the option at their front gives nothing
 pub gives_nothing : (allowed : Allowed) (words more : List Word) (name value : Word) (old g : Given) → words
     ≡ name ∷ value ∷ more → ((mid : Given) → Gives allowed name value old mid → ⊥) → GivesAll allowed words old g → ⊥
 gives_nothing allowed words more name value old g split none h =
     let parts = subst (λ ws. GivesAll allowed ws old g) split h in
     none parts.0 parts.1.0
 
--- no words give what was given before, and that alone
+-- no words give what was given before, and only that
 pub gives_same : {A : Type 0} (f : A → Word) (allowed : Allowed) (xs : List A) (old : Given) → length xs ≡ 0 →
     GivesAll allowed (map f xs) old old
 gives_same f allowed [] old e = refl

@@ -1,4 +1,4 @@
--- The number of turns of which a word has the decimal digits.
+-- The number of turns that a word spells in decimal digits.
 use Rattle.std.proofs.Common.{◌≡◌, ℕ, zero, suc, ◌<◌, ◌≤◌, ◌^◌, Bool, true, false, Option, Some, None, refl, sym, ap}
 use Rattle.std.proofs.Common.{◌∙◌, arith}
 use Rattle.std.specs.Prelude.{decimal, if◌then◌else◌, IfSome}

@@ -1,4 +1,4 @@
--- What the words asked for, without where its parts lie in memory.
+-- What the words ask for, without where its parts are in memory.
 use Rattle.std.specs.Prelude.{Option}
 use Rattle.std.specs.Option.{option_map}
 use Rattle.ft_command.specs.declared.options.Options.{Options}
@@ -12,11 +12,11 @@ use Rattle.ft_command.specs.declared.command.Command.TheVariants as commands
 use Rattle.ft_command.specs.Options.{Given}
 use Rattle.ft_command.specs.Commands.{Run, Campaign, Meaning, Execution, Debugging, Request, Usage, Checks, Runs, Trials, Campaigns, Surveys, Compiles, Executes, Means, Debugs, Demonstrates, Upgrades, Assembles, Disassembles, Schedules, Recovers, Links}
 
--- the options that the code has taken so far
+-- the options that the code has read so far
 abbrev pub given_of : Options → Given
 given_of o = record { steps = o.steps; turns = o.turns; strike = o.strike; wild = option_map (λ v. v.items) o.wild; faults = option_map (λ w. w.now) o.faults }
 
--- the run, the campaign, the execution, the meaning and the debugging that the code carries out
+-- the run, the campaign, the execution, the meaning and the debugger session that the code performs
 abbrev pub run_view : declared_run.Run → Run
 run_view t = record { object = t.object.now; steps = t.steps; strike = t.strike; wild = t.wild.items }
 
@@ -52,6 +52,6 @@ asked (commands.Disassemble object) = Disassembles object.now
 asked (commands.Schedule object) = Schedules object.now
 asked (commands.Link map) = Links map.now
 
--- the request that the code has read, or the wish for usage where there is none
+-- the request that the code has read, or usage if there is none
 abbrev pub asked_or_usage : Option declared_command.Command → Option Request
 asked_or_usage c = option_map asked c

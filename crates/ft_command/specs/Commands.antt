@@ -67,7 +67,7 @@ meaning_options = record no_options { turns = Some 1000000000 }
 abbrev pub execution_options : Allowed
 execution_options = record no_options { steps = Some 1000000000 }
 
--- the option of a debugging: `--wild`
+-- the option of a debugger session: `--wild`
 abbrev pub debugging_options : Allowed
 debugging_options = record no_options { wild = true }
 
@@ -90,7 +90,7 @@ allowed_of verb.Disassemble = no_options
 allowed_of verb.Schedule = no_options
 allowed_of verb.Link = no_options
 
--- the run of an object, for at most so many steps, under a plan
+-- the run of an object, for at most `steps` steps, under a plan
 pub record Run : Type 0 where
   pub object : Word
   pub steps : ℕ
@@ -106,7 +106,8 @@ run_of object given = record {
   wild = unwrap_or given.wild [];
 }
 
--- the runs of an object, each for at most so many steps, under the faults of a list, with the same answers to wild loads
+-- the runs of an object, each for at most `steps` steps, under the faults of a list, with the same answers to wild
+-- loads
 pub record Campaign : Type 0 where
   pub object : Word
   pub faults : Word
@@ -122,7 +123,7 @@ campaign_of object given faults = record {
   wild = unwrap_or given.wild [];
 }
 
--- the meaning of a source, for at most so many turns
+-- the meaning of a source, for at most `turns` turns
 pub record Meaning : Type 0 where
   pub source : Word
   pub turns : ℕ
@@ -131,7 +132,7 @@ pub record Meaning : Type 0 where
 abbrev pub meaning_of : Word → Given → Meaning
 meaning_of source given = record { source = source; turns = unwrap_or given.turns 1000000 }
 
--- the run of the object of a source, for at most so many steps
+-- the run of the object of a source, for at most `steps` steps
 pub record Execution : Type 0 where
   pub source : Word
   pub steps : ℕ
@@ -140,7 +141,7 @@ pub record Execution : Type 0 where
 abbrev pub execution_of : Word → Given → Execution
 execution_of source given = record { source = source; steps = unwrap_or given.steps 1000000 }
 
--- the debugging of an object, with answers to wild loads
+-- a debugger session over an object, with answers to wild loads
 pub record Debugging : Type 0 where
   pub object : Word
   pub wild : List Wild
@@ -149,14 +150,14 @@ pub record Debugging : Type 0 where
 abbrev pub debugging_of : Word → Given → Debugging
 debugging_of object given = record { object = object; wild = unwrap_or given.wild [] }
 
--- the number from 1 to the most of which these are the decimal digits
+-- the number from 1 to the maximum that these decimal digits spell
 unfoldable pub turns_up_to : ℕ → Word → Option ℕ
 turns_up_to zero text = None
 turns_up_to (suc n) text = if bytes_eq text (decimal (suc n)) then Some (suc n) else turns_up_to n text
 
 -- what words ask for
 pub data Request : Type 0 where
-  -- the line on usage
+  -- the usage line
   Usage : Request
   -- the check of an object
   Checks : Word → Request
@@ -164,7 +165,7 @@ pub data Request : Type 0 where
   Runs : Run → Request
   -- the run of an object that is not checked
   Trials : Run → Request
-  -- the run of an object that is accepted, and where a fault is detected its run again
+  -- the run of an object that is accepted, and its run again if a fault is detected
   Recovers : Run → Request
   -- a campaign on an object that is accepted
   Campaigns : Campaign → Request
@@ -176,7 +177,7 @@ pub data Request : Type 0 where
   Executes : Execution → Request
   -- the meaning of a source
   Means : Meaning → Request
-  -- a debugging of an object that is not checked
+  -- a debugger session over an object that is not checked
   Debugs : Debugging → Request
   -- the run of the object of this number of turns, and a campaign on it
   Demonstrates : ℕ → Request
@@ -188,7 +189,7 @@ pub data Request : Type 0 where
   Disassembles : Word → Request
   -- the schedule of an object
   Schedules : Word → Request
-  -- the object that a link map links of its modules
+  -- the object that a link map makes of its modules
   Links : Word → Request
 
 -- what a command asks for, with its operand and its options; campaigns need their list, and a demonstration a number of turns
@@ -220,7 +221,7 @@ pub record AreCommand (words : List Word) (request : Request) : Type 0 where
   pub gives : GivesAll (allowed_of verb) options none_given given
   pub request_is : request_of verb operand given ≡ Some request
 
--- the words ask for this: for the line on usage exactly when they are no command
+-- the words ask for this: for the usage line exactly when they are not a command
 abbrev pub Asks : List Word → Request → Type 0
 Asks words Usage = (request : Request) → ¬ (AreCommand words request)
 Asks words (Checks object) = AreCommand words (Checks object)

@@ -9,7 +9,8 @@ use Rattle.ft_command.specs.declared.allowed.Allowed.{Allowed}
 abbrev pub Word : Type 0
 Word = List ℕ
 
--- the options that were given: how many steps or turns at the most, a strike, answers to wild loads, and the file of a fault list
+-- the options that were given: the maximum of steps or turns, a strike, answers to wild loads, and the file of a fault
+-- list
 pub record Given : Type 0 where
   pub steps : Option ℕ
   pub turns : Option ℕ
@@ -21,12 +22,12 @@ pub record Given : Type 0 where
 abbrev pub none_given : Given
 none_given = record { steps = None; turns = None; strike = None; wild = None; faults = None }
 
--- a number in decimal digits, at most the greatest that is allowed
+-- a number in decimal digits, at most the maximum
 abbrev pub IsNumberUpTo : Option ℕ → Word → ℕ → Type 0
 IsNumberUpTo None text n = ⊥
 IsNumberUpTo (Some most) text n = (n ≤ most) × (text ≡ decimal n)
 
--- `--steps` with a number, where it is allowed and was not given before
+-- `--steps` with a number, if it is allowed and was not given before
 pub record GivesSteps (allowed : Allowed) (name value : Word) (old new : Given) : Type 0 where
   pub name_is : name ≡ codes "--steps"
   pub once : old.steps ≡ None
@@ -34,7 +35,7 @@ pub record GivesSteps (allowed : Allowed) (name value : Word) (old new : Given) 
   pub form : IsNumberUpTo allowed.steps value steps
   pub given : new ≡ record old { steps = Some steps }
 
--- `--turns` with a number, where it is allowed and was not given before
+-- `--turns` with a number, if it is allowed and was not given before
 pub record GivesTurns (allowed : Allowed) (name value : Word) (old new : Given) : Type 0 where
   pub name_is : name ≡ codes "--turns"
   pub once : old.turns ≡ None
@@ -42,7 +43,7 @@ pub record GivesTurns (allowed : Allowed) (name value : Word) (old new : Given) 
   pub form : IsNumberUpTo allowed.turns value turns
   pub given : new ≡ record old { turns = Some turns }
 
--- `--fault` with the text of a strike, where it is allowed and was not given before
+-- `--fault` with the text of a strike, if it is allowed and was not given before
 pub record GivesStrike (allowed : Allowed) (name value : Word) (old new : Given) : Type 0 where
   pub name_is : name ≡ codes "--fault"
   pub allowed_is : allowed.fault ≡ true
@@ -51,7 +52,7 @@ pub record GivesStrike (allowed : Allowed) (name value : Word) (old new : Given)
   pub form : IsStrikeText value strike
   pub given : new ≡ record old { strike = Some strike }
 
--- `--wild` with the text of wild answers, where it is allowed and was not given before
+-- `--wild` with the text of wild answers, if it is allowed and was not given before
 pub record GivesWild (allowed : Allowed) (name value : Word) (old new : Given) : Type 0 where
   pub name_is : name ≡ codes "--wild"
   pub allowed_is : allowed.wild ≡ true
@@ -60,7 +61,7 @@ pub record GivesWild (allowed : Allowed) (name value : Word) (old new : Given) :
   pub form : IsWildText value wild
   pub given : new ≡ record old { wild = Some wild }
 
--- `--faults` with the name of a file, where it is allowed and was not given before
+-- `--faults` with the name of a file, if it is allowed and was not given before
 pub record GivesFaults (allowed : Allowed) (name value : Word) (old new : Given) : Type 0 where
   pub name_is : name ≡ codes "--faults"
   pub allowed_is : allowed.faults ≡ true

@@ -8,19 +8,19 @@ use crate::verb::Verb;
 use ft_isa::{NoMemory, Strike, Wild, read_number};
 use std::alloc::Global;
 
-/// How many steps a run takes at the most where `--steps` is not given.
+/// The maximum steps of a run without `--steps`.
 const STEPS: u64 = 1_000_000;
 
-/// The most turns of a demonstration.
+/// The maximum turns of a demonstration.
 const DEMO_TURNS: u64 = 10_921;
 
-/// How many turns a meaning takes at the most where `--turns` is not given.
+/// The maximum turns of a meaning without `--turns`.
 const TURNS: u64 = 1_000_000;
 
 /// A command with its operand and options.
 #[derive(Drop)]
 pub enum Command<'w> {
-    /// The words are no command.
+    /// The words are not a command.
     Usage,
     /// Checks the object of this file.
     Check(&'w str),
@@ -28,7 +28,7 @@ pub enum Command<'w> {
     Run(Run<'w>),
     /// Runs an object without checking it.
     Trial(Run<'w>),
-    /// Checks an object and runs it, again where a fault is detected.
+    /// Checks an object and runs it, again if a fault is detected.
     Recover(Run<'w>),
     /// Checks an object and tries a list of faults on it.
     Campaign(Campaign<'w>),
@@ -38,11 +38,11 @@ pub enum Command<'w> {
     Compile(&'w str),
     /// Compiles a source and runs its object.
     Exec(Execution<'w>),
-    /// Gives the meaning of a source.
+    /// Writes the meaning of a source.
     Mean(Meaning<'w>),
-    /// Debugs an object without checking it.
+    /// Runs a debugger session over an object without checking it.
     Debug(Debugging<'w>),
-    /// Makes an object of so many turns, runs it and tries faults on it.
+    /// Makes an object of this many turns, runs it and tries faults on it.
     Demo(u32),
     /// Writes the object of this file in version 2 of the format.
     Upgrade(&'w str),
@@ -52,11 +52,11 @@ pub enum Command<'w> {
     Disassemble(&'w str),
     /// Checks the object of this file and writes its schedule.
     Schedule(&'w str),
-    /// Reads the link map of this file, and writes what it links of its modules.
+    /// Reads the link map of this file, and writes the object that it makes of its modules.
     Link(&'w str),
 }
 
-/// The run of an object: the file's name, how many steps at the most, and the plan.
+/// The run of an object: the file's name, the maximum steps, and the plan.
 #[derive(Drop)]
 pub struct Run<'w> {
     pub object: &'w str,
@@ -65,8 +65,8 @@ pub struct Run<'w> {
     pub wild: Vec<Wild>,
 }
 
-/// The runs of an object under the faults of a list: the files' names, how many steps at the most in
-/// each run, and the answers to wild loads.
+/// The runs of an object under the faults of a list: the files' names, the maximum steps of each run, and the answers
+/// to wild loads.
 #[derive(Drop)]
 pub struct Campaign<'w> {
     pub object: &'w str,
@@ -75,21 +75,21 @@ pub struct Campaign<'w> {
     pub wild: Vec<Wild>,
 }
 
-/// The meaning of a source: the file's name, and how many turns of its loops at the most.
+/// The meaning of a source: the file's name, and the maximum turns of its loops.
 #[derive(Drop)]
 pub struct Meaning<'w> {
     pub source: &'w str,
     pub turns: u64,
 }
 
-/// The run of the object that a source is compiled to: the file's name, and how many steps at the most.
+/// The run of the object that a source is compiled to: the file's name, and the maximum steps.
 #[derive(Drop)]
 pub struct Execution<'w> {
     pub source: &'w str,
     pub steps: u64,
 }
 
-/// The debugging of an object: the file's name, and the answers to wild loads.
+/// A debugger session over an object: the file's name, and the answers to wild loads.
 #[derive(Drop)]
 pub struct Debugging<'w> {
     pub object: &'w str,
@@ -145,7 +145,7 @@ fn execution_of<'w>(source: &'w str, options: Options<'w>) -> Execution<'w>
     }
 }
 
-/// The debugging that an operand and options ask for.
+/// The debugger session that an operand and options ask for.
 fn debugging_of<'w>(alloc: Global, object: &'w str, options: Options<'w>) -> Debugging<'w>
     ensures { debugging_view result ≡ debugging_of object.now (given_of options.entry) }
 {
@@ -155,7 +155,7 @@ fn debugging_of<'w>(alloc: Global, object: &'w str, options: Options<'w>) -> Deb
     }
 }
 
-/// The number of turns of a demonstration, from 1 to 10,921; `None` exactly when the word is none.
+/// The number of turns of a demonstration, from 1 to 10,921; `None` exactly if the word is not one.
 fn turns_of(operand: &str) -> Option<u32>
     ensures { result ≡ turns_up_to 10921 operand.now }
 {
@@ -214,7 +214,7 @@ fn command_from<'w>(
     Some(command)
 }
 
-/// The command that the words ask for, or the wish for usage.
+/// The command that the words ask for, or the usage line.
 pub fn command_of(alloc: Global, words: &[String]) -> Result<Command<'_>, NoMemory>
     ensures ok { IfOk result (λ command. Asks (map string_bytes words.now) (asked command)) }
     ensures few_steps { IfOk result (λ command. HasFewSteps (asked command)) }

@@ -18,18 +18,18 @@ pub(crate) struct Options<'w> {
     pub faults: Option<&'w str>,
 }
 
-/// Why options were not taken.
+/// Why options were refused.
 #[derive(Clone, Copy, Debug, PartialEq, Eq, Error)]
 pub(crate) enum OptionError {
-    /// An option is not known, was given before, has no value, or has a value out of its form.
+    /// An option is not known, was given before, has no value, or has an invalid value.
     #[error("not an option of the command")]
     Refused,
-    /// There was no memory left.
+    /// Memory ran out.
     #[error("out of memory")]
     NoMemory,
 }
 
-/// The value of an option that takes a number up to this one, where the option is allowed.
+/// The value of an option that takes a number up to this one, if the option is allowed.
 fn number_up_to(most: Option<u64>, value: &str) -> Option<u64>
     ensures some { IfSome result (IsNumberUpTo most value.now) }
     ensures exact { (n : ℕ) → IsNumberUpTo most value.now n → result ≡ Some n }
@@ -42,7 +42,7 @@ fn number_up_to(most: Option<u64>, value: &str) -> Option<u64>
 }
 
 impl<'w> Options<'w> {
-    /// Takes an option with its value.
+    /// Reads an option with its value.
     fn take(
         &mut self,
         alloc: Global,

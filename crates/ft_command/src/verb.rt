@@ -4,13 +4,13 @@ ghost use Rattle.ft_command.specs.Commands.{name_of, takes_object, allowed_of};
 
 use crate::allowed::Allowed;
 
-/// The most steps that a run may be given.
+/// The maximum that `--steps` may give a run.
 const RUN_STEPS: u64 = 1_000_000_000;
 
-/// The most steps that each run of a campaign may be given.
+/// The maximum that `--steps` may give each run of a campaign.
 const CAMPAIGN_STEPS: u64 = 1_000_000;
 
-/// The most turns that a meaning may be given.
+/// The maximum that `--turns` may give a meaning.
 const TURNS: u64 = 1_000_000_000;
 
 /// No options.
@@ -31,7 +31,7 @@ pub enum Verb {
     Run,
     /// `trial`: runs an object without checking it.
     Trial,
-    /// `recover`: checks an object and runs it, again where a fault is detected.
+    /// `recover`: checks an object and runs it, again if a fault is detected.
     Recover,
     /// `campaign`: checks an object and tries a list of faults on it.
     Campaign,
@@ -41,11 +41,11 @@ pub enum Verb {
     Compile,
     /// `exec`: compiles a source and runs its object.
     Exec,
-    /// `mean`: gives the meaning of a source.
+    /// `mean`: writes the meaning of a source.
     Mean,
-    /// `debug`: debugs an object without checking it.
+    /// `debug`: runs a debugger session over an object without checking it.
     Debug,
-    /// `demo`: makes an object of so many turns, runs it and tries faults on it.
+    /// `demo`: makes an object of this many turns, runs it and tries faults on it.
     Demo,
     /// `upgrade`: writes an object in version 2 of the format.
     Upgrade,
@@ -55,7 +55,7 @@ pub enum Verb {
     Disassemble,
     /// `schedule`: checks an object and writes its schedule.
     Schedule,
-    /// `link`: reads a link map, and writes what it links of its modules.
+    /// `link`: reads a link map, and writes the object that it makes of its modules.
     Link,
 }
 

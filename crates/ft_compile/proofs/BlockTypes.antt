@@ -28,7 +28,7 @@ use Rattle.ft_compile.specs.Emitted.{node, variable_node, at_first, green_row, b
 use Rattle.ft_compile.proofs.Lists.{Starts, get_starts}
 use Rattle.ft_compile.proofs.Named.{IsNamed}
 use Rattle.ft_compile.proofs.Walked.{variable_there}
-use Rattle.ft_compile.proofs.Forms.{variable_after, memory_after}
+use Rattle.ft_compile.proofs.Forms.{integer_after, memory_after}
 use Rattle.ft_compile.proofs.PremiseRows.{ty}
 
 -- THE CODE TYPES
@@ -82,7 +82,7 @@ module _ (o : Object) (vars : ℕ) (T : HasTypes o vars) (scope : ℕ) (pairs : 
     pub memory_is : u.memory ≡ memory
     pub many : length pairs ≡ 32
 
-  -- the registers have what the target wants
+  -- the registers have what the target requires
   abbrev HasVariables : Context → Type 0
   HasVariables c = (q : ℕ) → q < vars → (typed c (green q).number
       ≡ Some (ty Green int (integer_form_of o (slice_index pairs q))))
@@ -108,7 +108,7 @@ module _ (o : Object) (vars : ℕ) (T : HasTypes o vars) (scope : ℕ) (pairs : 
       let f = integer_form_of o in
       let z : 1 + q ≡ suc q = omega arith in
       ap (integer_form_after o (replacement o u)) z
-      ∙ variable_after o T.nodes (suc q) vars q (replacement o u)
+      ∙ integer_after o T.nodes (suc q) vars (shape.Var q) (replacement o u)
       (get_starts (at_first vars).nodes o.nodes (suc q) (variable_node vars q) T.first_nodes
       (variable_there vars q lt))
       ∙ ap (λ ps. slice_index_or ps q nought) (put_rows P)
@@ -116,7 +116,7 @@ module _ (o : Object) (vars : ℕ) (T : HasTypes o vars) (scope : ℕ) (pairs : 
       ∙ get_or-map f (take vars pairs) q 0
       ∙ ap f (get_or-take vars pairs q 0 lt)
 
-  -- the register of each row is as the row wants it
+  -- the register of each row is as the row requires
   row_like : PutsThese → (c : Context) (q : ℕ) (x : RegType) → q < vars → HasVariables c →
       (x ≡ green_row q) ⊎ (x ≡ blue_row q) → is_like o (replacement o u) (typed c x.reg.number) x ≡ true
   unfolding is_like same_colour is_seen_as same_basic
@@ -138,7 +138,7 @@ module _ (o : Object) (vars : ℕ) (T : HasTypes o vars) (scope : ℕ) (pairs : 
   rows_like P c (x ∷ xs) h r = and_from (is_like o (replacement o u) (typed c x.reg.number) x)
       (are_like o (replacement o u) c xs) (row_like P c r.0.0 x r.0.1 h r.0.2) (rows_like P c xs h r.1)
 
-  -- nothing waits, as code type 1 wants it
+  -- nothing waits, as code type 1 requires
   queue_like : (q : List FormPair) → q ≡ [] → is_queue_like o (replacement o u) q (queue_rows o 1) ≡ true
   unfolding is_queue_like
   queue_like q e = rw (e, T.queue) refl
@@ -148,7 +148,7 @@ module _ (o : Object) (vars : ℕ) (T : HasTypes o vars) (scope : ℕ) (pairs : 
       same_updates m (memory_form_after o (replacement o u) (memory_of o 1)) ≡ true
   memory_like P m e =
       (equal_updates m (memory_form_after o (replacement o u) (memory_of o 1))).1
-      (e ∙ sym (put_memory P) ∙ sym (memory_after o T.nodes 0 0 (replacement o u)
+      (e ∙ sym (put_memory P) ∙ sym (memory_after o T.nodes 0 0 shape.Memory (replacement o u)
       (get_starts (at_first vars).nodes o.nodes 0 (node 0 shape.Memory) T.first_nodes refl))
       ∙ ap (memory_form_after o (replacement o u)) (sym T.memory))
 

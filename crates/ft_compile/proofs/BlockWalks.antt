@@ -34,7 +34,7 @@ use Rattle.ft_compile.specs.Emitted.{Noted, jump_subst, step_noted, begun, scope
 use Rattle.ft_compile.specs.Emitted.{entry_type, variables_type, cell_from, at_first, emitted, IsEmitted}
 use Rattle.ft_compile.proofs.Walked.{block_noted, RowsAreFine, well_rows}
 use Rattle.ft_compile.proofs.Coded.{coded_step, row_coded, rows_coded}
-use Rattle.ft_compile.proofs.Typing.{green_is_not_blue, blue_is_not_green}
+use Rattle.ft_compile.proofs.KnownPairs.{green_is_not_blue, blue_is_not_green}
 use Rattle.ft_compile.proofs.BlockTypes.{AreRows, type_rows}
 use Rattle.ft_compile.proofs.Objects.{emission, row_of_block, block_is_row, block_count}
 use Rattle.ft_compile.proofs.Names.{program_cells}
@@ -47,7 +47,7 @@ pub record AreUnentered (k : Known) (e : Entered) : Type 0 where
   pub green_out : (q : ℕ) → k q ≡ true → finite.get e (green q).number ≡ None
   pub blue_out : (q : ℕ) → k q ≡ true → finite.get e (blue q).number ≡ None
 
--- a register that is not entered stays so where another instruction takes one out
+-- a register that is not entered stays that way if another instruction removes one
 out_stays : (e : Entered) (r q : ℕ) → finite.get e q ≡ None → finite.get (entered_with r None e) q ≡ None
 out_stays e r q h = entered_get e r None q ∙ either (q == r) (finite.get e q) h
   where
@@ -59,7 +59,7 @@ out_stays e r q h = entered_get e r None q ∙ either (q == r) (finite.get e q) 
 taken_out : (e : Entered) (r : ℕ) (v : Option ℕ) → finite.get (entered_with r v e) r ≡ v
 taken_out e r v = entered_get e r v r ∙ ap (λ b. cond b v (finite.get e r)) (eq-eqb r r refl)
 
--- another register is as before
+-- another register is unchanged
 other_stays : (e : Entered) (r q : ℕ) (v : Option ℕ) → q ≢ r → finite.get (entered_with r v e) q ≡ finite.get e q
 other_stays e r q v ne = entered_get e r v q ∙ ap (λ b. cond b v (finite.get e q)) (ne_eqb q r ne)
 
@@ -94,7 +94,7 @@ unentered_learn k e p lt h = record {
   ];
 }
 
--- nor where its registers are written once more
+-- nor if its registers are written once more
 unentered_again : (k : Known) (e : Entered) (p : ℕ) → AreUnentered k e → AreUnentered k (two p None e)
 unentered_again k e p h = record {
   below = h.below;
@@ -136,7 +136,7 @@ entered_blue e p v = taken_out (entered_with (green p).number v e) (blue p).numb
 
 -- TARGETS
 
--- the registers of variables are free where no variable's pair is entered
+-- the registers of variables are free if no variable's pair is entered
 rows_free : (vars : ℕ) (k : Known) (e : Entered) (xs : List RegType) → AreUnentered k e →
     ((x : ℕ) → x < vars → k x ≡ true) → AreRows vars xs → are_free e xs ≡ true
 rows_free vars k e [] h known r = refl

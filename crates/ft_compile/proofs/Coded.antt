@@ -16,7 +16,7 @@ use Rattle.ft_compile.specs.Emitted.{Noted, jump_subst, step_noted, row_noted, b
 use Rattle.ft_compile.specs.Emitted.{with_subst, placed}
 use Rattle.ft_compile.proofs.Walked.{block_noted}
 
--- an instruction with a substitution, where it takes one
+-- an instruction with a substitution, if it takes one
 abbrev pub with_this : Subst → Instr → Instr
 with_this u i = with_subst i (u ∷ [])
 
@@ -205,7 +205,7 @@ module _ (vars : ℕ) (start : ℕ → ℕ) where
       ∙ ap (take (length r)) (drop-append_seam front (r ++ rest))
       ∙ take-append_seam r rest
 
-  -- row b is cut out, where some instructions stand before all rows
+  -- row b is cut out, if some instructions come before all rows
   cut_from : (front : List Instr) (rs : List (List Instr)) (n b whole : ℕ) (r : List Instr) → n ≡ length front → whole
       ≡ length (front ++ joined rs) → slice_get rs b ≡ Some r →
       slice_range (front ++ joined rs) (row_start n rs b) (row_end n rs b whole) ≡ r

@@ -9,7 +9,7 @@ use Rattle.ft_lower.proofs.Whole.{IsResolved, lowers}
 use Rattle.ft_lower.proofs.Sizes.{lowered_size}
 use Rattle.ft_lower.proofs.Pairs.{lowered_below}
 use Rattle.ft_lower.proofs.WellFormed.{lowered_is_well}
-use Rattle.ft_dup.proofs.Following.{runs_as}
+use Rattle.ft_dup.proofs.WholeRuns.{runs_as}
 use Rattle.ft_compile.specs.Emitted.{emitted, IsEmitted}
 use Rattle.ft_compile.specs.StandsFor.{StandsFor}
 use Rattle.ft_compile.proofs.Names.{program_cells}

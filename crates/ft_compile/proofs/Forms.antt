@@ -1,16 +1,16 @@
 -- The forms of nodes, and the numbers of registers.
 use Rattle.std.proofs.Common.{◌≡◌, ℕ, ◌<◌, Bool, true, false, Some, refl, ap, slice_get}
-use Rattle.std.specs.Prelude.{slice_index_or, nat_lt}
+use Rattle.std.specs.Prelude.{nat_lt}
 use Rattle.std.specs.Option.{unwrap_or}
 use Rattle.std.proofs.lemmas.Bool.{lt-ltb}
 use Rattle.ft_isa.specs.Registers.{reg_if}
 use Rattle.ft_isa.specs.declared.op.Op.{Op}
+use Rattle.ft_static.specs.declared.node.Shape.{Shape}
 use Rattle.ft_static.specs.declared.node.Shape.TheVariants as shape
-use Rattle.ft_static.specs.Form.{nought}
 use Rattle.ft_static.specs.NormalForm.{constant, norm_op, norm_rem, norm_sel, norm_upd, norm_integer, norm_memory}
 use Rattle.ft_static.specs.FormUnder.{norm_under, norm_memory_under}
 use Rattle.ft_static.specs.NodeRules.{AreNodes}
-use Rattle.ft_static.specs.NodeTree.{integer_part, memory_part}
+use Rattle.ft_static.specs.NodeTree.{integer_part, memory_part, tree_of, trees}
 use Rattle.ft_static.proofs.NodeTrees.{tree_at-row}
 use Rattle.ft_types.specs.declared.object.Object.{Object}
 use Rattle.ft_typing.specs.Context.{Replacement, integer_form_of, memory_form_of, integer_form_after, memory_form_after}
@@ -61,16 +61,16 @@ module _ (o : Object) (N : AreNodes o.nodes) (n scope : ℕ) where
   unfolding integer_form_of memory_form_of
   upd_form m a v e = ap (λ t. norm_memory (memory_part t)) (tree_at-row o.nodes n (node scope (shape.Upd m a v)) N e)
 
-  -- after a replacement the variables and the memory are what is put for them
-  pub variable_after : (i : ℕ) (x : Replacement) → slice_get o.nodes n ≡ Some (node scope (shape.Var i)) →
-      integer_form_after o x n ≡ slice_index_or x.integers i nought
+  -- after a replacement, that of a node is made of its shape and of what is put for the variables and the memory
+  pub integer_after : (y : Shape) (x : Replacement) → slice_get o.nodes n ≡ Some (node scope y) →
+      integer_form_after o x n ≡ norm_under (integer_part (tree_of (trees o.nodes) y)) x.integers x.memory
   unfolding integer_form_after
-  variable_after i x e = ap (λ t. norm_under (integer_part t) x.integers x.memory)
-      (tree_at-row o.nodes n (node scope (shape.Var i)) N e)
+  integer_after y x e = ap (λ t. norm_under (integer_part t) x.integers x.memory)
+      (tree_at-row o.nodes n (node scope y) N e)
 
-  -- and so is the memory variable
-  pub memory_after : (x : Replacement) → slice_get o.nodes n ≡ Some (node scope shape.Memory) → memory_form_after o x n
-      ≡ x.memory
+  -- so with a memory's node
+  pub memory_after : (y : Shape) (x : Replacement) → slice_get o.nodes n ≡ Some (node scope y) →
+      memory_form_after o x n ≡ norm_memory_under (memory_part (tree_of (trees o.nodes) y)) x.integers x.memory
   unfolding memory_form_after
-  memory_after x e = ap (λ t. norm_memory_under (memory_part t) x.integers x.memory)
-      (tree_at-row o.nodes n (node scope shape.Memory) N e)
+  memory_after y x e = ap (λ t. norm_memory_under (memory_part t) x.integers x.memory)
+      (tree_at-row o.nodes n (node scope y) N e)

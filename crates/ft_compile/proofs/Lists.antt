@@ -1,14 +1,14 @@
--- Lists: beginnings, and what stands where.
+-- Lists: prefixes, and what is at each place.
 use Rattle.std.proofs.Common.{◌≡◌, ℕ, ◌≤◌, List, [], ◌∷◌, ◌++◌, length, Some, refl, sym, ap, ◌∙◌, subst, arith}
 use Rattle.std.proofs.Common.{append_assoc, length-append, slice_get}
 use Rattle.std.proofs.lemmas.List.{append-nil}
 use Rattle.ft_isa.proofs.Lists.{there_front}
 
--- the one list begins the other
+-- one list is a prefix of the other
 abbrev pub Starts : {X : Type 0} → List X → List X → Type 0
 Starts {X} xs ys = (rest : List X) × (xs ++ rest ≡ ys)
 
--- a list begins itself
+-- a list is a prefix of itself
 pub starts_refl : {X : Type 0} (xs : List X) → Starts xs xs
 starts_refl xs = ([], append-nil xs)
 
@@ -16,11 +16,11 @@ starts_refl xs = ([], append-nil xs)
 pub starts_trans : {X : Type 0} (xs ys zs : List X) → Starts xs ys → Starts ys zs → Starts xs zs
 starts_trans xs ys zs p q = (p.0 ++ q.0, sym (append_assoc xs p.0 q.0) ∙ ap (λ l. l ++ q.0) p.1 ∙ q.1)
 
--- a beginning is no longer
+-- a prefix is not longer
 pub starts_length : {X : Type 0} (xs ys : List X) → Starts xs ys → length xs ≤ length ys
 starts_length xs ys p = let e = length-append xs p.0 in let f = ap length p.1 in omega arith
 
--- what stands in a beginning stands in the whole
+-- what is in a prefix is in the whole
 pub get_starts : {X : Type 0} (xs ys : List X) (k : ℕ) (x : X) → Starts xs ys → slice_get xs k ≡ Some x → slice_get ys k
     ≡ Some x
 get_starts xs ys k x p e = subst (λ l. slice_get l k ≡ Some x) p.1 (there_front xs p.0 k x e)
@@ -38,6 +38,6 @@ pub get_last : {X : Type 0} (xs : List X) (x : X) → slice_get (xs ++ x ∷ [])
 get_last [] x = refl
 get_last (y ∷ ys) x = get_last ys x
 
--- where a list with one more begins another, that one stands in the other
+-- if a list with one more element is a prefix of another, that element is in the other
 pub get_newest : {X : Type 0} (xs ys : List X) (x : X) → Starts (xs ++ x ∷ []) ys → slice_get ys (length xs) ≡ Some x
 get_newest xs ys x s = get_starts (xs ++ x ∷ []) ys (length xs) x s (get_last xs x)

@@ -108,7 +108,7 @@ module _ (p : Program) (o : Object) (vars : ℕ) (bs : Blocks) (L : Lowers p bs)
     done : (ran o n).state.status ≡ Done → (s : State) × (meaning p n ≡ Ended s) × ((ran o n).outputs ≡ s.out)
     running : (ran o n).state.status ≡ Running → Begins (ran o n).outputs (outputs (meaning p n))
 
-  -- where the flow is done after n of its steps
+  -- if the flow is done after n of its steps
   seen_done : (n : ℕ) → (at n).done ≡ true → Seen n
   seen_done n d =
       let c = spent n in
@@ -126,7 +126,7 @@ module _ (p : Program) (o : Object) (vars : ℕ) (bs : Blocks) (L : Lowers p bs)
             (subst (λ x. Begins (ran o n).outputs x) out (outputs_grow o None [] n c (omega (arith, lt))));
       }
 
-  -- where it is running
+  -- if it is running
   seen_running : (n : ℕ) → (at n).done ≡ false → Seen n
   seen_running n d =
       let c = spent n in

@@ -90,7 +90,7 @@ module _ (F : List Node) where
     small = λ q known. h.small q (forgotten k spare q known).1;
   }
 
-  -- what is so of a walk so far
+  -- what holds of a walk so far
   pub record IsLawful (scope : ℕ) (k : Known) (w : Noted) : Type 0 where
     pub named : IsNamed scope k (length w.nodes) w.pairs w.memory
     pub fine : AreFine w.nodes

@@ -63,7 +63,7 @@ module _ (o : Object) where
   unfolding need for_typed
   op_word_row c p rd rs v k a x hs = rw (hs, same_colours k) refl
 
-  -- a green load, where nothing waits
+  -- a green load, if nothing waits
   pub load_green_row : (c : Context) (rd rs : Reg) (x : Polynomial) → c.queue ≡ [] → typed c rs.number
       ≡ Some (ty Green (ref int) x) → row o c (instr.Ld Green rd rs)
       ≡ Goes (with_type rd.number (ty Green int (norm_sel c.memory x)) c)
@@ -76,14 +76,14 @@ module _ (o : Object) where
   unfolding need for_typed for_ref_over same_colour
   load_blue_row c rd rs x hs = rw hs refl
 
-  -- a green store, where nothing waits
+  -- a green store, if nothing waits
   pub store_green_row : (c : Context) (rd rs : Reg) (a x : Polynomial) → c.queue ≡ [] → typed c rd.number
       ≡ Some (ty Green (ref int) a) → typed c rs.number ≡ Some (ty Green int x) → row o c (instr.St Green rd rs)
       ≡ Goes (record c { queue = (a, x) ∷ [] })
   unfolding need for_typed for_ref_over is_seen_as same_basic same_colour
   store_green_row c rd rs a x q hd hs = rw (hd, hs, q) refl
 
-  -- a blue store, where the same waits
+  -- a blue store, if the same waits
   pub store_blue_row : (c : Context) (rd rs : Reg) (a x : Polynomial) → c.queue ≡ (a, x) ∷ [] → typed c rd.number
       ≡ Some (ty Blue (ref int) a) → typed c rs.number ≡ Some (ty Blue int x) → row o c (instr.St Blue rd rs)
       ≡ Goes (record c { queue = []; memory = norm_upd c.memory a x })

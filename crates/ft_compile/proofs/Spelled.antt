@@ -134,7 +134,7 @@ module _ (vars : ℕ) (start : ℕ → ℕ) where
 
 -- CODE TYPES
 
--- the registers of the blue rows rise
+-- the registers of the blue rows increase
 blue_rising : (least a n : ℕ) → least ≤ 32 + a → a + n ≤ 32 → AreRising least (map blue_row (range_with_len a n))
 blue_rising least a zero h k = tt
 blue_rising least a (suc n) h k =
@@ -175,7 +175,7 @@ module _ (nodes : List Node) (vars : ℕ) (few : vars ≤ 32) (s : Starts (at_fi
         scope_within = omega arith;
       })
 
-  -- what is so of each number below the variables is so of their list
+  -- what holds of each number below the variables holds of their list
   range_all : (P : ℕ → Type 0) → ((i : ℕ) → i < vars → P i) → All P (range_with_len 0 vars)
   range_all P h k d lt = let l = length-range_with_len 0 vars in let kv : k < vars = omega arith in
       let z : k ≡ 0 + k = omega arith in subst P (z ∙ sym (get_or-range_with_len 0 vars k d kv)) (h k kv)

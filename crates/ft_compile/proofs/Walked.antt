@@ -30,7 +30,7 @@ use Rattle.ft_compile.proofs.Named.{AreFine, IsNamed, IsLawful, step_lawful}
 
 -- WHAT IS NOTED ONLY GROWS
 
--- the nodes and the rows of one walk begin those of another
+-- the nodes and the rows of one walk are a prefix of those of another
 pub record Grows (w v : Noted) : Type 0 where
   pub nodes : Starts w.nodes v.nodes
   pub rows : Starts w.rows v.rows
@@ -104,18 +104,18 @@ blocks_grow vars b w (x ∷ xs) = grows_trans w (block_noted vars b w x) _ (bloc
 
 -- WELL FORMED BLOCKS, ONE AFTER ANOTHER
 
--- what is so of the steps of block b, of so many blocks
+-- what holds of the steps of block b, of n blocks
 pub record RowIsFine (vars cells blocks b : ℕ) (x : List Step3) : Type 0 where
   pub ended : IsBlock x
   pub well : RowIsWell vars cells blocks (known_first vars b) x
   pub pairs : All (λ i. All (λ p. p < 32) (pairs_of i)) x
 
--- it is so of these blocks, of which the first is block b
+-- it holds of these blocks, the first of which is block b
 abbrev pub RowsAreFine : ℕ → ℕ → ℕ → ℕ → Blocks → Type 0
 RowsAreFine vars cells blocks b [] = Unit {0}
 RowsAreFine vars cells blocks b (x ∷ xs) = RowIsFine vars cells blocks b x × RowsAreFine vars cells blocks (suc b) xs
 
--- it is so of blocks of which each is well formed
+-- it holds of blocks if each is well formed
 rows_from : (vars cells blocks b : ℕ) (xs : Blocks) → ((j : ℕ) → j < length xs → IsBlock (block_of xs j)) →
     ((j : ℕ) → j < length xs → RowIsWell vars cells blocks (known_first vars (b + j)) (block_of xs j)) →
     PairsBelow 32 xs → RowsAreFine vars cells blocks b xs
@@ -133,7 +133,7 @@ rows_from vars cells blocks b (x ∷ xs) e w p =
           (w (suc j) (omega arith))) (λ k d h. p (suc k) d (omega arith)),
     )
 
--- it is so of well formed blocks
+-- it holds of well formed blocks
 pub well_rows : (vars cells : ℕ) (bs : Blocks) → IsWell vars cells bs → RowsAreFine vars cells (length bs) 0 bs
 well_rows vars cells bs h = rows_from vars cells (length bs) 0 bs h.ended (λ j lt. let z : j ≡ 0 + j = omega arith in
     subst (λ n. RowIsWell vars cells (length bs) (known_first vars n) (block_of bs j)) z (h.rows j lt)) h.pairs
@@ -219,7 +219,7 @@ module _ (F : List Node) (R : List ℕ) where
       jump_covered vars scope spare k w few le sn sr h reads c
   step_covered vars scope k w Stop few le reads sn sr h c = c
 
-  -- what is so of a walk between blocks
+  -- what holds of a walk between blocks
   pub record IsSound (w : Noted) : Type 0 where
     pub fine : AreFine F w.nodes
     pub covered : IsCovered w

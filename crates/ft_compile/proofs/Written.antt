@@ -1,4 +1,4 @@
--- Where an object stands for a program, outputs have the same lines by the object's cells as by the program's names.
+-- If an object stands for a program, outputs have the same lines by the object's cells as by the program's names.
 use Rattle.std.proofs.Common.{◌≡◌, ℕ, ◌+◌, ◌*◌, ◌-◌, ◌≤◌, List, [], ◌∷◌, None, refl, sym, ap, ◌∙◌, subst, slice_get}
 use Rattle.std.proofs.Common.{map}
 use Rattle.std.specs.Option.{unwrap_or}
@@ -32,12 +32,12 @@ lines_by_names o names e [] = refl
 lines_by_names o names e (x ∷ xs) = ap (λ l. l ∷ object_lines o xs) (same_line o names e x)
     ∙ ap (λ ls. line_of names x ∷ ls) (lines_by_names o names e xs)
 
--- the lines of outputs, where an object stands for a program
+-- the lines of outputs, if an object stands for a program
 pub same_lines : (p : Program) (o : Object) → StandsFor p o → (xs : List Output) → object_lines o xs
     ≡ output_lines p.names xs
 same_lines p o h xs = lines_by_names o p.names h.names xs
 
--- lines begin lines where outputs begin outputs
+-- lines are a prefix of lines if outputs are a prefix of outputs
 lines_begin : (names : List (List ℕ)) (xs ys : List Output) → Begins xs ys →
     LinesBegin (output_lines names xs) (output_lines names ys)
 lines_begin names xs ys h = (
@@ -53,7 +53,7 @@ done_lines p o h n d =
     let m = h.run.done n d in
     (m.0, m.1, same_lines p o h (outputs_after o None [] n) ∙ ap (output_lines p.names) m.2)
 
--- the lines of a run that is running begin those of the meaning
+-- the lines of a run that is running are a prefix of those of the meaning
 pub running_lines : (p : Program) (o : Object) → StandsFor p o → (n : ℕ) → status_after o None [] n ≡ Running →
     LinesBegin (object_lines o (outputs_after o None [] n)) (output_lines p.names (outputs (meaning p n)))
 running_lines p o h n r =
@@ -61,7 +61,7 @@ running_lines p o h n r =
     (sym (same_lines p o h (outputs_after o None [] n)))
     (lines_begin p.names (outputs_after o None [] n) (outputs (meaning p n)) (h.run.running n r))
 
--- where the meaning ends, the run does so with its lines
+-- if the meaning ends, the run does so with its lines
 pub ended_lines : (p : Program) (o : Object) → StandsFor p o → (n t : ℕ) (s : State) → meaning p t ≡ Ended s →
     16 * s.work + 320 ≤ n → (status_after o None [] n ≡ Done)
     × (object_lines o (outputs_after o None [] n) ≡ output_lines p.names s.out)
@@ -69,7 +69,7 @@ ended_lines p o h n t s e lt =
     let m = h.run.ends n t s e lt in
     (m.0, same_lines p o h (outputs_after o None [] n) ∙ ap (output_lines p.names) m.1)
 
--- the lines of a meaning that is cut begin those of the run
+-- the lines of a meaning that is cut are a prefix of those of the run
 pub cut_lines : (p : Program) (o : Object) → StandsFor p o → (n t : ℕ) (s : State) → meaning p t ≡ Cut s →
     16 * s.work + 320 ≤ n → LinesBegin (output_lines p.names s.out) (object_lines o (outputs_after o None [] n))
 cut_lines p o h n t s e lt =

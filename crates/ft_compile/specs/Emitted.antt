@@ -54,7 +54,7 @@ with_pair_node scope p x w = record w { nodes = w.nodes ++ node scope x ∷ []; 
 abbrev pub with_memory_node : ℕ → Shape → Noted → Noted
 with_memory_node scope x w = record w { nodes = w.nodes ++ node scope x ∷ []; memory = length w.nodes }
 
--- with three more nodes, of which the last is the address of the cell of an array that a word names
+-- with three more nodes, the last of which is the address of the array cell that a word selects
 abbrev pub with_address_nodes : ℕ → ℕ → ℕ → ℕ → Noted → Noted
 with_address_nodes scope start many q w =
     with_node scope (shape.Op Add (length w.nodes) (length w.nodes + 1))
@@ -86,11 +86,11 @@ abbrev pub row_noted : ℕ → ℕ → Noted → List Step3 → Noted
 row_noted vars scope w [] = w
 row_noted vars scope w (i ∷ is) = row_noted vars scope (step_noted vars scope w i) is
 
--- the nodes of the pairs where a block begins: node 1 + i is variable i
+-- the nodes of the pairs at the start of a block: node 1 + i is variable i
 abbrev pub first_pairs : List ℕ
 first_pairs = range_with_len 1 32
 
--- where a block begins: node 0 is the memory
+-- at the start of a block: node 0 is the memory
 abbrev pub begun : Noted → Noted
 begun w = record w { pairs = first_pairs; memory = 0 }
 
@@ -99,7 +99,7 @@ abbrev pub scope_of_block : ℕ → ℕ → ℕ
 scope_of_block vars zero = 0
 scope_of_block vars (suc b) = vars
 
--- after these blocks, of which the first is block b
+-- after these blocks, the first of which is block b
 abbrev pub blocks_noted : ℕ → ℕ → Noted → Blocks → Noted
 blocks_noted vars b w [] = w
 blocks_noted vars b w (x ∷ xs) = blocks_noted vars (suc b) (row_noted vars (scope_of_block vars b) (begun w) x) xs
@@ -116,7 +116,7 @@ at_first vars = record { nodes = node 0 shape.Memory ∷ map (variable_node vars
 abbrev pub noted : ℕ → Blocks → Noted
 noted vars bs = blocks_noted vars 0 (at_first vars) bs
 
--- an instruction with this substitution, where it is a blue jump or branch and there is one
+-- an instruction with this substitution, if it is a blue jump or branch and there is one
 abbrev pub with_subst : Instr → List Subst → Instr
 with_subst (instr.JmpB rd t) (u ∷ us) = instr.JmpB rd u
 with_subst (instr.BzB rz rd t) (u ∷ us) = instr.BzB rz rd u
@@ -140,7 +140,7 @@ green_row i = record { reg = green i; colour = Green; basic = int; expr = 1 + i 
 abbrev pub blue_row : ℕ → RegType
 blue_row i = record { reg = blue i; colour = Blue; basic = int; expr = 1 + i }
 
--- code type 0, the entry's: nothing is known but the memory
+-- code type 0, the entry's: only the memory is known
 abbrev pub entry_type : CodeType
 entry_type = record { ints = 0; regs = []; queue = []; memory = 0 }
 
@@ -172,9 +172,9 @@ emitted names inits vars bs = record {
   entry = 0;
 }
 
--- the object is that of a flow of the program, over the program's cells and at most 32 variables: its blocks are well formed,
--- their run commits what the program means and ends when it ends, and they become at most as many instructions as the
--- program weighs and name pairs below its need
+-- the object is that of a flow of the program, over the program's cells and at most 32 variables: its blocks are well
+-- formed, their run commits what the program means and ends when that does, and they become at most as many
+-- instructions as the program weighs and name pairs below its need
 pub record IsEmitted (p : Program) (o : Object) : Type 0 where
   pub flow : Blocks
   pub few : p.vars ≤ 32

@@ -38,11 +38,11 @@ pub record IsEmission (names : List (List ℕ)) (inits : List ℕ) (bs : Blocks)
   pub carries : Carries o (length inits) bs
   pub instrs : length o.instrs ≡ blocks_size bs
 
--- so is the object of well formed blocks over at most 32 variables
+-- the object made from well formed blocks over at most 32 variables is such an object
 abbrev pub EmittedObjectsAreAccepted : Type 0
 EmittedObjectsAreAccepted = (names : List (List ℕ)) (inits : List ℕ) (vars : ℕ) (bs : Blocks) → AreCells names inits → vars ≤ 32 → IsWell vars (length inits) bs → IsEmission names inits bs (emitted names inits vars bs)
 
--- the cells of a text's program have lawful names that differ
+-- the cells of a text's program have different, valid names
 abbrev pub ProgramsHaveCells : Type 0
 ProgramsHaveCells = (text : List ℕ) (p : Program) → IsProgramOf text p → AreCells p.names p.inits
 
@@ -54,7 +54,7 @@ ProgramsHaveObjects = (text : List ℕ) (p : Program) → IsProgramOf text p →
 abbrev pub CompiledObjectsAreModules : Type 0
 CompiledObjectsAreModules = (text : List ℕ) (p : Program) (o : Object) → IsProgramOf text p → IsEmitted p o → IsModule o.cells o
 
--- nor to what comes from it by permitted exchanges, as its schedule does
+-- nor to an object that comes from it by permitted exchanges, such as its schedule
 abbrev pub SchedulesOfCompiledObjectsAreModules : Type 0
 SchedulesOfCompiledObjectsAreModules = (text : List ℕ) (p : Program) (o s : Object) → IsProgramOf text p → IsEmitted p o → ComesFrom o s → IsModule s.cells s
 
@@ -62,26 +62,26 @@ SchedulesOfCompiledObjectsAreModules = (text : List ℕ) (p : Program) (o s : Ob
 abbrev pub object_lines : Object → List Output → List (List ℕ)
 object_lines o xs = map (line_at o) xs
 
--- the one list of lines begins the other
+-- one list of lines is a prefix of the other
 abbrev pub LinesBegin : List (List ℕ) → List (List ℕ) → Type 0
 LinesBegin front all = (rest : List (List ℕ)) × (front ++ rest ≡ all)
 
--- where an object stands for a program, outputs have the same lines by the object's cells as by the program's names
+-- if an object stands for a program, outputs have the same lines by the object's cells as by the program's names
 abbrev pub LinesAreByTheProgramsNames : Type 0
 LinesAreByTheProgramsNames = (p : Program) (o : Object) → StandsFor p o → (xs : List Output) → object_lines o xs ≡ output_lines p.names xs
 
--- where its run is done after n steps, its lines are those of the meaning with n turns, which has ended
+-- if its run is done after n steps, its lines are those of the meaning with n turns, which has ended
 abbrev pub DoneRunsWriteTheMeaning : Type 0
 DoneRunsWriteTheMeaning = (p : Program) (o : Object) → StandsFor p o → (n : ℕ) → status_after o None [] n ≡ Done → (s : State) × (meaning p n ≡ Ended s) × (object_lines o (outputs_after o None [] n) ≡ output_lines p.names s.out)
 
--- where its run is running after n steps, its lines begin those of the meaning with n turns
+-- if its run is running after n steps, its lines are a prefix of those of the meaning with n turns
 abbrev pub RunningRunsBeginTheMeaning : Type 0
 RunningRunsBeginTheMeaning = (p : Program) (o : Object) → StandsFor p o → (n : ℕ) → status_after o None [] n ≡ Running → LinesBegin (object_lines o (outputs_after o None [] n)) (output_lines p.names (outputs (meaning p n)))
 
--- where the meaning has ended, the run is done with its lines after 16 times the work and 320 steps more
+-- if the meaning has ended, the run is done with its lines after 16 times the work plus 320 steps
 abbrev pub EndedMeaningsAreWritten : Type 0
 EndedMeaningsAreWritten = (p : Program) (o : Object) → StandsFor p o → (n t : ℕ) (s : State) → meaning p t ≡ Ended s → 16 * s.work + 320 ≤ n → (status_after o None [] n ≡ Done) × (object_lines o (outputs_after o None [] n) ≡ output_lines p.names s.out)
 
--- where the meaning is cut, its lines begin those of the run after so many steps
+-- if the meaning is cut, its lines are a prefix of those of the run after the same number of steps
 abbrev pub CutMeaningsBeginTheRun : Type 0
 CutMeaningsBeginTheRun = (p : Program) (o : Object) → StandsFor p o → (n t : ℕ) (s : State) → meaning p t ≡ Cut s → 16 * s.work + 320 ≤ n → LinesBegin (output_lines p.names s.out) (object_lines o (outputs_after o None [] n))

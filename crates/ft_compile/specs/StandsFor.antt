@@ -16,13 +16,13 @@ use Rattle.ft_meaning.specs.Begins.{Begins}
 pub record RunsAsMeant (p : Program) (o : Object) : Type 0 where
   -- it is never detected
   pub undetected : (n : ℕ) → status_after o None [] n ≢ Detected
-  -- where it is done after n steps, the meaning with n turns has ended with its outputs
+  -- if it is done after n steps, the meaning with n turns has ended with its outputs
   pub done : (n : ℕ) → status_after o None [] n ≡ Done → (s : State) × (meaning p n ≡ Ended s) × (outputs_after o None [] n ≡ s.out)
-  -- where it is running after n steps, its outputs begin those of the meaning with n turns
+  -- if it is running after n steps, its outputs are a prefix of those of the meaning with n turns
   pub running : (n : ℕ) → status_after o None [] n ≡ Running → Begins (outputs_after o None [] n) (outputs (meaning p n))
-  -- where the meaning has ended, the run is done with its outputs after 16 times the work and 320 steps more
+  -- if the meaning has ended, the run is done with its outputs after 16 times the work plus 320 steps
   pub ends : (n t : ℕ) (s : State) → meaning p t ≡ Ended s → 16 * s.work + 320 ≤ n → (status_after o None [] n ≡ Done) × (outputs_after o None [] n ≡ s.out)
-  -- where the meaning is cut, the run then has its outputs
+  -- if the meaning is cut, the run then has its outputs
   pub cuts : (n t : ℕ) (s : State) → meaning p t ≡ Cut s → 16 * s.work + 320 ≤ n → Begins s.out (outputs_after o None [] n)
 
 -- the initial word of a cell

@@ -18,7 +18,7 @@ fn cell_of(name: Vec<u8>, init: u64) -> Cell
     }
 }
 
-/// The cells of type `int` with these names and initial words, of which there are as many.
+/// The cells of type `int` with these names and as many initial words.
 pub fn cells_of(alloc: Global, names: Vec<Vec<u8>>, inits: &[u64]) -> Result<Vec<Cell>, AllocError>
     requires { length names.items ≡ length inits.now }
     ensures { IfOk result (λ v. v.items ≡ map cell_from (zip (map (λ n. n.items) names.items) inits.now)) }

@@ -40,7 +40,7 @@ fn put_blue(regs: &mut Vec<RegType>, vars: u8) -> Result<(), AllocError>
     Ok(())
 }
 
-/// The code type of the entry: nothing is known but the memory.
+/// The code type of the entry: only the memory is known.
 fn entry_of(alloc: Global) -> CodeType
     ensures { result ≡ entry_type }
 {
@@ -68,7 +68,7 @@ fn variables_of(alloc: Global, vars: u8) -> Result<CodeType, AllocError>
     })
 }
 
-/// The code types of an object with so many variables.
+/// The code types of an object with this many variables.
 pub fn types_of(alloc: Global, vars: u8) -> Result<Vec<CodeType>, AllocError>
     requires { vars ≤ 32 }
     ensures { IfOk result (λ v. v.items ≡ entry_type ∷ variables_type vars ∷ []) }

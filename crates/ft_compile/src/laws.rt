@@ -7,13 +7,14 @@ pub fn carried_blocks_run_as_meant()
     ensures { CarriedBlocksRunAsMeant }
 {}
 
-/// The object of well formed blocks, over at most 1,024 cells with lawful names, carries the blocks, and
-/// is spellable and accepted.
+/// The object of well formed blocks, over at most 1,024 cells with valid names, carries the blocks, and is spellable
+/// and accepted.
 pub fn emitted_objects_are_accepted()
     ensures { EmittedObjectsAreAccepted }
 {}
 
-/// The cells of a text's program have names of 1 to 38 bytes that differ and are lawful in objects, and there are at most 1,024.
+/// The cells of a text's program have different names of 1 to 38 bytes that are valid in objects, and there are at most
+/// 1,024.
 pub fn programs_have_cells()
     ensures { ProgramsHaveCells }
 {}
@@ -23,21 +24,21 @@ pub fn programs_have_objects()
     ensures { ProgramsHaveObjects }
 {}
 
-/// The object that is compiled of a text is a module that the linker takes: it is spellable and accepted,
-/// its cells and rows have the base `int`, and the walk that traces code addresses fails in none of its
-/// blocks. So is its schedule.
+/// The object that a text is compiled to is a module that the linker accepts: it is spellable and accepted, its cells
+/// and rows have the base `int`, and the walk that traces code addresses fails in none of its blocks. So is its
+/// schedule.
 pub fn compiled_objects_are_modules()
     ensures compiled { CompiledObjectsAreModules }
     ensures scheduled { SchedulesOfCompiledObjectsAreModules }
 {}
 
-/// Where an object stands for a program, outputs have the same lines by the names of the object's cells, as
-/// they are written for a run, as by the program's names, as they are written for a meaning. So the run and
-/// the meaning write the same where both end: a run that is done after n steps has the lines of the meaning
-/// with n turns, and one of at least 16 times the work and 320 steps is done, with the lines of the meaning.
-/// Where one of them is cut short, what it writes begins what the other writes: the lines of a run that is
-/// running after n steps begin those of the meaning with n turns, and the lines of a meaning that is cut
-/// begin those of a run of so many steps.
+/// If an object stands for a program, outputs have the same lines by the names of the object's cells, as they are
+/// written for a run, as by the program's names, as they are written for a meaning. So the run and the meaning write
+/// the same if both end: a run that is done after n steps has the lines of the meaning with n turns, and a run of at
+/// least 16 times the work plus 320 steps is done, with the lines of the meaning. If one of them is cut short, its lines
+/// are a prefix of the other's: the lines of a run that is running after n steps are a prefix of those of the meaning
+/// with n turns, and the lines of a meaning that is cut are a prefix of those of a run of at least 16 times its work
+/// plus 320 steps.
 pub fn runs_and_meanings_write_the_same_lines()
     ensures lines { LinesAreByTheProgramsNames }
     ensures done { DoneRunsWriteTheMeaning }

@@ -12,7 +12,7 @@ use std::alloc::{AllocError, Global};
 /// How many pairs there are.
 const PAIRS: usize = 32;
 
-/// The nodes of the pairs where a block begins: variable i has the node 1 + i.
+/// The nodes of the pairs at the start of a block: variable i has the node 1 + i.
 const FIRST_PAIRS: [u32; PAIRS] = [
     1, 2, 3, 4, 5, 6, 7, 8, 9, 10, 11, 12, 13, 14, 15, 16, 17, 18, 19, 20, 21, 22, 23, 24, 25, 26,
     27, 28, 29, 30, 31, 32,
@@ -30,8 +30,8 @@ pub struct Notes {
 }
 
 impl Notes {
-    /// The memory variable, and so many variables. There is room for what is noted along so many instructions: no step has more
-    /// nodes than instructions, and a jump has four.
+    /// The memory variable, and this many variables. There is room for what is noted along this many instructions: no
+    /// step has more nodes than instructions, and a jump has four.
     pub fn new(alloc: Global, vars: u8, instrs: usize) -> Result<Notes, AllocError>
         ensures { IfOk result (λ n. noted_of n ≡ at_first vars) }
     {
@@ -66,7 +66,7 @@ impl Notes {
         self.memory = 0;
     }
 
-    /// Adds a node, and gives its number.
+    /// Adds a node, and returns its number.
     pub fn put(&mut self, scope: u8, shape: Shape) -> Result<u32, AllocError>
         requires { length self.old.nodes.items < 1048576 }
         ensures number { IfOk result (λ n. n ≡ length self.old.nodes.items) }

@@ -79,7 +79,7 @@ fn note_store(notes: &mut Notes, scope: u8, cell: u32, q: u8) -> Result<(), Allo
     Ok(())
 }
 
-/// Notes the address of the cell of an array that the word of pair `q` names, and gives its node.
+/// Notes the address of the array cell that the word of pair `q` selects, and returns its node.
 fn note_address(
     notes: &mut Notes,
     scope: u8,
@@ -112,7 +112,7 @@ fn note_address(
     Ok(address)
 }
 
-/// Notes a load of the cell of an array that pair `q` names, to pair `p`.
+/// Notes a load of the array cell that pair `q` selects, to pair `p`.
 fn note_load_at(
     notes: &mut Notes,
     scope: u8,
@@ -132,7 +132,7 @@ fn note_load_at(
     Ok(())
 }
 
-/// Notes a store of pair `q` to the cell of an array that pair `i` names.
+/// Notes a store of pair `q` to the array cell that pair `i` selects.
 fn note_store_at(
     notes: &mut Notes,
     scope: u8,
@@ -153,7 +153,7 @@ fn note_store_at(
     Ok(())
 }
 
-/// Notes a step of a block of this scope, in a flow of so many variables.
+/// Notes a step of a block of this scope, in a flow with this many variables.
 fn note_step(notes: &mut Notes, vars: u8, scope: u8, step: Step3) -> Result<(), AllocError>
     requires vars { vars ≤ 32 }
     requires pairs { All (λ p. p < 32) (pairs_of step) }
@@ -198,8 +198,8 @@ fn note_row(notes: &mut Notes, vars: u8, scope: u8, steps: &[Step3]) -> Result<(
     Ok(())
 }
 
-/// Notes all blocks of a flow, which become so many instructions: the entry has no variable, and the others have those of the
-/// flow.
+/// Notes all blocks of a flow, which become this many instructions: the entry has no variable, and the others have
+/// those of the flow.
 pub fn note_flow(alloc: Global, flow: &Flow, instrs: usize) -> Result<Notes, AllocError>
     requires vars { flow.now.vars ≤ 32 }
     requires pairs { PairsBelow 32 (blocks_of flow.now) }

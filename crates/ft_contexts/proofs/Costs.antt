@@ -30,7 +30,7 @@ pub cost_rises : (o : Object) (u v : ℕ) → u ≤ v → tree_cost o u ≤ tree
 unfolding tree_cost
 cost_rises o u v l = mul-le-mul_left (length o.nodes) (omega arith)
 
--- so many trees and one more
+-- n trees and one more
 pub one_tree : (s t r i j c : ℕ) → s ≤ i + j * c → t ≤ s + c → r ≡ j + 1 → t ≤ i + r * c
 one_tree s t r i j c h k e = rw e (let m : (j + 1) * c ≡ j * c + c = omega arith in rw m (omega (arith, h, k)))
 
@@ -38,7 +38,7 @@ one_tree s t r i j c h k e = rw e (let m : (j + 1) * c ≡ j * c + c = omega ari
 pub some_trees : (s i j r c : ℕ) → s ≤ i + j * c → j ≤ r → s ≤ i + r * c
 some_trees s i j r c h l = let m : j * c ≤ r * c = mul-le-mul_right c l in omega (arith, h, m)
 
--- rows of registers that rise are at most 64
+-- rows of registers that increase are at most 64
 rows_few : (least : ℕ) (rs : List RegType) → AreRising least rs → least ≤ 64 → length rs + least ≤ 64
 rows_few least [] h l = omega arith
 rows_few least (r ∷ rs) h l = let b = r.reg.in_range in let k = rows_few (suc r.reg.number) rs h.1 (omega arith) in

@@ -1,4 +1,4 @@
--- What is held stays, and says the same, where the list of forms grows.
+-- What is held stays, and says the same, if the list of forms grows.
 use Rattle.std.proofs.Common.{◌≡◌, ℕ, suc, List, [], ◌∷◌, map, Option, None, Some, refl, ap}
 use Rattle.std.specs.Option.{unwrap_or}
 use Rattle.ft_static.specs.Form.{Form as Normal, integer_form, memory_form, polynomial_of, updates_of, Polynomial}

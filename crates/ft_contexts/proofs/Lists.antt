@@ -14,19 +14,19 @@ get_pushed (a ∷ xs) y zero x e P last before = before 0 x e
 get_pushed (a ∷ xs) y (suc k) x e P last before = get_pushed xs y k x e (λ j z. P (suc j) z) last (λ j z f.
     before (suc j) z f)
 
--- the part of a list from the place of an element on
+-- the part of a list from the place of an element
 pub range_there : {X : Type 0} (xs : List X) (i j : ℕ) (x : X) → i < j → slice_get xs i ≡ Some x → slice_range xs i j
     ≡ x ∷ slice_range xs (i + 1) j
 range_there xs i j x l e =
     let n : j - i ≡ suc (j - (i + 1)) = omega arith in
     rw (drop_next xs i x e, n) refl
 
--- a test of all from a place on, where the first passes
+-- a test of all from a place, if the first passes
 pub all_turn : {X : Type 0} (p : X → Bool) (xs ys : List X) (x : X) → xs ≡ x ∷ ys → p x ≡ true → list_all p xs
     ≡ list_all p ys
 all_turn p xs ys x e h = rw (e, h) refl
 
--- and where it doesn't
+-- and if it doesn't
 pub all_stop : {X : Type 0} (p : X → Bool) (xs ys : List X) (x : X) → xs ≡ x ∷ ys → p x ≡ false → list_all p xs ≡ false
 all_stop p xs ys x e h = rw (e, h) refl
 

@@ -1,4 +1,4 @@
--- Static queues: after a pair is added, and after the oldest is gone.
+-- Static queues: after a pair is added, and after the oldest is removed.
 use Rattle.std.proofs.Common.{suc, List, [], ◌∷◌, ◌++◌, drop}
 use Rattle.ft_static.specs.Form.{Form as Normal}
 use Rattle.ft_norm.specs.declared.form.Form.{Form}

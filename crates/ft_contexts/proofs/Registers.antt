@@ -14,7 +14,7 @@ use Rattle.ft_types.specs.Spellable.{IsBase}
 use Rattle.ft_contexts.specs.declared.register.RegForm.{RegForm}
 use Rattle.ft_contexts.specs.Contexts.{typed_in, with_known, registers_in, HoldsRegisters, RegistersNameTypes}
 
--- numbers that are told apart
+-- numbers that are different
 pub apart : (q n : ℕ) → q ≢ n → eqb q n ≡ false
 apart q n h = by_test (eqb q n) refl
   where
@@ -32,7 +32,7 @@ get_same : (m : TypedRegisters) (n : ℕ) (t : Typed) → finite.get (finite.ins
 get_same m n t = finite.get-insert nat_cmp_total m n t n ∙ ap (λ b. cond b (Some t) (finite.get m n)) (unsigned_tied n n
     ∙ eq-eqb n n refl)
 
--- what is known of register n where this was noted of it last
+-- what is known of register n if this was noted of it last
 get_known : (x : Option Typed) (m : TypedRegisters) (n : ℕ) → finite.get m n ≡ None → finite.get (with_known n x m) n
     ≡ x
 get_known None m n h = h
@@ -54,7 +54,7 @@ get_below fs n (x ∷ xs) q h =
     get_unchanged (option_map (typed_in fs) x) (registers_in fs (suc n) xs) n q ne
     ∙ get_below fs (suc n) xs q (omega arith)
 
--- what is known of a register is what stands in its place
+-- what is known of a register is what is in its place
 pub get_at : (fs : List Normal) (n : ℕ) (xs : List (Option RegForm)) (r q : ℕ) → q ≡ n + r →
     finite.get (registers_in fs n xs) q ≡ option_map (typed_in fs) (get_or xs r None)
 unfolding registers_in
@@ -97,7 +97,7 @@ pub registers_set : (fs : List Normal) (xs : List (Option RegForm)) (r : ℕ) (k
 registers_set fs xs r k h = finite.same_map nat_cmp_total finite.nat_cmp-IsAntisymmetric _ _ (λ q.
     get_set fs xs r k q h)
 
--- what stands in a place is there
+-- what is in a place exists
 pub there_from_get_or : (xs : List (Option RegForm)) (r : ℕ) (x : RegForm) → get_or xs r None ≡ Some x → slice_get xs r
     ≡ Some (Some x)
 there_from_get_or [] r x e = cc

@@ -24,7 +24,7 @@ held_integers fs a b h k =
           ∙ k.found in cc),
     )
 
--- and two memories where their updates are
+-- and two memories if their updates are
 pub held_memories : (fs : List Normal) (a b : Form) → IsMemory fs a → IsMemory fs b →
     (same_updates (updates_held fs a) (updates_held fs b) ≡ true) ↔ (held fs a ≡ held fs b)
 held_memories fs a b h k =

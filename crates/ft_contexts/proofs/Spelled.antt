@@ -23,7 +23,7 @@ type_there o t h = there o.types t h
     there (x ∷ ts) zero h = (x, refl)
     there (x ∷ ts) (suc t) h = there ts t (omega arith)
 
--- the register rows of a code type are so
+-- the register rows of a code type obey the rules
 pub reg_row_spelled : (o : Object) (t j : ℕ) (r : RegType) → IsSpellable o → t < length o.types →
     slice_get (reg_rows o t) j ≡ Some r → IsRegRow (length o.types) o.nodes (ints_of o t) r
 reg_row_spelled o t j r h l e =
@@ -56,7 +56,7 @@ memory_spelled o t h l =
     let ints : ints_of o t ≡ x.0.ints = ap (λ (y : Option CodeType). unwrap_or (option_map ints_of_type y) 0) x.1 in
     rw (ints, memory) k.memory
 
--- an instruction is so
+-- an instruction obeys the rules
 pub instr_spelled : (o : Object) (k : ℕ) (i : Instr) → IsSpellable o → slice_get o.instrs k ≡ Some i →
     IsInstr (length o.types) (length o.cells) i
 instr_spelled o k i h e = all_there (IsInstr (length o.types) (length o.cells)) o.instrs k i h.instrs e
@@ -67,7 +67,7 @@ cover_rest : (nodes : List Node) (rows first : ℕ) (x : Option Subst) (ss : Lis
 cover_rest nodes rows first None ss h = (first, h)
 cover_rest nodes rows first (Some s) ss h = (s.past, h.1)
 
--- a substitution that is covered is so
+-- a covered substitution obeys the rules
 covered : (nodes : List Node) (rows first : ℕ) (is : List Instr) (k : ℕ) (i : Instr) (u : Subst) →
     Cover nodes rows first (substs_of is) → slice_get is k ≡ Some i → subst_of i ≡ Some u → IsSubst nodes rows u.first u
 covered nodes rows first [] k i u h e s = cc

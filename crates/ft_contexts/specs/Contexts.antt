@@ -1,4 +1,4 @@
--- What a context of the code says, by the normal forms that an interner holds.
+-- Which context a context of the code stands for, given the normal forms that an interner holds.
 use Rattle.std.specs.Prelude.{◌≡◌, ◌<◌, ℕ, suc, List, [], ◌∷◌, map, length, Option, None, Some, slice_get}
 use Rattle.std.specs.Option.{option_map}
 use Rattle.std.specs.FinMap as finite
@@ -19,18 +19,18 @@ use Rattle.ft_contexts.specs.declared.variables.OwnVariables.{OwnVariables}
 use Rattle.ft_contexts.specs.declared.variables.Variables.{Variables}
 use Rattle.ft_contexts.specs.declared.context.Context.{Context}
 
--- WHAT A CONTEXT SAYS
+-- WHAT A CONTEXT MEANS
 
 -- what is known of a register
 abbrev pub typed_in : List Normal → RegForm → Typed
 typed_in fs r = record { colour = r.colour; basic = r.basic; form = polynomial fs r.form }
 
--- what is known of the registers where this is known of register n
+-- what is known of the registers if this is also known of register n
 abbrev pub with_known : ℕ → Option Typed → TypedRegisters → TypedRegisters
 with_known n None m = m
 with_known n (Some t) m = finite.insert m n t
 
--- what is known of the registers, which count from n
+-- what is known of the registers, counted from n
 unfoldable pub registers_in : List Normal → ℕ → List (Option RegForm) → TypedRegisters
 registers_in fs n [] = finite.empty
 registers_in fs n (x ∷ xs) = with_known n (option_map (typed_in fs) x) (registers_in fs (suc n) xs)
@@ -45,7 +45,7 @@ d_in fs (Conditional z t f) = d_conditional (polynomial fs z) t (polynomial fs f
 abbrev pub pair_in : List Normal → Form × Form → FormPair
 pair_in fs p = (polynomial fs p.0, polynomial fs p.1)
 
--- the context that a context of the code is
+-- the context that a context of the code stands for
 abbrev pub context_in : List Normal → Context → defined.Context
 context_in fs c = record {
   ints = c.ints;
@@ -80,7 +80,7 @@ pub record AreOwn (fs : List Normal) (n : ℕ) (v : Variables) : Type 0 where
   pub integers : (i : ℕ) (f : Form) → slice_get v.integers i ≡ Some f → held fs f ≡ Some (integer_form (alone (variable_atom i)))
   pub memory : held fs v.memory ≡ Some (memory_form unchanged)
 
--- what a memo remembers of an object's nodes is right where these are put for the variables
+-- what a memo remembers of an object's nodes is right if these are substituted for the variables
 abbrev pub RemembersUnder : Object → List Normal → Variables → Memo → Type 0
 RemembersUnder o fs v m = Remembers o.nodes fs v.integers v.memory m
 
@@ -112,7 +112,7 @@ pub record HoldsForms (fs : List Normal) (c : Context) : Type 0 where
 
 -- THE CODE TYPES THAT ARE NAMED
 
--- of so many code types, d's state names one
+-- the code type that d's state names, if any, is one of this many
 abbrev pub DNamesType : ℕ → StateD → Type 0
 DNamesType types Zero = Unit {0}
 DNamesType types (Code t f) = t < types

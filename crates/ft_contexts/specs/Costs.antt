@@ -2,6 +2,6 @@
 use Rattle.std.specs.Prelude.{ℕ, ◌+◌, ◌*◌, length}
 use Rattle.ft_types.specs.declared.object.Object.{Object}
 
--- the most steps that the form of one node takes, where the memory variable stands for u updates
+-- the most steps that the form of one node takes, if the memory variable stands for u updates
 unfoldable pub tree_cost : Object → ℕ → ℕ
 tree_cost o u = length o.nodes * (u + length o.nodes)

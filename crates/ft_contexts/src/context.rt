@@ -106,7 +106,7 @@ impl Context {
         })
     }
 
-    /// Becomes the same as another context, in the memory that it has. When out of memory, it may be a mixture.
+    /// Becomes the same as another context, in the memory that it has. If memory runs out, it may be a mixture.
     pub fn copy_from(&mut self, other: &Context) -> Result<(), NoMemory>
         ensures { OnOk result (self.new ≡ other.now) }
     {
@@ -194,8 +194,8 @@ impl Context {
         Ok(memory)
     }
 
-    /// The form of the memory that a load of this colour sees: a green one sees the pending stores.
-    /// Each update that is applied counts a step.
+    /// The form of the memory that a load of this colour sees: a green one sees the pending stores. Each update that is
+    /// applied counts as a step.
     pub fn seen<L: Ledger>(
         &self,
         colour: Colour,
@@ -232,7 +232,7 @@ impl Context {
         self.d = d;
     }
 
-    /// Adds a pair to the static queue, as the newest. When out of memory, nothing changes.
+    /// Adds a pair to the static queue, as the newest. If memory runs out, nothing changes.
     pub fn pend(&mut self, pair: (Form, Form)) -> Result<(), NoMemory>
         ensures context { OnOk result ((fs : List Normal) → context_in fs self.new ≡ record (context_in fs self.old) { queue = (context_in fs self.old).queue ++ pair_in fs pair ∷ [] }) }
         ensures held { OnOk result ((fs : List Normal) → HoldsForms fs self.old → IsInteger fs pair.0 × IsInteger fs pair.1 → HoldsForms fs self.new) }

@@ -1,13 +1,12 @@
-//! Typing contexts, by numbers of forms.
+//! Typing contexts, with numbers for forms.
 //!
 //! A `Context` is the context of the typing rules (`Context` in `ft_typing/specs`), with an array of
-//! registers, and numbers in the place of forms. `specs/Contexts.antt` says which context it is by the
-//! forms that an interner holds. The crate promises that `Context::start` is a code type's starting
-//! context, that each change of a context is the definition's, and that the comparisons of a context
-//! with the target of a transfer are exact.
+//! registers, and numbers in place of forms. `specs/Contexts.antt` says which defined context it stands
+//! for, given an interner's forms. The crate promises that `Context::start` is a code type's starting
+//! context, that each change of a context is the definition's, and that the comparisons of a context with
+//! the target of a transfer are exact.
 #![tactic(auto)]
 
-mod basic_types;
 mod context;
 mod destination;
 mod forms;
@@ -18,7 +17,6 @@ mod start;
 mod transfers;
 mod variables;
 
-pub use basic_types::{is_seen_as, same_basic, same_colour};
 pub use context::Context;
 pub use destination::StateD;
 pub use forms::same_integers;

@@ -1,4 +1,4 @@
-//! What a target wants: whether what holds here is as its code type says, after a substitution.
+//! What a target requires: whether what holds here is as its code type says, after a substitution.
 ghost use Rattle.std.specs.Prelude.{◌≡◌, ◌+◌, ◌*◌, ◌<◌, ◌≤◌, ◌&&◌, IfOk, length, nat_le};
 ghost use Rattle.std.specs.List.{list_all};
 ghost use Rattle.ft_static.specs.Form.{updates};
@@ -12,7 +12,6 @@ ghost use Rattle.ft_typing.specs.TypingRow.{same_colour};
 ghost use Rattle.ft_contexts.specs.Contexts.{HoldsVariables, RemembersUnder, replacement_in};
 ghost use Rattle.ft_contexts.specs.Costs.{tree_cost};
 
-use crate::basic_types::{is_seen_as, same_colour};
 use crate::context::Context;
 use crate::forms::{same_integers, same_memories};
 use crate::register::RegForm;
@@ -20,9 +19,10 @@ use crate::variables::Variables;
 use ft_isa::{NoMemory, Steps, Subst};
 use ft_norm::{Form, Interner, Memo};
 use ft_types::{Program, RegType};
+use ft_typing::{is_seen_as, same_colour};
 use std::sync::ledger::Ledger;
 
-/// Whether a node's scope is at most so many variables.
+/// Whether a node's scope is at most this many variables.
 fn is_within<P: Program>(program: &P, ints: u8, n: u32) -> bool
     requires { n < length (P.object program.now).nodes }
     ensures { result ≡ nat_le (scope_of (P.object program.now) n) ints }
@@ -30,7 +30,7 @@ fn is_within<P: Program>(program: &P, ints: u8, n: u32) -> bool
     program.node(n).scope <= ints
 }
 
-/// Whether the scopes of a substitution's rows are at most so many variables.
+/// Whether the scopes of a substitution's rows are at most this many variables.
 fn are_within<P: Program>(program: &P, ints: u8, subst: Subst) -> bool
     requires spellable { IsSpellable (P.object program.now) }
     requires subst { IsSubst (P.object program.now).nodes (length (P.object program.now).substs) subst.first subst }
@@ -45,14 +45,14 @@ fn are_within<P: Program>(program: &P, ints: u8, subst: Subst) -> bool
     true
 }
 
-/// Whether a register has the colour that a row wants, and a basic type that is seen as the row's.
+/// Whether a register has the colour that a row requires, and a basic type that is accepted as the row's.
 fn is_typed_like(known: RegForm, row: RegType) -> bool
     ensures { result ≡ (same_colour known.colour row.colour && is_seen_as known.basic row.basic) }
 {
     same_colour(known.colour, row.colour) && is_seen_as(known.basic, row.basic)
 }
 
-/// Whether a pair of the static queue is as a row of the target wants it.
+/// Whether a pair of the static queue is as a row of the target requires.
 fn pair_is_like<P: Program, L: Ledger>(
     pair: (Form, Form),
     put: &Variables,
@@ -105,7 +105,7 @@ impl Context {
             && is_within(program, self.ints, subst.memory)
     }
 
-    /// Whether a register is as a row of the target wants it.
+    /// Whether a register is as a row of the target requires.
     #[tactic(auto, unfolding(ft_typing::specs::TypingRow::is_like))]
     fn register_is_like<P: Program, L: Ledger>(
         &self,
@@ -137,8 +137,8 @@ impl Context {
         Ok(same_integers(forms, known.form, wanted))
     }
 
-    /// Whether each register that code type `t` types is as its row wants it, where these are put for the
-    /// type's variables.
+    /// Whether each register that code type `t` types is as its row requires, if these are substituted for the type's
+    /// variables.
     pub fn registers_are_like<P: Program, L: Ledger>(
         &self,
         put: &Variables,
@@ -169,7 +169,7 @@ impl Context {
         Ok(true)
     }
 
-    /// Whether the static queue is as code type `t` wants it, where these are put for the type's variables.
+    /// Whether the static queue is as code type `t` requires, if these are substituted for the type's variables.
     pub fn queue_is_like<P: Program, L: Ledger>(
         &self,
         put: &Variables,
@@ -212,7 +212,7 @@ impl Context {
         Ok(true)
     }
 
-    /// Whether the memory is as code type `t` wants it, where these are put for the type's variables.
+    /// Whether the memory is as code type `t` requires, if these are substituted for the type's variables.
     pub fn memory_is_like<P: Program, L: Ledger>(
         &self,
         put: &Variables,

@@ -2,8 +2,7 @@
 use ft_isa::{Basic, Colour};
 use ft_norm::Form;
 
-/// What a context says of a register: its colour, the basic type of its word, and the form that the
-/// word denotes.
+/// What a context says about a register: its colour, the basic type of its word, and the form that the word denotes.
 #[derive(Clone, Copy, Debug)]
 pub struct RegForm {
     pub colour: Colour,

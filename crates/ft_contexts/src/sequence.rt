@@ -32,7 +32,7 @@ impl<T: Copy> Sequence<T> {
         }
     }
 
-    /// The empty list, with room for so many values.
+    /// The empty list, with room for this many values.
     pub fn with_room(alloc: Global, room: usize) -> Result<Sequence<T>, NoMemory>
         ensures { IfOk result (λ s. s ≡ []) }
     {
@@ -50,7 +50,7 @@ impl<T: Copy> Sequence<T> {
         Ok(())
     }
 
-    /// Takes all values away, and keeps the room.
+    /// Removes all values, and keeps the room.
     pub fn clear(&mut self)
         ensures { self.new ≡ [] }
     {
@@ -79,7 +79,7 @@ impl<T: Copy> Sequence<T> {
         self.values[i]
     }
 
-    /// Adds a value at the end. When out of memory, nothing changes.
+    /// Adds a value at the end. If memory runs out, nothing changes.
     pub fn push(&mut self, value: T) -> Result<(), NoMemory>
         ensures ok { OnOk result (self.new ≡ self.old ++ value ∷ []) }
         ensures err { OnErr result (self.new ≡ self.old) }
@@ -90,7 +90,7 @@ impl<T: Copy> Sequence<T> {
         }
     }
 
-    /// Takes the first value away.
+    /// Removes the first value.
     pub fn remove_first(&mut self)
         requires { 0 < length self.old }
         ensures { self.new ≡ drop 1 self.old }

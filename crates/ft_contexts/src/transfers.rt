@@ -14,8 +14,8 @@ use ft_types::Program;
 use std::alloc::Global;
 use std::sync::ledger::Ledger;
 
-/// What the blocks of an object share: their variables, and room for what a transfer puts for the
-/// variables of its target, with the forms of the nodes that were made under it.
+/// What the blocks of an object share: their variables, and room for what a transfer substitutes for the variables of
+/// its target, with the forms of the nodes that were made under it.
 #[derive(Drop)]
 pub struct Shared {
     pub own: OwnVariables,
@@ -27,7 +27,7 @@ impl Shared {
     ghost use Rattle.ft_types.specs.declared.object.Object.{Object};
     ghost use Rattle.ft_contexts.specs.Contexts.{HoldsOwn, HoldsVariables, RemembersUnder, replacement_in};
 
-    /// No node is made yet, and nothing is put for variables.
+    /// No node is made yet, and nothing is substituted for variables.
     pub fn new(alloc: Global, forms: &mut Interner) -> Result<Shared, NoMemory>
         ensures kept { Keeps forms.old forms.new }
         ensures own { (o : Object) → IfOk result (λ s. HoldsOwn o forms.new s.own) }
@@ -45,8 +45,8 @@ impl Shared {
         })
     }
 
-    /// Puts the rows of a substitution for the variables of its target: the forms of its nodes in the
-    /// block's own variables.
+    /// Substitutes the rows of a substitution for the variables of its target: the forms of its nodes in the block's
+    /// own variables.
     pub fn replace<P: Program, L: Ledger>(
         &mut self,
         program: &P,

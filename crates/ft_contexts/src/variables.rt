@@ -13,7 +13,7 @@ use ft_types::Program;
 use std::alloc::Global;
 use std::sync::ledger::Ledger;
 
-/// The most integer variables that a code type has.
+/// The maximum integer variables of a code type.
 const MOST_INTS: u8 = 128;
 
 /// A form for each integer variable in turn, and one for the memory variable.
@@ -26,8 +26,8 @@ pub struct Variables {
 impl Variables {
     ghost use Rattle.ft_contexts.specs.Contexts.{HoldsVariables, RemembersUnder, replacement_in};
 
-    /// The form of the integer of node `n`, where these are put for the variables. What was made so
-    /// far is not made again.
+    /// The form of the integer of node `n`, if these are substituted for the variables. What was made so far is not
+    /// made again.
     pub fn integer<P: Program, L: Ledger>(
         &self,
         program: &P,
@@ -50,8 +50,8 @@ impl Variables {
         Ok(form)
     }
 
-    /// The form of the memory of node `n`, where these are put for the variables. What was made so far
-    /// is not made again.
+    /// The form of the memory of node `n`, if these are substituted for the variables. What was made so far is not made
+    /// again.
     pub fn memory<P: Program, L: Ledger>(
         &self,
         program: &P,
@@ -76,8 +76,8 @@ impl Variables {
     }
 }
 
-/// The most variables that a code type has, each put for itself, and the forms of the nodes that were
-/// made so far with the variables as they are. They serve all blocks of an object.
+/// The maximum variables of a code type, each substituted for itself, and the forms of the nodes that were made so far
+/// with the variables as they are. They serve all blocks of an object.
 #[derive(Drop)]
 pub struct OwnVariables {
     variables: Variables,

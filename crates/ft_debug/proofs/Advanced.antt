@@ -28,7 +28,7 @@ use Rattle.ft_debug.proofs.Held.{holds_further}
 
 -- THE EXIT OF A FAILED PUT
 
--- what is so is so where the call went well
+-- a fact holds in particular if the call succeeded
 pub on_ok : {T E P : Type 0} (r : Result T E) → P → OnOk r P
 on_ok (Ok x) p = p
 on_ok (Err e) p = tt
@@ -124,7 +124,7 @@ walk_takes o w halts (suc n) s l e =
     (after_lines (step_lines o (present o w s)) (walks o w halts n (further s))) s e
     ∙ ap (λ m. after_lines (step_lines o (present o w s)) (walks o w halts m (further s))) same
 
--- after so many of the steps, the rest of the walk is left
+-- after that many of the steps, the rest of the walk is left
 abbrev pub Walked : Object → (State → Bool) → ℕ → ℕ → Debugger → Debugger → SinkLog → SinkLog → Type 0
 Walked o halts n k d e old new =
     (w : List Wild) (s : Session) → Holds o w s d → (t : Session) × (ls : List (List ℕ)) × Holds o w t e ×
@@ -166,7 +166,7 @@ ended o w e t ls r old new h p eq =
     subst (λ (q : Reply). IsReplied o w q e (Ok tt) old new)
     (ap (λ l. record { session = t; lines = l }) (sym (append-nil ls)) ∙ sym eq) (h, p)
 
--- the walk ended where the machine is not to go on
+-- the walk ended if the machine is not to go on
 pub walk_halts : (o : Object) (halts : State → Bool) (n k : ℕ) (d e : Debugger) (old new : SinkLog)
     → (not (halts e.present.machine) && is_running e.present.machine.status) ≡ false → Walked o halts n k d e old new
     → Does (λ w. walks o w halts n) o d e (Ok tt) old new

@@ -150,7 +150,7 @@ break_nowhere o d b i r old new e p =
     says_line (λ w. reply o w (Break b i)) o d d (codes "no place\n") (λ w s. s) r old new
     (λ w s h. (ap (λ a. sets_break a s) e, h)) p
 
--- what is set, where a place is there
+-- what is set, if the place exists
 abbrev set_or : Bool → Bool → ℕ → Session → Reply
 set_or known room a s = if known then says (codes "break set\n") s
     else (if room then says (codes "break set\n") (with_break a s) else says (codes "too many breaks\n") s)

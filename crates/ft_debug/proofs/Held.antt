@@ -27,7 +27,7 @@ use Rattle.ft_debug.proofs.Shown.{made_later, made_push}
 
 -- THE RING
 
--- the ring after one more moment was put at its end, in the place of the first
+-- the ring after one more moment was put at its end, in place of the first
 turned_last : {X : Type 0} (xs : List X) (x : X) (n i : ℕ) → length xs ≡ suc n → i ≡ n →
     slice_get (drop 1 xs ++ x ∷ []) i ≡ Some x
 turned_last xs x n i e l = slice_get-last (drop 1 xs) x i (omega (arith, length-drop 1 xs))
@@ -96,7 +96,7 @@ holds_further o w s d e full h em ew ep ei ec eb =
 
 -- STEPS BACK
 
--- the debugger after so many steps back, before later strikes are forgotten
+-- the debugger after n steps back, before later strikes are forgotten
 pub record Rewound (o : Object) (w : List Wild) (s : Session) (k : ℕ) (d : Debugger) : Type 0 where
   pub present : d.present ≡ moment_at o w s.strikes (s.position - k)
   pub kept : s.low + d.history.count + k ≡ s.position

@@ -25,7 +25,7 @@ use Rattle.ft_debug.specs.Inside.{Holds, Does, IsSmall}
 
 -- HOW FAR
 
--- a reply leaves the position at most so many steps further
+-- a reply leaves the position at most n steps further
 abbrev pub Within : ℕ → Session → Reply → Type 0
 Within n s r = r.session.position ≤ s.position + n
 

@@ -1,4 +1,4 @@
--- What a session answers and writes.
+-- What a session returns and writes.
 use Rattle.std.specs.Prelude.{◌≡◌, ℕ, List}
 use Rattle.ft_edge.specs.Lines.{PutEnd, AllPut, PutFailed, Puts}
 use Rattle.ft_edge.specs.Logs.{SinkLog}

@@ -1,4 +1,4 @@
--- What the debugger's parts hold, against the session of the definition: private to the code.
+-- What the debugger's parts hold, compared with the defined session: private to the code.
 use Rattle.std.specs.Prelude.{◌≡◌, ℕ, ◌+◌, ◌-◌, ◌<◌, ◌≤◌, Bool, true, false, ◌&&◌, not, List, [], ◌∷◌, length, slice_get, All, Some, Result, OnOk}
 use Rattle.std.specs.List.{AllByRecursion}
 use Rattle.ft_edge.specs.declared.failed.Failed.{Failed}
@@ -36,15 +36,15 @@ pub record Ready (o : Object) (d : Debugger) : Type 0 where
   pub past : All (HasMomentCells (length o.cells)) d.history.moments.items
   pub cells : HasCells (length o.cells) d.present.machine
 
--- the line of what a step committed, if it committed something
+-- the line of what a step committed, if it committed anything
 abbrev pub committed_lines : Object → Stepped → List (List ℕ)
 committed_lines o (Commit output) = line_at o output ∷ []
 committed_lines o Quiet = []
 committed_lines o Done = []
 committed_lines o Detected = []
 
--- the debugger holds a session: what it shows, what it showed at the positions from the low-water mark on, and its
--- break places
+-- the debugger holds a session: what it shows, what it showed at the positions from the low-water mark, and its
+-- breakpoints
 pub record Holds (o : Object) (w : List Wild) (s : Session) (d : Debugger) : Type 0 where
   pub present : d.present ≡ moment_at o w s.strikes s.position
   pub kept : s.low + d.history.count ≡ s.position
@@ -52,20 +52,20 @@ pub record Holds (o : Object) (w : List Wild) (s : Session) (d : Debugger) : Typ
   pub breaks : d.breaks ≡ s.breaks
   pub made : AllByRecursion (IsMadeBy s.position) s.strikes
 
--- a reply was put, up to a put that failed; where none failed, the session after it is held
+-- a reply was put, up to a put that failed; if none failed, the session after it is held
 abbrev pub IsReplied : Object → List Wild → Reply → Debugger → Result (Unit {0}) Failed → SinkLog → SinkLog → Type 0
 IsReplied o w r e result old new = OnOk result (Holds o w r.session e) × Puts (end_of_puts result) r.lines old new
 
--- the same of whatever session was held
+-- the same for whatever session was held
 abbrev pub Does : (List Wild → Session → Reply) → Object → Debugger → Debugger → Result (Unit {0}) Failed → SinkLog
     → SinkLog → Type 0
 Does go o d e result old new = (w : List Wild) (s : Session) → Holds o w s d → IsReplied o w (go w s) e result old new
 
--- one step, of a machine that runs
+-- one step, of a running machine
 abbrev pub advances : Object → List Wild → Session → Reply
 advances o w s = record { session = further s; lines = step_lines o (present o w s) }
 
--- where to halt: at break places, or nowhere
+-- where to halt: at breakpoints, or nowhere
 abbrev pub halting : Bool → List ℕ → State → Bool
 halting true breaks = is_at_break breaks
 halting false breaks = never

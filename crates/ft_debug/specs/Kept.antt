@@ -4,7 +4,7 @@ use Rattle.ft_semantics.specs.State.{is_cell, HasCells}
 use Rattle.ft_debug.specs.declared.history.History.{History}
 use Rattle.ft_debug.specs.declared.moment.Moment.{Moment}
 
--- a moment's machine has so many cells
+-- a moment's machine has this many cells
 abbrev pub HasMomentCells : ℕ → Moment → Type 0
 HasMomentCells n m = HasCells n m.machine
 

@@ -1,4 +1,4 @@
--- Sessions of debugging: what is shown at each position, and what each command does and puts.
+-- Debugger sessions: what is shown at each position, and what each command does and writes.
 use Rattle.std.specs.Prelude.{ℕ, zero, suc, ◌+◌, ◌-◌, max, Bool, false, ◌&&◌, ◌==◌, nat_lt, nat_le, if◌then◌else◌, List, [], ◌∷◌, ◌++◌, length, map, filter, count_by, position, bytes_eq, Option, Some, None, is_none, decimal, codes}
 use Rattle.std.specs.List.{list_any}
 use Rattle.std.specs.Option.{option_to_list, unwrap_or}
@@ -27,9 +27,9 @@ use Rattle.ft_script.specs.Commands.{Command, register_text}
 
 -- WHAT IS SHOWN
 
--- a session: the position, which counts the steps since the start; the low-water mark, below which nothing is gone
--- back to; the strikes in the order made, each with the position at which it was made; and the code addresses of the
--- break places
+-- a session: the position, which counts the steps since the start; the low-water mark, below which the session cannot
+-- go back; the strikes in the order made, each with the position at which it was made; and the code addresses of the
+-- breakpoints
 pub record Session : Type 0 where
   pub position : ℕ
   pub low : ℕ
@@ -45,17 +45,17 @@ pub record Shown : Type 0 where
   pub state : State
   pub wild : List Wild
 
--- the state after those of the strikes that were made at a position, in the order made
+-- the state after the strikes that were made at a position, in the order made
 abbrev pub struck_at : ℕ → List Strike → State → State
 struck_at p [] s = s
 struck_at p (strike ∷ strikes) s = struck_at p strikes (struck_before (Some strike) p s)
 
--- what is shown at a position that a step led to
+-- what is shown at a position that was reached by a step
 abbrev pub led_to : ℕ → List Strike → Stepping → Shown
 led_to p strikes t = record { state = struck_at p strikes t.state; wild = t.wild }
 
 -- what is shown at a position: the run up to there, where each strike is made before its step, and then the strikes
--- that are made there
+-- made there
 unfoldable pub shown : Object → List Wild → List Strike → ℕ → Shown
 shown o w strikes zero = led_to 0 strikes (quiet (start o) w)
 shown o w strikes (suc p) = led_to (suc p) strikes (step o (shown o w strikes p).state (shown o w strikes p).wild)
@@ -66,13 +66,13 @@ present o w s = shown o w s.strikes s.position
 
 -- TEXTS
 
--- how a machine stands
+-- a machine's status
 abbrev pub status_text : Status → List ℕ
 status_text status.Running = codes "running"
 status_text status.Done = codes "done"
 status_text status.Detected = codes "detected"
 
--- the position, and how the machine stands
+-- the position, and the machine's status
 abbrev pub at_text : ℕ → State → List ℕ
 at_text p s = codes "at " ++ decimal p ++ codes " " ++ status_text s.status
 
@@ -140,7 +140,7 @@ place_text o (suc i) = if nat_lt i (length o.instrs) then block_text o i (block_
 abbrev pub counters_text : Object → ℕ → ℕ → List ℕ
 counters_text o green blue = if green == blue then place_text o green else []
 
--- the position, how the machine stands, its counters, and where they are
+-- the position, the machine's status, its counters, and where they are
 abbrev pub where_line : Object → ℕ → State → List ℕ
 where_line o p s = at_text p s ++ codes " pcg " ++ decimal s.pc_green ++ codes " pcb " ++ decimal s.pc_blue ++ counters_text o s.pc_green s.pc_blue ++ codes "\n"
 
@@ -167,15 +167,15 @@ after_lines before r = record { session = r.session; lines = before ++ r.lines }
 abbrev pub further : Session → Session
 further s = record s { position = s.position + 1; low = max s.low (s.position + 1 - 4096) }
 
--- the line of what a step commits, if it commits something
+-- the line of what a step commits, if it commits anything
 abbrev pub step_lines : Object → Shown → List (List ℕ)
 step_lines o now = map (line_at o) (option_to_list (step o now.state now.wild).output)
 
--- a machine that runs takes a step, and then more is done; another stays
+-- a running machine takes a step, and then the rest is done; a stopped one stays
 abbrev pub takes_step : Object → List Wild → (Session → Reply) → Session → Reply
 takes_step o w more s = if is_running (present o w s).state.status then after_lines (step_lines o (present o w s)) (more (further s)) else stays s
 
--- so many steps, up to the stop, and before none at which the machine is to halt
+-- at most n steps, up to the stop, and none from a state at which the machine is to halt
 unfoldable pub walks : Object → List Wild → (State → Bool) → ℕ → Session → Reply
 walks o w halts zero s = stays s
 walks o w halts (suc n) s = if halts (present o w s).state then stays s else takes_step o w (walks o w halts n) s
@@ -188,11 +188,11 @@ never s = false
 abbrev pub is_set : List ℕ → ℕ → Bool
 is_set breaks a = list_any (λ b. b == a) breaks
 
--- nothing is fetched, both counters are equal, and their address is a break place
+-- nothing is fetched, both counters are equal, and their address is a breakpoint
 abbrev pub is_at_break : List ℕ → State → Bool
 is_at_break breaks s = is_none s.fetched && (s.pc_green == s.pc_blue) && is_set breaks s.pc_green
 
--- so many steps, up to the stop, and before none but the first at a break place
+-- at most n steps, up to the stop; only the first may be taken at a breakpoint
 abbrev pub goes : Object → List Wild → ℕ → Session → Reply
 goes o w zero s = stays s
 goes o w (suc n) s = takes_step o w (walks o w (is_at_break s.breaks) n) s
@@ -201,11 +201,11 @@ goes o w (suc n) s = takes_step o w (walks o w (is_at_break s.breaks) n) s
 abbrev pub reports : Object → List Wild → Reply → Reply
 reports o w r = record { session = r.session; lines = r.lines ++ at_line r.session.position (present o w r.session).state ∷ [] }
 
--- the session so many steps back: the strikes made after that position are forgotten
+-- the session n steps back: the strikes made after that position are forgotten
 abbrev pub earlier : ℕ → Session → Session
 earlier n s = record s { position = s.position - n; strikes = filter (λ (x : Strike). nat_le x.step (s.position - n)) s.strikes }
 
--- so many steps back, unless that is below the low-water mark
+-- n steps back, unless that is below the low-water mark
 abbrev pub goes_back : Object → List Wild → ℕ → Session → Reply
 goes_back o w n s = if nat_lt (s.position - s.low) n then says (codes "no history\n") s else reports o w (stays (earlier n s))
 
@@ -213,19 +213,19 @@ goes_back o w n s = if nat_lt (s.position - s.low) n then says (codes "no histor
 abbrev pub with_strike : Site → ℕ → Session → Session
 with_strike site value s = record s { strikes = s.strikes ++ record { step = s.position; site = site; value = value } ∷ [] }
 
--- a strike, where the site is there
+-- a strike, if the site exists
 abbrev pub zaps : Object → List Wild → Site → ℕ → Session → Reply
 zaps o w site value s = if is_there (present o w s).state site then says (codes "zapped\n") (with_strike site value s) else says (codes "nothing there\n") s
 
--- the code address of an instruction of a block, if it is there
+-- the code address of an instruction of a block, if it exists
 abbrev pub break_address : Object → ℕ → ℕ → Option ℕ
 break_address o b i = if nat_lt b (length o.blocks) && nat_lt (block_start o b + i) (block_end o b) then Some (code_address (block_start o b + i)) else None
 
--- one more break place
+-- one more breakpoint
 abbrev pub with_break : ℕ → Session → Session
 with_break a s = record s { breaks = s.breaks ++ a ∷ [] }
 
--- a break place, unless it would be the 65th
+-- a breakpoint, unless it would be the 65th
 abbrev pub sets_break : Option ℕ → Session → Reply
 sets_break None s = says (codes "no place\n") s
 sets_break (Some a) s = if is_set s.breaks a then says (codes "break set\n") s else (if nat_lt (length s.breaks) 64 then says (codes "break set\n") (with_break a s) else says (codes "too many breaks\n") s)

@@ -1,4 +1,4 @@
-//! What each command does and puts.
+//! What each command does and writes.
 ghost use Rattle.std.specs.Prelude.{◌≡◌, ◌≤◌, ◌<◌, ◌+◌, ◌^◌, ◌∷◌, [], length, IfSome};
 ghost use Rattle.ft_edge.specs.Lines.{Puts, end_of_puts};
 ghost use Rattle.ft_types.specs.Spellable.{IsSpellable};
@@ -18,7 +18,7 @@ use ft_queue::StoreQueue;
 use ft_script::{Command, Register};
 use ft_types::Program;
 
-/// The number of the cell of a name, if there is one; it takes a look at each cell.
+/// The number of the cell of a name, if there is one; it looks at each cell.
 fn named_cell<P: Program>(program: &P, name: &[u8]) -> Option<u32>
     requires { IsSpellable (P.object program.now) }
     ensures found { result ≡ named_cell (P.object program.now) name.now }
@@ -80,7 +80,7 @@ impl<'w> Debugger<'w> {
         put_line(at_line(&self.present).as_bytes(), out)
     }
 
-    /// Takes so many steps, up to the stop.
+    /// Takes at most `count` steps, up to the stop.
     fn answer_step<P: Program, K: Sink>(
         &mut self,
         program: &P,
@@ -98,7 +98,7 @@ impl<'w> Debugger<'w> {
         self.put_at(out)
     }
 
-    /// Takes so many steps, up to the stop or a break place.
+    /// Takes at most `count` steps, up to the stop or a breakpoint.
     fn answer_go<P: Program, K: Sink>(
         &mut self,
         program: &P,
@@ -116,7 +116,7 @@ impl<'w> Debugger<'w> {
         self.put_at(out)
     }
 
-    /// Goes back so many steps, if they are kept.
+    /// Goes back `count` steps, if they are kept.
     fn answer_back<K: Sink>(&mut self, count: u64, out: &mut K) -> Result<(), Failed>
         requires { IsFull self.old.history }
         ensures ready { (o : Object) → Ready o self.old → Ready o self.new }
@@ -130,7 +130,7 @@ impl<'w> Debugger<'w> {
         self.put_at(out)
     }
 
-    /// Strikes the machine now, where the site is there.
+    /// Strikes the machine now, if the site exists.
     fn answer_zap<K: Sink>(&mut self, site: Site, value: u64, out: &mut K) -> Result<(), Failed>
         requires { IsFull self.old.history }
         ensures ready { (o : Object) → Ready o self.old → Ready o self.new }
@@ -191,7 +191,7 @@ impl<'w> Debugger<'w> {
         put_line(where_line(program, &self.present).as_bytes(), out)
     }
 
-    /// Sets a break place.
+    /// Sets a breakpoint.
     fn answer_break<P: Program, K: Sink>(
         &mut self,
         program: &P,
@@ -218,7 +218,7 @@ impl<'w> Debugger<'w> {
         put_line(b"break set\n", out)
     }
 
-    /// Does what a command asks, and puts what it answers. After a put that failed nothing is put.
+    /// Does what a command asks, and writes its answer. After a put that failed nothing is put.
     pub fn answer<P: Program, K: Sink>(
         &mut self,
         program: &P,

@@ -1,4 +1,4 @@
-//! Break places.
+//! Breakpoints.
 ghost use Rattle.std.specs.Prelude.{◌≡◌, ◌<◌, ◌++◌, ◌∷◌, [], not, nat_lt, length, IfOk};
 ghost use Rattle.ft_debug.specs.Sessions.{is_set};
 
@@ -6,7 +6,7 @@ use ft_isa::NoMemory;
 use std::alloc::Global;
 use std::marker::Model;
 
-/// How many places there may be.
+/// The maximum number of places.
 const ROOM: usize = 64;
 
 /// At most 64 different code addresses, in the order in which they were set.

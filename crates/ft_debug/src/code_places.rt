@@ -52,7 +52,7 @@ pub fn place_of<P: Program>(program: &P, green: u64, blue: u64) -> Option<Place>
     Some(place_in_block(program, (green - 1) as u32))
 }
 
-/// The code address of instruction `index` of a block, if it is there.
+/// The code address of instruction `index` of a block, if it exists.
 pub fn break_address<P: Program>(program: &P, block: u64, index: u64) -> Option<u64>
     requires { IsSpellable (P.object program.now) }
     ensures { result ≡ break_address (P.object program.now) block index }

@@ -7,7 +7,6 @@ pub enum DebugEnd {
     Ended,
     /// A line could not be written.
     WriteFault,
-    /// There was no memory for the commands, the break places or the states that are kept; nothing was
-    /// written.
+    /// Memory ran out for the commands, the breakpoints or the states that are kept; nothing was written.
     NoMemory,
 }

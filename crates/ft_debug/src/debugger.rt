@@ -22,8 +22,7 @@ use ft_semantics::Status;
 use ft_types::Program;
 use std::alloc::Global;
 
-/// A session in progress: the moment that is shown, the moments before it, and the break places. No
-/// call but `new` takes memory.
+/// A session in progress: the moment that is shown, the moments before it, and the breakpoints. Only `new` allocates.
 #[derive(Drop)]
 pub struct Debugger<'w> {
     pub present: Moment<'w>,
@@ -49,7 +48,7 @@ impl<'w> Debugger<'w> {
         })
     }
 
-    /// Whether nothing is fetched, both counters are equal, and their address is a break place.
+    /// Whether nothing is fetched, both counters are equal, and their address is a breakpoint.
     fn is_at_break(&self) -> bool
         ensures { result ≡ is_at_break self.now.breaks self.now.present.machine }
     {
@@ -77,7 +76,7 @@ impl<'w> Debugger<'w> {
         self.is_running()
     }
 
-    /// Takes one step of a machine that runs, and puts what it commits.
+    /// Takes one step of a running machine, and puts what it commits.
     fn advance<P: Program, K: Sink>(&mut self, program: &P, out: &mut K) -> Result<(), Failed>
         requires spellable { IsSpellable (P.object program.now) }
         requires ready { Ready (P.object program.now) self.old }
@@ -93,7 +92,7 @@ impl<'w> Debugger<'w> {
         put_output(program, stepped, out)
     }
 
-    /// Takes so many steps, up to the stop, and before none at which it is to halt.
+    /// Takes at most `count` steps, up to the stop, and none from a state at which it is to halt.
     pub fn walk<P: Program, K: Sink>(
         &mut self,
         program: &P,
@@ -117,7 +116,7 @@ impl<'w> Debugger<'w> {
         Ok(())
     }
 
-    /// Takes so many steps, up to the stop, and before none but the first at a break place.
+    /// Takes at most `count` steps, up to the stop; only the first may be taken at a breakpoint.
     pub fn go<P: Program, K: Sink>(
         &mut self,
         program: &P,
@@ -140,7 +139,7 @@ impl<'w> Debugger<'w> {
         self.walk(program, true, count - 1, out)
     }
 
-    /// Goes back so many steps, all of which are kept.
+    /// Goes back `count` steps, all of which are kept.
     pub fn rewind(&mut self, count: u64)
         requires full { IsFull self.old.history }
         requires kept { count ≤ self.old.history.count }
@@ -152,7 +151,7 @@ impl<'w> Debugger<'w> {
         }
     }
 
-    /// Strikes the machine now; `false` exactly when the site is not there.
+    /// Strikes the machine now; `false` exactly if the site does not exist.
     pub fn zap(&mut self, site: Site, value: u64) -> bool
         requires { IsFull self.old.history }
         ensures there { result ≡ is_there self.old.present.machine site }
@@ -163,7 +162,7 @@ impl<'w> Debugger<'w> {
     }
 }
 
-/// Puts what a step committed, if it committed something.
+/// Puts what a step committed, if it committed anything.
 fn put_output<P: Program, K: Sink>(program: &P, stepped: Stepped, out: &mut K) -> Result<(), Failed>
     requires spellable { IsSpellable (P.object program.now) }
     requires low { (output : outputs.Output) → stepped ≡ Stepped.Commit output → 1048576 ≤ output.addr }

@@ -10,11 +10,11 @@ use ft_types::Program;
 use std::alloc::Global;
 use std::mem;
 
-/// How many past moments are kept at the most.
+/// The maximum number of past moments that are kept.
 const ROOM: usize = 4_096;
 
-/// The last moments of a session, up to 4,096, in a ring that is always full: its last `count` moments
-/// are those that are kept, and the others are there to be filled.
+/// The last moments of a session, up to 4,096, in a ring that is always full: its last `count` moments are those that
+/// are kept, and the others are there to be filled.
 #[derive(Drop)]
 pub struct History<'w> {
     moments: HeapCircularBuffer<Moment<'w>>,
@@ -50,8 +50,7 @@ impl<'w> History<'w> {
         self.count
     }
 
-    /// Keeps a moment as the newest, which takes no memory. Where 4,096 are kept, the oldest is
-    /// forgotten.
+    /// Keeps a moment as the newest, without allocating. If 4,096 are kept, the oldest is forgotten.
     pub fn keep(&mut self, moment: &Moment<'w>)
         requires full { IsFull self.old }
         requires cells { All (HasCellsOf moment.now) self.old.moments.items }
@@ -70,7 +69,7 @@ impl<'w> History<'w> {
         self.count = ROOM.min(self.count + 1);
     }
 
-    /// Makes the newest moment that is kept the present one; it is kept no more.
+    /// Makes the newest moment that is kept the present one; it is no longer kept.
     pub fn take_back(&mut self, present: &mut Moment<'w>)
         requires full { IsFull self.old }
         requires some { 0 < self.old.count }

@@ -28,7 +28,7 @@ fn status_text(status: Status) -> &'static [u8]
     }
 }
 
-/// A line that begins with the position and how the machine stands: at most 32 bytes.
+/// A line that begins with the position and the machine's status: at most 32 bytes.
 fn begin_at(moment: &Moment<'_>) -> Line
     ensures text { result ≡ at_text moment.now.position moment.now.machine }
     ensures length { length result ≤ 32 }
@@ -127,7 +127,7 @@ pub fn register_line(register: Register, held: Coloured) -> Line
     line
 }
 
-/// The line that tells where the machine is.
+/// The line that says where the machine is.
 pub fn where_line<P: Program>(program: &P, moment: &Moment<'_>) -> Line
     requires { IsSpellable (P.object program.now) }
     ensures { result ≡ where_line (P.object program.now) moment.now.position moment.now.machine }
@@ -146,7 +146,7 @@ pub fn where_line<P: Program>(program: &P, moment: &Moment<'_>) -> Line
     line
 }
 
-/// Adds a block and an instruction of it, where the counters are at one: at most 54 bytes.
+/// Adds a block and an instruction of it, if the counters are at one: at most 54 bytes.
 fn add_place(line: &mut Line, place: Option<Place>)
     requires { length line.old ≤ 100 }
     ensures added { line.new ≡ line.old ++ shown_place place }

@@ -53,7 +53,7 @@ impl<'w> Moment<'w> {
         self.machine.step(program, &mut self.wild)
     }
 
-    /// Becomes another moment of the same program, which takes no memory.
+    /// Becomes another moment of the same program, without allocating.
     pub fn copy_from(&mut self, other: &Moment<'w>)
         requires { (a : ℕ) → is_cell self.old.machine.cells a ≡ is_cell other.now.machine.cells a }
         ensures { self.new ≡ other.now }

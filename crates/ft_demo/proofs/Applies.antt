@@ -91,7 +91,7 @@ turn_applies o c f i is h rest =
     (next_row (with_stored (raised i f) (with_values i f c)) (simp (k.blue_address, k.blue_value, k.queue, same_itself))
     rest)))))
 
--- so many turns apply, whatever the value
+-- n turns apply, whatever the value
 turns_apply : (o : Object) (n i : ℕ) (c : Context) (f : Polynomial) → Holds c f → Applies o c (turns_from i n)
 unfolding for_zero need is_empty
 turns_apply o zero i c f h = last_row (rw (h.d, h.queue) refl)

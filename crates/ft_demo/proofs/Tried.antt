@@ -30,7 +30,7 @@ at_most_one : (f : Option Strike) → length (option_to_list f) ≤ 1
 at_most_one None = omega arith
 at_most_one (Some x) = omega arith
 
--- there are not more faults than registers that were asked for
+-- there are no more faults than registers that were asked for
 pub few_faults : (n : ℕ) → length (first_faults n) ≤ n
 unfolding first_faults
 few_faults zero = omega arith

@@ -20,12 +20,12 @@ use Rattle.ft_demo.specs.declared.demo_end.DemoEnd.TheVariants.{Finished, WriteF
 abbrev pub fault : ℕ → Option Strike
 fault j = option_map (λ register. record { step = 16 * j; site = R register; value = j }) (reg_of j)
 
--- the first n faults, from fault 0 on
+-- the first n faults, from fault 0
 unfoldable pub first_faults : ℕ → List Strike
 first_faults zero = []
 first_faults (suc n) = first_faults n ++ option_to_list (fault n)
 
--- the value of the last output, or this value where there is none
+-- the value of the last output, or this default
 abbrev pub last_value_or : ℕ → List Output → ℕ
 last_value_or value [] = value
 last_value_or value (output ∷ outputs) = last_value_or output.value outputs
@@ -34,8 +34,8 @@ last_value_or value (output ∷ outputs) = last_value_or output.value outputs
 abbrev pub outputs_line : ℕ → ℕ → List ℕ
 outputs_line count last = codes "outputs " ++ decimal count ++ codes " last " ++ decimal last ++ codes "\n"
 
--- the line of the outputs of an object's run without a fault, for at most 131,072 steps; its last value is 0 where
--- there is no output
+-- the line of the outputs of an object's run without a fault, for at most 131,072 steps; its last value is 0 if there
+-- is no output
 abbrev pub run_line : Object → List ℕ
 run_line o = let outputs = outputs_after o None [] 131072 in outputs_line (length outputs) (last_value_or 0 outputs)
 
@@ -47,7 +47,7 @@ AreDemoVerdicts o verdicts = AreVerdicts o (first_faults 64) [] 131072 verdicts
 abbrev pub demo_lines : Object → List Verdict → List (List ℕ)
 demo_lines o verdicts = run_line o ∷ end_line 64 (totals_of verdicts) ∷ []
 
--- a demonstration came to its end: no verdict is corrupt, and both lines were put
+-- a demonstration finished: no verdict is corrupt, and both lines were put
 pub record Finishes (n : ℕ) (old new : SinkLog) : Type 0 where
   pub found : List Verdict
   pub verdicts : AreDemoVerdicts (sample_object n) found

@@ -12,13 +12,13 @@ use Rattle.ft_types.specs.declared.object.Object.{Object}
 abbrev pub opening : List Instr
 opening = Mov r0 (green out) (ref int) ∷ Mov r32 (blue out) (ref int) ∷ Mov r1 (green 0) int ∷ Mov r33 (blue 0) int ∷ []
 
--- the value becomes three times itself and i, and is stored in `out`
+-- the value becomes three times itself plus i, and is stored in `out`
 abbrev pub turn : ℕ → List Instr
 turn i =
     OpWord Mul r1 r1 (green 3) ∷ OpWord Add r1 r1 (green i) ∷ OpWord Mul r33 r33 (blue 3) ∷ OpWord Add r33 r33 (blue i)
     ∷ St Green r0 r1 ∷ St Blue r32 r33 ∷ []
 
--- so many turns, numbered from i on, and the end
+-- n turns, numbered from i, and the end
 abbrev pub turns_from : ℕ → ℕ → List Instr
 turns_from i zero = Halt ∷ []
 turns_from i (suc n) = turn i ++ turns_from (suc i) n

@@ -7,6 +7,6 @@ pub enum DemoEnd {
     Finished,
     /// A line could not be written.
     WriteFault,
-    /// There was no memory left. Nothing was written.
+    /// Memory ran out. Nothing was written.
     NoMemory,
 }

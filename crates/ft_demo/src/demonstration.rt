@@ -113,7 +113,7 @@ fn view_of(bytes: &[u8]) -> View<'_>
     }
 }
 
-/// What is shown of the object of `turns` turns, which is run where its bytes are, as an object that is loaded.
+/// What is shown of the object of `turns` turns, which is run in place in its bytes, like an object that was loaded.
 fn show_sample(alloc: Global, turns: u32) -> Result<Shown, NoMemory>
     requires some { 1 ≤ turns }
     requires few { turns ≤ 10921 }
@@ -124,10 +124,9 @@ fn show_sample(alloc: Global, turns: u32) -> Result<Shown, NoMemory>
     show::<View, Brand>(alloc, &view, Blank::new(1))
 }
 
-/// Makes the object of `turns` turns, from 1 to 10,921, checks it, runs it without a fault for at most
-/// 131,072 steps, and tries 64 faults on it. Puts a line of the outputs and then the last line of the
-/// campaign; no verdict is `Corrupt`. `NoMemory` puts nothing. `WriteFault` comes only where a put failed,
-/// and nothing is put after it.
+/// Makes the object of `turns` turns, from 1 to 10,921, checks it, runs it without a fault for at most 131,072 steps,
+/// and tries 64 faults on it. Writes a line of the outputs and then the last line of the campaign; no verdict is
+/// `Corrupt`. `NoMemory` puts nothing. `WriteFault` comes only if a put failed, and nothing is put after it.
 pub fn demo<K: Sink>(alloc: Global, turns: u32, out: &mut K) -> DemoEnd
     requires some { 1 ≤ turns }
     requires few { turns ≤ 10921 }

@@ -1,4 +1,4 @@
-//! The object of so many turns.
+//! The object of a number of turns.
 ghost use Rattle.std.specs.Prelude.{◌≡◌, ◌≤◌, ◌++◌, ◌∷◌, [], IfOk, OnOk};
 ghost use Rattle.ft_demo.specs.Sample.{opening, sample_object, turn, turns_from};
 ghost use Rattle.ft_typing.specs.Accepted.{IsAccepted};
@@ -10,7 +10,7 @@ use ft_static::{Node, Shape};
 use ft_types::{Block, Cell, CodeType, Object, Table};
 use std::alloc::{AllocError, Global};
 
-/// The greatest number of turns: the object then has 65,531 instructions.
+/// The maximum number of turns: the object then has 65,531 instructions.
 pub const MOST_TURNS: u32 = 10_921;
 
 /// The green register of the address.
@@ -102,7 +102,7 @@ fn put_opening(code: &mut Vec<Instr>) -> Result<(), AllocError>
     )
 }
 
-/// Adds three times the value of a register and one word more, to that register.
+/// Adds the instructions that multiply a register by three and add one more word.
 fn put_value(
     code: &mut Vec<Instr>,
     register: Reg,

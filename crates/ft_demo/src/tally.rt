@@ -8,7 +8,7 @@ use ft_machine::Outlet;
 use ft_runs::{Clean, run_clean};
 use ft_types::Program;
 
-/// How many steps a run takes at the most.
+/// The maximum steps of a run.
 pub(crate) const STEPS: u64 = 131_072;
 
 /// How many outputs there are, and the value of the last one, or 0.

@@ -29,7 +29,7 @@ use Rattle.ft_isa.proofs.Operations.{apply_is_word}
 use Rattle.ft_dup.proofs.Pairs.{add_nothing, PairsHeld, two_held, green_read, blue_read, blue_left, pair_kept}
 use Rattle.ft_dup.proofs.Pairs.{holds_learn, holds_forget, CellsHold, cell_there, cells_set}
 
--- the instructions stand in the code from number i on
+-- the instructions are in the code from number i
 abbrev pub HasInstrs : List Instr → ℕ → List Instr → Type 0
 HasInstrs code i [] = Unit {0}
 HasInstrs code i (J ∷ js) = (slice_get code i ≡ Some (bare J)) × HasInstrs code (suc i) js
@@ -274,7 +274,7 @@ module _ (o : Object) (w : List Wild) where
         memory = cells;
       }
 
-  -- `Exit` by its four instructions, where the pair holds 0
+  -- `Exit` by its four instructions, if the pair holds 0
   pub exit_zero_row : (k : Known) (i q s to : ℕ) (m : Registers) (c : Cells) (f : FlowState) (start : ℕ → ℕ) →
       i + 4 < 65537 → HasInstrs (map bare o.instrs) i (image start (Exit q s to)) → Below (pairs_of (Exit q s to)) → k q
       ≡ true → q ≢ s → f.pairs q ≡ 0 → PairsHeld k m f.pairs → CellsHold c f.cells →
@@ -299,7 +299,7 @@ module _ (o : Object) (w : List Wild) where
         memory = cells;
       }
 
-  -- and where it does not
+  -- and if it does not
   pub exit_other_row : (k : Known) (i q s to x : ℕ) (m : Registers) (c : Cells) (f : FlowState) (start : ℕ → ℕ) →
       i + 4 < 65537 → HasInstrs (map bare o.instrs) i (image start (Exit q s to)) → Below (pairs_of (Exit q s to)) → k q
       ≡ true → q ≢ s → f.pairs q ≡ suc x → PairsHeld k m f.pairs → CellsHold c f.cells →

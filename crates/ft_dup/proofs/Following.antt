@@ -1,40 +1,36 @@
 -- The machine follows the flow.
 use Rattle.std.proofs.Common.{◌≡◌, ℕ, zero, suc, ◌+◌, ◌*◌, ◌<◌, ◌≤◌, Bool, true, false, cond, List, [], ◌∷◌, ◌++◌}
-use Rattle.std.proofs.Common.{length, map, Some, None, inl, inr, refl, sym, ap, ◌∙◌, subst, arith, slice_get}
-use Rattle.std.proofs.Common.{slice_index, length-append, append_assoc, take}
+use Rattle.std.proofs.Common.{length, map, Some, refl, sym, ap, ◌∙◌, subst, arith, slice_get, slice_index}
+use Rattle.std.proofs.Common.{length-append, append_assoc, take}
 use Rattle.std.specs.List.{All}
-use Rattle.std.specs.Option.{option_map, unwrap_or}
 use Rattle.std.proofs.lemmas.Bool.{ne_eqb, ltb-true}
 use Rattle.std.proofs.lemmas.List.{length-set, append-nil, length-map}
 use Rattle.std.proofs.lemmas.List.Elements.{All-head, All-tail, All-set}
-use Rattle.std.proofs.lemmas.Option.{slice_get-get_or, slice_get-map, slice_get_cases, slice_get_within}
+use Rattle.std.proofs.lemmas.Option.{slice_get-get_or}
 use Rattle.std.proofs.Math.Nat.{mod-lt}
 use Rattle.std.proofs.Math.Seq.{get_or-append_seam, take-append_seam}
 use Rattle.ft_simulation.proofs.Steps.{iterate, follows}
-use Rattle.ft_isa.specs.Words.{IsWord, apply, cell_address, code_address}
+use Rattle.ft_isa.specs.Words.{IsWord, apply}
 use Rattle.ft_isa.specs.declared.plan.Wild.{Wild}
 use Rattle.ft_isa.specs.declared.instr.Instr.TheVariants as instr
 use Rattle.ft_types.specs.declared.object.Object.{Object}
 use Rattle.ft_semantics.specs.declared.status.Status.TheVariants.{Running, Done}
-use Rattle.ft_types.specs.Objects.{start_of as start_of_block, block_start, entry_address, cell_head_of, init_or_zero}
-use Rattle.ft_types.specs.Objects.{init_of}
-use Rattle.ft_semantics.specs.State.{Registers, Cells, tabulate, green_zero}
-use Rattle.ft_semantics.proofs.Tabulated.{cells_tell, tabulated, untabulated}
-use Rattle.ft_semantics.specs.Run.{Ran, run}
+use Rattle.ft_semantics.specs.State.{Registers, Cells}
+use Rattle.ft_semantics.specs.Run.{Ran}
 use Rattle.ft_meaning.specs.Meaning.{cell_of_run}
 use Rattle.ft_lower.specs.declared.step3.Step3.{Step3}
 use Rattle.ft_lower.specs.declared.step3.Step3.TheVariants.{Put, Copy, Op, Load, Store, LoadAt, StoreAt, Exit, Go, Stop}
 use Rattle.ft_lower.specs.Flow.{Blocks, Place, FlowState, on, first, goes_on, goes_to, with_pair, with_cell, block_of}
-use Rattle.ft_lower.specs.Flow.{act, act_if, step_at, flow_step, steps, flow_start}
+use Rattle.ft_lower.specs.Flow.{act, act_if, step_at, flow_step, steps}
 use Rattle.ft_lower.specs.Size.{size, row_size, pairs_of}
-use Rattle.ft_lower.specs.Well.{IsBlock, IsTarget, Known, no_pair, pairs_below, forget, known_after, KeepsVariables}
-use Rattle.ft_lower.specs.Well.{RowIsWell, known_first, row_known, known_at, IsWell}
+use Rattle.ft_lower.specs.Well.{IsBlock, IsTarget, Known, pairs_below, forget, known_after, KeepsVariables, RowIsWell}
+use Rattle.ft_lower.specs.Well.{known_first, row_known, known_at, IsWell}
 use Rattle.ft_lower.proofs.Runs.{done_stays}
 use Rattle.ft_lower.proofs.Sizes.{row_size-append}
-use Rattle.ft_dup.specs.Images.{starts, start_of, doubled}
-use Rattle.ft_dup.specs.Doubles.{bare, init_of_cell, words_of, Carries, cost, cost_if, Holds, RunsAs}
-use Rattle.ft_dup.proofs.WellFormedBlocks.{first_start, block_is}
-use Rattle.ft_dup.proofs.Stretches.{machine_step, run_is, Leads, spot, stands, ran, fetched_state, two_any}
+use Rattle.ft_dup.specs.Images.{start_of, doubled}
+use Rattle.ft_dup.specs.Doubles.{bare, Carries, cost, cost_if, Holds}
+use Rattle.ft_dup.proofs.WellFormedBlocks.{block_is}
+use Rattle.ft_dup.proofs.Stretches.{machine_step, Leads, spot, ran, fetched_state, two_any}
 use Rattle.ft_dup.proofs.Pairs.{PairsHeld, CellsHold}
 use Rattle.ft_dup.proofs.FlowSteps.{Below, Row, put_row, copy_row, op_row, load_row, store_row, load_at_row}
 use Rattle.ft_dup.proofs.FlowSteps.{store_at_row, go_row, exit_zero_row, exit_other_row}
@@ -48,7 +44,7 @@ row_known-append k [] i = refl
 row_known-append k (x ∷ o) i = row_known-append (known_after x k) o i
 
 -- false is not true
-no_known : false ≡ true → ⊥
+pub no_known : false ≡ true → ⊥
 no_known e = cc
 
 -- the cell of an array that a word names is there
@@ -58,11 +54,11 @@ named_cell begin many x cells some within = omega (arith, mod-lt x some, within)
 -- RUNS SIDE BY SIDE
 
 -- a point of the machine's run and a state of the flow agree
-record Agrees (vars : ℕ) (bs : Blocks) (f : FlowState) (r : Ran) : Type 0 where
-  out : r.outputs ≡ f.out
-  cells : CellsHold r.state.cells f.cells
-  status : r.state.status ≡ cond f.done Done Running
-  holds : f.done ≡ false → Holds (known_at vars bs f.place) f.pairs r.state
+pub record Agrees (vars : ℕ) (bs : Blocks) (f : FlowState) (r : Ran) : Type 0 where
+  pub out : r.outputs ≡ f.out
+  pub cells : CellsHold r.state.cells f.cells
+  pub status : r.state.status ≡ cond f.done Done Running
+  pub holds : f.done ≡ false → Holds (known_at vars bs f.place) f.pairs r.state
 
 -- each step becomes an instruction
 size_some : (s : Step3) → 1 ≤ size s
@@ -93,32 +89,32 @@ there bs f front rest s e n =
 module _ (o : Object) (vars cells : ℕ) (bs : Blocks) (W : IsWell vars cells bs) (C : Carries o cells bs) (w : List Wild)
   where
     -- the cells of a running flow
-    record Fine (cs : List ℕ) (done : Bool) : Type 0 where
-      many : length cs ≡ cells
-      words : All IsWord cs
-      running : done ≡ false
+    pub record Fine (cs : List ℕ) (done : Bool) : Type 0 where
+      pub many : length cs ≡ cells
+      pub words : All IsWord cs
+      pub running : done ≡ false
 
-    -- a running flow stands before the steps `rest` of its block, after the steps `front`, and the machine with it
-    record At (f : FlowState) (i : ℕ) (m : Registers) (c : Cells) (front rest : List Step3) (known : Known) : Type 0
+    -- a running flow is before the steps `rest` of its block, after the steps `front`, and the machine with it
+    pub record At (f : FlowState) (i : ℕ) (m : Registers) (c : Cells) (front rest : List Step3) (known : Known) : Type 0
       where
-        within : f.place.block < length bs
-        is : block_of bs f.place.block ≡ front ++ rest
-        index : f.place.index ≡ length front
-        ended : IsBlock rest
-        well : RowIsWell vars cells (length bs) known rest
-        pairs : All (λ s. Below (pairs_of s)) rest
-        walked : known ≡ row_known (known_first vars f.place.block) front
-        number : i ≡ start_of bs f.place.block + row_size front
-        holds : PairsHeld known m f.pairs
-        memory : CellsHold c f.cells
-        fine : Fine f.cells f.done
+        pub within : f.place.block < length bs
+        pub is : block_of bs f.place.block ≡ front ++ rest
+        pub index : f.place.index ≡ length front
+        pub ended : IsBlock rest
+        pub well : RowIsWell vars cells (length bs) known rest
+        pub pairs : All (λ s. Below (pairs_of s)) rest
+        pub walked : known ≡ row_known (known_first vars f.place.block) front
+        pub number : i ≡ start_of bs f.place.block + row_size front
+        pub holds : PairsHeld known m f.pairs
+        pub memory : CellsHold c f.cells
+        pub fine : Fine f.cells f.done
 
-    -- the machine where the flow stands
+    -- the machine at the flow's place
     abbrev from : FlowState → ℕ → Registers → Cells → Ran
     from f i m c = spot i m 0 [] c w f.out
 
     -- the machine is where the flow is, or the flow is done
-    data Beside (f : FlowState) : Ran → Type 0 where
+    pub data Beside (f : FlowState) : Ran → Type 0 where
       standing : (i : ℕ) (m : Registers) (c : Cells) (front rest : List Step3) (known : Known) →
           At f i m c front rest known → Beside f (from f i m c)
       over : {r : Ran} → f.done ≡ true → Agrees vars bs f r → Beside f r
@@ -323,7 +319,7 @@ module _ (o : Object) (vars cells : ℕ) (bs : Blocks) (W : IsWell vars cells bs
     one f r (over d h) = subst (λ b. Beside (act_if b (step_at bs f.place) f)
         (iterate (machine_step o) (cost_if b (step_at bs f.place)) r)) (sym d) (over d h)
 
-    -- what is known where they stand is held
+    -- what is known at their place is held
     held_at : (f : FlowState) (i : ℕ) (m : Registers) (c : Cells) (front rest : List Step3) (known : Known) →
         At f i m c front rest known → Holds (known_at vars bs f.place) f.pairs (from f i m c).state
     held_at f i m c front rest known A =
@@ -341,7 +337,7 @@ module _ (o : Object) (vars cells : ℕ) (bs : Blocks) (W : IsWell vars cells bs
         })
 
     -- they agree
-    agrees : (f : FlowState) (r : Ran) → Beside f r → Agrees vars bs f r
+    pub agrees : (f : FlowState) (r : Ran) → Beside f r → Agrees vars bs f r
     agrees f _ (standing i m c front rest known A) = record {
       out = refl;
       cells = A.memory;
@@ -351,12 +347,12 @@ module _ (o : Object) (vars cells : ℕ) (bs : Blocks) (W : IsWell vars cells bs
     agrees f r (over d h) = h
 
     -- any number of steps
-    follow : (k : ℕ) (f : FlowState) (r : Ran) → Beside f r →
+    pub follow : (k : ℕ) (f : FlowState) (r : Ran) → Beside f r →
         Beside (steps bs k f) (iterate (machine_step o) (cost bs k f) r)
     follow = follows (flow_step bs) (λ f. cost_if f.done (step_at bs f.place)) (machine_step o) Beside one
 
     -- each step of a running flow costs some
-    pace : (k : ℕ) (f : FlowState) (r : Ran) → Beside f r → (steps bs k f).done ≡ false → k ≤ cost bs k f
+    pub pace : (k : ℕ) (f : FlowState) (r : Ran) → Beside f r → (steps bs k f).done ≡ false → k ≤ cost bs k f
     pace zero f r h e = omega arith
     pace (suc k) f _ (standing i m c front [] known A) e = absurd A.ended
     pace (suc k) f _ (standing i m c front (s ∷ rest) known A) e =
@@ -365,65 +361,3 @@ module _ (o : Object) (vars cells : ℕ) (bs : Blocks) (W : IsWell vars cells bs
         omega (arith, some, more, size_some s)
     pace (suc k) f r (over d h) e = absurd (no_known (sym e
         ∙ ap (λ (x : FlowState). x.done) (done_stays bs f 0 (suc k) (omega arith) d) ∙ d))
-
--- THE START
-
--- the initial words stand in the cells
-start_cells : (o : Object) → CellsHold (tabulate (length o.cells) cell_address (init_of o)) (words_of o)
-start_cells o = λ c. elim (slice_get_cases o.cells c).1 [
-  | inl x ↦ tabulated (length o.cells) cell_address cells_tell (init_of o) c (slice_get_within o.cells c x.0 x.2)
-      ∙ ap (λ u. Some (init_or_zero (option_map cell_head_of u))) x.2
-      ∙ sym (slice_get-map init_of_cell o.cells c ∙ ap (option_map init_of_cell) x.2)
-  | inr e ↦
-      let past = e.0 in
-      untabulated (length o.cells) cell_address (init_of o) (cell_address c) (λ i lt. cells_tell c i
-      ∙ ne_eqb c i (λ is. omega (arith, is, lt, past)))
-      ∙ sym (slice_get-map init_of_cell o.cells c ∙ ap (option_map init_of_cell) e.1)
-]
-
--- the run begins at the first instruction
-start_counter : (o : Object) (cells : ℕ) (bs : Blocks) → Carries o cells bs → entry_address o ≡ 1
-start_counter o cells bs C =
-    let first_block : block_start o 0 ≡ 0 =
-    ap (λ u. unwrap_or u 0) (sym (slice_get-map start_of_block o.blocks 0) ∙ ap (λ l. slice_get l 0) C.blocks)
-    ∙ first_of bs in
-    ap (λ b. code_address (block_start o b)) C.entry ∙ ap code_address first_block
-  where
-    first_of : (bs : Blocks) → unwrap_or (slice_get (starts bs) 0) 0 ≡ 0
-    first_of [] = refl
-    first_of (b ∷ bs) = refl
-
--- THE WHOLE
-
--- each object that carries well formed blocks runs as they do
-pub runs_as : (vars cells : ℕ) (bs : Blocks) → IsWell vars cells bs → RunsAs vars cells bs
-unfolding run
-runs_as vars cells bs W o C wild =
-    let f = flow_start (words_of o) in
-    let m = tabulate 64 (λ r. r) (λ _. green_zero) in
-    let c = tabulate (length o.cells) cell_address (init_of o) in
-    let at : run o None wild 0 ≡ spot 0 m 0 [] c wild [] =
-    ap (λ x. ran (stands x m 0 [] c) wild []) (start_counter o cells bs C) in
-    let A : At o vars cells bs W C wild f 0 m c [] (block_of bs 0) no_pair = record {
-      within = W.some;
-      is = refl;
-      index = refl;
-      ended = W.ended 0 W.some;
-      well = W.rows 0 W.some;
-      pairs = subst (All (λ s. Below (pairs_of s))) (sym (block_is bs 0 W.some)) (W.pairs 0 [] W.some);
-      walked = refl;
-      number = omega (arith, first_start bs);
-      holds = λ q e. absurd (no_known e);
-      memory = start_cells o;
-      fine = record { many = length-map o.cells init_of_cell ∙ C.many; words = C.words; running = refl };
-    } in
-    let B : Beside o vars cells bs W C wild f (spot 0 m 0 [] c wild []) = standing 0 m c [] (block_of bs 0) no_pair A in
-    record {
-      after = λ k.
-          let n = cost bs k f in
-          let g = steps bs k f in
-          let h = subst (Agrees vars bs g) (sym (run_is o wild n ∙ ap (iterate (machine_step o) n) at))
-          (agrees o vars cells bs W C wild g _ (follow o vars cells bs W C wild k f _ B)) in
-          record { out = h.out; cells = h.cells; status = h.status; holds = h.holds };
-      pace = λ k. pace o vars cells bs W C wild k f _ B;
-    }

@@ -1,4 +1,4 @@
--- Where the instructions of a step stand.
+-- Where the instructions of a step are.
 use Rattle.std.proofs.Common.{◌≡◌, ℕ, zero, suc, ◌+◌, ◌<◌, ◌≤◌, List, [], ◌∷◌, ◌++◌, length, map, Some, refl, sym, ap}
 use Rattle.std.proofs.Common.{◌∙◌, subst, arith, append_assoc, length-append}
 use Rattle.std.proofs.Math.Seq.{get_or-append_seam}
@@ -49,7 +49,7 @@ blocks_length start (b ∷ bs) = length-append (row_images start b) (blocks_imag
 
 -- THE INSTRUCTIONS OF A STEP
 
--- the image of a step, and how many instructions stand before it
+-- the image of a step, and how many instructions come before it
 record Among (start : ℕ → ℕ) (bs : Blocks) (b : ℕ) (front : List Step3) (s : Step3) : Type 0 where
   before : List Instr
   behind : List Instr
@@ -90,7 +90,7 @@ map_append : (a b : List Instr) → map bare (a ++ b) ≡ map bare a ++ map bare
 map_append [] b = refl
 map_append (x ∷ a) b = ap (λ l. bare x ∷ l) (map_append a b)
 
--- a list stands where what is before it ends
+-- a list begins where what is before it ends
 has_here : (js : List Instr) (A C : List Instr) → HasInstrs (A ++ (map bare js ++ C)) (length A) js
 has_here [] A C = tt
 has_here (J ∷ js) A C =
@@ -104,7 +104,7 @@ has_here (J ∷ js) A C =
       subst (λ m. HasInstrs all m js) n rest,
     )
 
--- the image of a step stands in the code, and ends within it
+-- the image of a step is in the code, and ends within it
 pub record Laid (code : List Instr) (i : ℕ) (start : ℕ → ℕ) (s : Step3) : Type 0 where
   pub has : HasInstrs code i (image start s)
   pub short : i + size s ≤ length code

@@ -4,3 +4,4 @@ pub mod Pairs
 pub mod FlowSteps
 pub mod Laying
 pub mod Following
+pub mod WholeRuns

@@ -34,7 +34,7 @@ blue_number p h =
     ap (λ (r : Option Reg). (unwrap_or r register_zero).number)
     (sym (some_reg (32 + p) (nat_lt (32 + p) 64) refl l (lt-ltb (32 + p) 64 l)))
 
--- a green register is no blue one
+-- a green register is not a blue one
 green_no_blue : (p q : ℕ) → p < 32 → q < 32 → (green p).number ≢ (blue q).number
 green_no_blue p q h k e = let f : p ≡ 32 + q = sym (green_number p h) ∙ e ∙ blue_number q k in omega arith
 
@@ -124,7 +124,7 @@ forgotten k p q h = elim (cases_eq q p) [
     not_false : false ≡ true → ⊥
     not_false e = cc
 
--- a pair is learned where both its registers get its word
+-- a pair is learned if both its registers get its word
 pub holds_learn : (k : Known) (n : Registers) (f : FlowState) (p v : ℕ) → p < 32 → IsWord v →
     ((q : ℕ) → q ≢ p → k q ≡ true → Pair n f.pairs q) →
     PairsHeld (learn p k) (two_held n p (col Green v) (col Blue v)) (with_pair p v f).pairs
@@ -136,7 +136,7 @@ holds_learn k n f p v lt h old = λ q known.
           (other_pair p v f q ne) (old q ne (learned k p q ne known))
     ]
 
--- and forgotten where they get anything
+-- and forgotten if they get anything
 pub holds_forget : (k : Known) (m : Registers) (f : FlowState) (p v : ℕ) (x y : Coloured) → p < 32 →
     PairsHeld k m f.pairs → PairsHeld (forget p k) (two_held m p x y) (with_pair p v f).pairs
 holds_forget k m f p v x y lt old = λ q known.

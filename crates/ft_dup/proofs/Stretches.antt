@@ -33,7 +33,7 @@ use Rattle.ft_dup.specs.Doubles.{bare}
 abbrev pub machine_step : Object → Ran → Ran
 machine_step o r = extended r.outputs (step o r.state r.wild)
 
--- a run with no strike is steps from its start on
+-- a run with no strike is steps from its start
 pub run_is : (o : Object) (w : List Wild) (n : ℕ) → run o None w n ≡ iterate (machine_step o) n (run o None w 0)
 unfolding run
 run_is o w zero = refl
@@ -76,19 +76,12 @@ fetched_state i m d q c I = record (stands (suc i) m d q c) { fetched = Some I }
 
 -- claims and substitutions do nothing
 execute_bare : (I : Instr) (s : State) (w : List Wild) → execute I s w ≡ execute (bare I) s w
-execute_bare (instr.OpReg o rd rs rt) s w = refl
-execute_bare (instr.OpWord o rd rs v) s w = refl
 execute_bare (instr.Mov rd v b) s w = refl
-execute_bare (instr.Ld c rd rs) s w = refl
-execute_bare (instr.St c rd rs) s w = refl
-execute_bare (instr.JmpG rd) s w = refl
 execute_bare (instr.JmpB rd t) s w = refl
-execute_bare (instr.BzG rz rd) s w = refl
 execute_bare (instr.BzB rz rd t) s w = refl
-execute_bare instr.Halt s w = refl
-execute_bare (instr.Idx rd rs first m) s w = refl
+execute_bare I s w = refl
 
--- an instruction that stands there without its claims
+-- an instruction there without its claims
 get_bare : (xs : List Instr) (i : ℕ) (J : Instr) → slice_get (map bare xs) i ≡ Some J → (I : Instr)
     × (slice_get xs i ≡ Some I) × (bare I ≡ J)
 get_bare [] i J h = absurd cc
@@ -115,7 +108,7 @@ two_any o J i m d q c w os at =
     ap (extended os) (execute_bare I.0 f w) ∙ ap (λ x. extended os (execute x f w)) I.2 in
     (I.0, record { is = ap (machine_step o) a ∙ b })
 
--- the same where what comes of it is known
+-- the same if its result is known
 two : (o : Object) (J : Instr) (i : ℕ) (m : Registers) (d : ℕ) (q : Pending) (c : Cells) (w : List Wild)
     (os : List Output) (t : Stepping) → slice_get (map bare o.instrs) i ≡ Some J →
     ((I : Instr) → execute J (fetched_state i m d q c I) w ≡ t) → Leads o 2 (spot i m d q c w os) (extended os t)
@@ -123,7 +116,7 @@ two o J i m d q c w os t at does =
     let T = two_any o J i m d q c w os at in
     subst (λ x. Leads o 2 (spot i m d q c w os) (extended os x)) (does T.0) T.1
 
--- and where it is quiet
+-- and if it is quiet
 two_quiet : (o : Object) (J : Instr) (i : ℕ) (m : Registers) (d : ℕ) (q : Pending) (c : Cells) (w : List Wild)
     (os : List Output) (s : State) → slice_get (map bare o.instrs) i ≡ Some J →
     ((I : Instr) → execute J (fetched_state i m d q c I) w ≡ quiet s w) → Leads o 2 (spot i m d q c w os) (ran s w os)
@@ -151,7 +144,7 @@ col c v = record { colour = c; word = v }
 -- EACH INSTRUCTION
 
 module _ (o : Object) (w : List Wild) (i : ℕ) (short : i < 65537) where
-  -- both counters go on
+  -- both counters are advanced
   goes_by : (m : Registers) (d : ℕ) (q : Pending) (c : Cells) → quiet (stands (next (suc i)) m d q c) w
       ≡ quiet (stands (suc (suc i)) m d q c) w
   goes_by m d q c = ap (λ z. quiet (stands z m d q c) w) (next_small i short)
@@ -189,14 +182,14 @@ module _ (o : Object) (w : List Wild) (i : ℕ) (short : i < 65537) where
       ap (λ (h : Coloured). machine.writes rd h.colour (cell_in_run first n h.word) (fetched_state i m 0 [] c I) w) es
       ∙ goes_by (with_held m rd.number (col k (cell_in_run first n x))) 0 [] c)
 
-  -- what stands in a cell is found where nothing is pending
+  -- what is in a cell is found if nothing is pending
   finds : (k : Colour) (m : Registers) (c : Cells) (a : ℕ) (I : Instr) → machine.found k (fetched_state i m 0 [] c I) a
       ≡ cell_at c a
   unfolding newest_at
   finds Green m c a I = refl
   finds Blue m c a I = refl
 
-  -- a load from a cell, where nothing is pending
+  -- a load from a cell, if nothing is pending
   pub load : (m : Registers) (c : Cells) (os : List Output) (rd rs : Reg) (a v : ℕ) (k : Colour) →
       slice_get (map bare o.instrs) i ≡ Some (instr.Ld k rd rs) → held m rs.number ≡ col k a → cell_at c a ≡ Some v →
       Leads o 2 (spot i m 0 [] c w os) (spot (suc i) (with_held m rd.number (col k v)) 0 [] c w os)
@@ -206,7 +199,7 @@ module _ (o : Object) (w : List Wild) (i : ℕ) (short : i < 65537) where
       ∙ ap (λ x. machine.load k rd x s w) (finds k m c a I ∙ there)
       ∙ goes_by (with_held m rd.number (col k v)) 0 [] c)
 
-  -- a green store, where nothing is pending
+  -- a green store, if nothing is pending
   pub store_green : (m : Registers) (c : Cells) (os : List Output) (rd rs : Reg) (a v : ℕ) →
       slice_get (map bare o.instrs) i ≡ Some (instr.St Green rd rs) → held m rd.number ≡ col Green a → held m rs.number
       ≡ col Green v → Leads o 2 (spot i m 0 [] c w os) (spot (suc i) m 0 ((a, v) ∷ []) c w os)
@@ -240,7 +233,7 @@ module _ (o : Object) (w : List Wild) (i : ℕ) (short : i < 65537) where
         output = Some (record { addr = a; value = v });
       } in t) (next_small i short))
 
-  -- a green jump, where d is 0
+  -- a green jump, if d is 0
   pub jump_green : (m : Registers) (c : Cells) (os : List Output) (rd : Reg) (a : ℕ) → slice_get (map bare o.instrs) i
       ≡ Some (instr.JmpG rd) → held m rd.number ≡ col Green a →
       Leads o 2 (spot i m 0 [] c w os) (spot (suc i) m a [] c w os)
@@ -257,7 +250,7 @@ module _ (o : Object) (w : List Wild) (i : ℕ) (short : i < 65537) where
       (ne_eqb (suc t) 0 (λ e. omega arith))
       ∙ ap (λ b. cond b (quiet (machine.transfers (suc t) s) w) (detected s w)) (eq-eqb (suc t) (suc t) refl)
 
-  -- a blue jump, where d is its target
+  -- a blue jump, if d is its target
   pub jump_blue : (m : Registers) (c : Cells) (os : List Output) (rd : Reg) (t : ℕ) → slice_get (map bare o.instrs) i
       ≡ Some (instr.JmpB rd empty) → held m rd.number ≡ col Blue (suc t) →
       Leads o 2 (spot i m (suc t) [] c w os) (spot t m 0 [] c w os)

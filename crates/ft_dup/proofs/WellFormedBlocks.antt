@@ -43,7 +43,7 @@ first_start (x ∷ bs) = refl
 -- IMAGES BY THE STARTS
 
 module _ (f g : ℕ → ℕ) (n : ℕ) (same : (b : ℕ) → b < n → f b ≡ g b) where
-  -- the image of a step depends on its target's start alone
+  -- the image of a step depends only on its target's start
   image_same : (i : Step3) → HasTarget n i → image f i ≡ image g i
   image_same (Put p w) h = refl
   image_same (Copy p q) h = refl
@@ -70,7 +70,7 @@ module _ (f g : ℕ → ℕ) (n : ℕ) (same : (b : ℕ) → b < n → f b ≡ g
       ap (λ l. l ++ blocks_images f bs) (row_same b (All-head (All (HasTarget n)) b bs h))
       ∙ ap (λ l. row_images g b ++ l) (blocks_same bs (All-tail (All (HasTarget n)) b bs h))
 
--- where the starts are the definition's, a target's start is there
+-- if the starts are the definition's, a target's start exists
 pub targets_there : (ss : List ℕ) (bs : Blocks) → ss ≡ starts bs → All (All (HasTarget (length bs))) bs →
     All (All (HasTarget (length ss))) bs
 targets_there ss bs e h = subst (λ n. All (All (HasTarget n)) bs) (sym (ap length e ∙ starts_length 0 bs)) h

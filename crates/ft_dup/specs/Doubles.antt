@@ -37,7 +37,7 @@ abbrev pub IsIntCell : Cell → Type 0
 IsIntCell c = c.basic ≡ int
 
 -- an object carries blocks: its instructions are theirs but for claims and substitutions, its blocks begin where theirs
--- do, its entry is block 0, and it has so many cells, all of type `int`
+-- do, its entry is block 0, and it has this many cells, all of type `int`
 pub record Carries (o : Object) (cells : ℕ) (bs : Blocks) : Type 0 where
   pub instrs : map bare o.instrs ≡ map bare (doubled bs)
   pub blocks : map start_of_block o.blocks ≡ starts bs
@@ -71,7 +71,7 @@ pub record DoublesAt (o : Object) (vars : ℕ) (wild : List Wild) (bs : Blocks) 
   pub status : status_after o None wild n ≡ cond f.done Done Running
   pub holds : f.done ≡ false → Holds (known_at vars bs f.place) f.pairs (state_after o None wild n)
 
--- it is so for each k, which is at most its cost while the flow is running
+-- this holds for each k, and k is at most its cost while the flow is running
 pub record Doubles (o : Object) (vars : ℕ) (bs : Blocks) (wild : List Wild) : Type 0 where
   pub after : (k : ℕ) → DoublesAt o vars wild bs (flow_run bs (words_of o) k) (cost bs k (flow_start (words_of o)))
   pub pace : (k : ℕ) → (flow_run bs (words_of o) k).done ≡ false → k ≤ cost bs k (flow_start (words_of o))

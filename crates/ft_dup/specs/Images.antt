@@ -23,7 +23,7 @@ use Rattle.ft_lower.specs.Size.{row_size}
 abbrev pub register_zero : Reg
 register_zero = record { number = 0; in_range = ltb-true 0 64 refl }
 
--- the green register of a pair, and the blue one, where the pair is below 32
+-- the green register of a pair, and the blue one, if the pair is below 32
 abbrev pub green : ℕ → Reg
 green p = unwrap_or (reg_of p) register_zero
 
@@ -45,7 +45,7 @@ empty = record { first = 0; past = 0; memory = 0 }
 abbrev pub moves : ℕ → ℕ → Basic → List Instr → List Instr
 moves p w b rest = instr.Mov (green p) (green_word w) b ∷ instr.Mov (blue p) (blue_word w) b ∷ rest
 
--- green and blue addresses of the cell of an array that the word of pair q names, to the two registers of pair p
+-- green and blue addresses of the array cell that the word of pair q selects, to the two registers of pair p
 abbrev pub indexes : ℕ → ℕ → ℕ → ℕ → List Instr → List Instr
 indexes p q first length rest = instr.Idx (green p) (green q) first length ∷ instr.Idx (blue p) (blue q) first length ∷ rest
 
@@ -57,7 +57,7 @@ loads p = instr.Ld Green (green p) (green p) ∷ instr.Ld Blue (blue p) (blue p)
 abbrev pub stores : ℕ → ℕ → List Instr
 stores p q = instr.St Green (green p) (green q) ∷ instr.St Blue (blue p) (blue q) ∷ []
 
--- the instructions of a step, where `start b` is the place of the first instruction of block b
+-- the instructions of a step, if `start b` is the place of the first instruction of block b
 abbrev pub image : (ℕ → ℕ) → Step3 → List Instr
 image start (Put p w) = moves p w int []
 image start (Copy p q) = instr.OpWord Add (green p) (green q) (green_word 0) ∷ instr.OpWord Add (blue p) (blue q) (blue_word 0) ∷ []
@@ -80,7 +80,7 @@ abbrev pub blocks_images : (ℕ → ℕ) → Blocks → List Instr
 blocks_images start [] = []
 blocks_images start (b ∷ bs) = row_images start b ++ blocks_images start bs
 
--- the places of the blocks' first instructions, where the first block's is n
+-- the places of the blocks' first instructions, if the first block's is n
 abbrev pub starts_from : ℕ → Blocks → List ℕ
 starts_from n [] = []
 starts_from n (b ∷ bs) = n ∷ starts_from (n + row_size b) bs

@@ -7,7 +7,7 @@ use Rattle.ft_lower.specs.Flow.{Blocks, block_of}
 use Rattle.ft_lower.specs.Size.{PairsBelow, blocks_size}
 use Rattle.ft_lower.specs.Well.{IsBlock, IsTarget}
 
--- the target of a step that has one is a block that is there and is not the entry
+-- the target of a step, if it has one, is an existing block other than the entry
 abbrev pub HasTarget : ℕ → Step3 → Type 0
 HasTarget blocks (Put p w) = Unit {0}
 HasTarget blocks (Copy p q) = Unit {0}
@@ -20,7 +20,7 @@ HasTarget blocks (Exit q spare to) = IsTarget blocks to
 HasTarget blocks (Go spare to) = IsTarget blocks to
 HasTarget blocks Stop = Unit {0}
 
--- pairs are below 32, targets are there, blocks are ended rightly, and there are at most 65,536 instructions in all
+-- pairs are below 32, targets exist, blocks end properly, and there are at most 65,536 instructions in all
 pub record HasShape (bs : Blocks) : Type 0 where
   pub pairs : PairsBelow 32 bs
   pub targets : All (All (HasTarget (length bs))) bs

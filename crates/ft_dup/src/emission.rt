@@ -73,7 +73,7 @@ fn put_moves(code: &mut Vec<Instr>, pair: u8, word: u64, basic: Basic) -> Result
     Ok(())
 }
 
-/// Adds the addresses of the cell of an array that the word of pair `q` names, to both registers of pair `p`.
+/// Adds the addresses of the array cell that the word of pair `q` selects, to both registers of pair `p`.
 fn put_indexes(
     code: &mut Vec<Instr>,
     p: u8,
@@ -216,7 +216,7 @@ fn put_store(code: &mut Vec<Instr>, cell: u32, q: u8, spare: u8) -> Result<(), A
     Ok(())
 }
 
-/// Adds the load of the cell of an array that pair `q` names, to pair `p`.
+/// Adds the load of the array cell that pair `q` selects, to pair `p`.
 fn put_load_at(
     code: &mut Vec<Instr>,
     p: u8,
@@ -233,7 +233,7 @@ fn put_load_at(
     Ok(())
 }
 
-/// Adds the store of pair `q` to the cell of an array that pair `i` names.
+/// Adds the store of pair `q` to the array cell that pair `i` selects.
 fn put_store_at(
     code: &mut Vec<Instr>,
     first: u32,
@@ -252,7 +252,7 @@ fn put_store_at(
     Ok(())
 }
 
-/// Adds the branch to the block that begins at instruction `start`, where pair `q` holds 0.
+/// Adds the branch to the block that begins at instruction `start`, taken if pair `q` holds 0.
 fn put_exit(code: &mut Vec<Instr>, q: u8, spare: u8, start: u32) -> Result<(), AllocError>
     requires q { q < 32 }
     requires spare { spare < 32 }
@@ -293,7 +293,7 @@ fn put_go(code: &mut Vec<Instr>, spare: u8, start: u32) -> Result<(), AllocError
     Ok(())
 }
 
-/// Adds the instructions of a step, where `starts` has the place of each block's first instruction.
+/// Adds the instructions of a step, if `starts` has the place of each block's first instruction.
 pub(crate) fn put_step(
     code: &mut Vec<Instr>,
     starts: &[u32],

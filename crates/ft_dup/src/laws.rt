@@ -13,7 +13,7 @@ pub fn fibonacci_program_is_doubled()
     ensures starts { starts (lowered fibonacci) ≡ 0 ∷ 16 ∷ 60 ∷ [] }
 {}
 
-/// Well formed blocks have the shape that `duplicate` asks for.
+/// Well formed blocks have the shape that `duplicate` requires.
 pub fn well_flows_have_the_shape()
     ensures { (vars cells : ℕ) (bs : Blocks) → IsWell vars cells bs → HasShape bs }
 {}

@@ -1,8 +1,8 @@
 //! Doubling: the instructions of a flow's steps, each in green and in blue.
 //!
-//! The crate promises that `duplicate` gives exactly the images of the flow's steps in order with the
-//! blocks' starts, and that the machine's run of any object that carries those of a well formed flow is the
-//! flow's run. Its definitions: `specs/Shape.antt` (which flows are doubled), `specs/Images.antt` (the
+//! The crate promises that `duplicate` returns exactly the images of the flow's steps in order with the
+//! blocks' starts, and that any object that carries a well formed flow's instructions runs as the flow
+//! does. Its definitions: `specs/Shape.antt` (which flows are doubled), `specs/Images.antt` (the
 //! instructions of a step), `specs/Doubles.antt` (what carries a flow and what its run does).
 #![tactic(auto)]
 

@@ -27,7 +27,7 @@ fn put_block(code: &mut Vec<Instr>, starts: &[u32], steps: &[Step3]) -> Result<(
     Ok(())
 }
 
-/// The instructions of the steps of all blocks, for which room is made at once.
+/// The instructions of the steps of all blocks, with room for all reserved at once.
 fn put_blocks(
     alloc: Global,
     starts: &[u32],
@@ -45,10 +45,9 @@ fn put_blocks(
     Ok(code)
 }
 
-/// Doubles a flow: the instructions of its steps, each in green and in blue, block by block. The flow
-/// has pairs below 32 only, each jump goes to a block that is there and is not the entry, each block is
-/// ended by its last step and no other, and there are at most 65,536 instructions in all. The only
-/// error is out of memory.
+/// Doubles a flow: the instructions of its steps, each in green and in blue, block by block. The flow has only pairs
+/// below 32, each jump goes to an existing block other than the entry, each block is ended by its last step and no
+/// other, and there are at most 65,536 instructions in all. The only error is out of memory.
 pub fn duplicate(alloc: Global, flow: &Flow) -> Result<Doubled, NoMemory>
     requires { HasShape (blocks_of flow.now) }
     ensures vars { IfOk result (λ d. d.vars ≡ flow.now.vars) }

@@ -1,4 +1,4 @@
--- A failed put after what was gathered was handed on.
+-- A failed put after the buffer was flushed.
 use Rattle.std.proofs.Common.{ℕ, List, ◌++◌, take, Option, Some, None, Result, Ok, Err, OnErr, ap, ◌∙◌}
 use Rattle.std.specs.Io.KnownBytes.{Keeps}
 use Rattle.ft_edge.specs.Streams.{AppendsFront}

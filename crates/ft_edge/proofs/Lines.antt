@@ -1,4 +1,4 @@
--- Lines that were put, some after others, as a change of what a sink tells.
+-- Lines that were put, some after others, as a change of a sink's record.
 use Rattle.std.proofs.Common.{subst, ◌≡◌, ◌≢◌, ℕ, ◌≤◌, List, [], ◌∷◌, ◌++◌, Option, Result, Ok, Err, OnOk, OnErr, refl}
 use Rattle.std.proofs.Common.{ap, sym, ◌∙◌, append_assoc, append-nil}
 use Rattle.std.specs.Prelude.{IsErr}
@@ -13,7 +13,7 @@ use Rattle.ft_edge.specs.Lines.{with_lines, FailsPut, BreaksOff, PutEnd, AllPut,
 use Rattle.ft_edge.specs.Lines.{end_of_puts}
 use Rattle.ft_edge.proofs.Appended.{known_more, known_none, told_more, told_none}
 
--- two logs that tell the same
+-- two logs that record the same
 pub same_log : {w w' : Option (List ℕ)} {p p' : Option (List (List ℕ))} {n n' : ℕ} → w ≡ w' → p ≡ p' → n ≡ n'
     → ◌≡◌ {A = SinkLog} (record { written = w; pieces = p; failures = n }) (record {
       written = w';
@@ -98,12 +98,12 @@ puts_then AllPut xs ys old mid new made h i = lines_then xs ys old mid new h i
 puts_then PutFailed xs ys old mid new made h i = breaks_then xs ys old mid new h i
 puts_then NothingPut xs ys old mid new made h i = absurd (made refl)
 
--- a call that answers an error where a put failed makes its puts
+-- a call that returns an error if a put failed makes its puts
 pub made_by : {A E : Type 0} (r : Result A E) → end_of_puts r ≢ NothingPut
 made_by (Ok done) e = cc
 made_by (Err failed) e = cc
 
--- what was written where a put failed is a prefix of the whole text
+-- what was written if a put failed is a prefix of the whole text
 pub broken_text : (lines : List (List ℕ)) (old new : SinkLog) → BreaksOff lines old new →
     AddsPrefix old.written new.written (concat lines)
 broken_text lines old new h =
@@ -119,7 +119,7 @@ broken_text lines old new h =
       added = w.added ∙ known_more old.written (concat h.done) w.front;
     }
 
--- the exit of a call where a put failed
+-- the exit of a call if a put failed
 pub puts_failed : {A E : Type 0} (r : Result A E) (lines : List (List ℕ)) (old new : SinkLog) → IsErr r →
     BreaksOff lines old new → Puts (end_of_puts r) lines old new
 puts_failed (Ok done) lines old new is h = absurd (cc)

@@ -1,9 +1,9 @@
--- Calls numbered from 0, those that are to fail, and the count of failures.
+-- Calls numbered from 0, the ones that must fail, and the count of failures.
 use Rattle.std.specs.Prelude.{ℕ, refl, ◌+◌, ◌-◌, ◌^◌, ◌==◌, min, Bool, List, [], ◌∷◌, ◌++◌}
 use Rattle.std.specs.List.{list_any}
 use Rattle.std.specs.Coded.{Coded, code_by, coded×, coded_list, coded_ℕ}
 
--- the numbers of the calls that are to fail, the number of the next call, and how many calls failed
+-- the numbers of the calls that must fail, the number of the next call, and how many calls failed
 pub record Calls : Type 0 where
   pub failing : List ℕ
   pub next : ℕ
@@ -15,19 +15,19 @@ calls_code =
     code_by (List ℕ × (ℕ × ℕ)) (coded× (coded_list coded_ℕ) (coded× coded_ℕ coded_ℕ)) (λ c. (c.failing, (c.next, c.failures)))
     (λ p. record { failing = p.0; next = p.1.0; failures = p.1.1 }) (λ _. refl)
 
--- no call, and none that is to fail
+-- no call, and none that must fail
 abbrev pub no_calls : Calls
 no_calls = record { failing = []; next = 0; failures = 0 }
 
--- one more, or 2^64 - 1 where the count stands there
+-- one more, saturating at 2^64 - 1
 abbrev pub next_count : ℕ → ℕ
 next_count n = min (n + 1) (2 ^ 64 - 1)
 
--- whether the number of the next call is one that is to fail
+-- whether the next call must fail
 abbrev pub is_to_fail : Calls → Bool
 is_to_fail calls = list_any (λ number. number == calls.next) calls.failing
 
--- one more call is to fail
+-- one more call must fail
 abbrev pub with_failing : Calls → ℕ → Calls
 with_failing calls number = record calls { failing = calls.failing ++ number ∷ [] }
 

@@ -1,4 +1,4 @@
--- What a shelf over a folder keeps of its loads that failed.
+-- What a shelf over a folder records of its failed loads.
 use Rattle.std.specs.Prelude.{ℕ, List, Option, None}
 
 -- how many there were, and the name of the last

@@ -1,12 +1,12 @@
--- What a sink that gathers holds.
+-- What a buffering sink holds.
 use Rattle.std.specs.Prelude.{ℕ, List, Option}
 use Rattle.std.specs.Io.KnownBytes.{append_known}
 use Rattle.ft_edge.specs.declared.gathering_sink.GatheringSink.{GatheringSink}
 
--- what its writer took, and then what is gathered, where the writer tells its bytes
+-- what its writer accepted, and then the buffer, if the writer reveals its bytes
 abbrev pub written_to : {W : Type 0} → (W → Option (List ℕ)) → GatheringSink W → Option (List ℕ)
 written_to contents sink = append_known (contents sink.out) sink.gathered.items
 
--- the writer to which it hands on
+-- the writer to which it flushes
 abbrev pub sink_writer : {W : Type 0} → GatheringSink W → W
 sink_writer sink = sink.out

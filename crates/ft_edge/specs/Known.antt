@@ -1,8 +1,8 @@
--- The bytes of a text that may be there.
+-- The bytes of an optional text.
 use Rattle.std.specs.Prelude.{ℕ, List, Option, String, string_bytes}
 use Rattle.std.specs.Option.{option_map}
 use Rattle.std.specs.declared.alloc.Global.{Global}
 
--- its bytes, where there is one
+-- its bytes, if it exists
 abbrev pub known_text : Option (String Global) → Option (List ℕ)
 known_text text = option_map string_bytes text

@@ -1,4 +1,4 @@
--- Lines that a call puts, each by one put, and how such a call ends.
+-- Lines that a call writes, each with one put, and how such a call ends.
 use Rattle.std.specs.Prelude.{◌≡◌, ℕ, ◌≤◌, List, [], ◌∷◌, ◌++◌, Result, Ok, Err}
 use Rattle.std.specs.List.{concat}
 use Rattle.std.specs.Io.KnownBytes.{append_known}
@@ -6,7 +6,7 @@ use Rattle.ft_edge.specs.Causes.{Rose, AddsPrefix}
 use Rattle.ft_edge.specs.Told.{append_told}
 use Rattle.ft_edge.specs.Logs.{SinkLog}
 
--- what a sink tells after these lines were put, each as one piece
+-- a sink's record after these lines were put, each as one piece
 abbrev pub with_lines : List (List ℕ) → SinkLog → SinkLog
 with_lines lines log = record { written = append_known log.written (concat lines); pieces = append_told log.pieces lines; failures = log.failures }
 
@@ -17,7 +17,7 @@ pub record FailsPut (line : List ℕ) (old new : SinkLog) : Type 0 where
   pub count : old.failures ≤ new.failures
   pub rose : Rose old.failures new.failures
 
--- the lines before one were put, and then its put failed, which was the last
+-- the lines before one were put, and then its put failed; it was the last
 pub record BreaksOff (lines : List (List ℕ)) (old new : SinkLog) : Type 0 where
   pub done : List (List ℕ)
   pub line : List ℕ
@@ -25,19 +25,19 @@ pub record BreaksOff (lines : List (List ℕ)) (old new : SinkLog) : Type 0 wher
   pub whole : lines ≡ done ++ line ∷ rest
   pub fails : FailsPut line (with_lines done old) new
 
--- how a call ends that puts lines: all were put, or the put of one failed, or the call gave up before the first put
+-- how a call that writes lines ends: all were put, or the put of one failed, or the call gave up before the first put
 pub data PutEnd : Type 0 where
   AllPut : PutEnd
   PutFailed : PutEnd
   NothingPut : PutEnd
 
--- what is told of the sink after a call that ended so
+-- the sink's record after such a call
 abbrev pub Puts : PutEnd → List (List ℕ) → SinkLog → SinkLog → Type 0
 Puts AllPut lines old new = new ≡ with_lines lines old
 Puts PutFailed lines old new = BreaksOff lines old new
 Puts NothingPut lines old new = new ≡ old
 
--- the end of a call that answers an error exactly where a put failed
+-- the end of a call that returns an error exactly if a put failed
 abbrev pub end_of_puts : {A E : Type 0} → Result A E → PutEnd
 end_of_puts (Ok done) = AllPut
 end_of_puts (Err failed) = PutFailed

@@ -1,4 +1,4 @@
--- What a load of a file gives, and what its failure shows.
+-- What a load of a file returns, and what its failure shows.
 use Rattle.std.specs.Prelude.{◌≡◌, ℕ, ◌≤◌, ◌<◌, List, [], length, Option, Some, Result, Ok, Err, IfSome}
 use Rattle.std.specs.Ordering.{nat_cmp}
 use Rattle.std.specs.Cmp.Lexicographic.{slice_cmp}
@@ -23,7 +23,7 @@ Loads files name limit into (Ok Whole) = (length into ≤ limit) × IfSome files
 Loads files name limit into (Ok TooLong) = (into ≡ []) × IfSome files (λ fs. IsLonger fs name limit)
 Loads files name limit into (Err e) = into ≡ []
 
--- the same of a load from one stream, where it tells its bytes
+-- the same of a load from one stream, if it reveals its bytes
 abbrev pub LoadsStream : Option (List ℕ) → ℕ → List ℕ → Result Load LoadFault → Type 0
 LoadsStream known limit into (Ok Whole) = (length into ≤ limit) × IfSome known (λ bytes. into ≡ bytes)
 LoadsStream known limit into (Ok TooLong) = (into ≡ []) × IfSome known (λ bytes. limit < length bytes)

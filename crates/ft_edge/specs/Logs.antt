@@ -1,4 +1,4 @@
--- What a sink, a shelf and a source tell, each as one record.
+-- The records of a sink, a shelf and a source.
 use Rattle.std.specs.Prelude.{◌≡◌, ℕ, List, Option, Some, Result, Ok, Err}
 use Rattle.ft_edge.specs.Causes.{Rose}
 use Rattle.ft_edge.specs.Loads.{Files}
@@ -6,15 +6,15 @@ use Rattle.ft_edge.specs.declared.shelf.Load.{Load}
 use Rattle.ft_edge.specs.declared.shelf.LoadFault.{LoadFault}
 use Rattle.ft_edge.specs.declared.shelf.LoadFault.TheVariants.{Failed, NoMemory}
 
--- what a sink tells: the bytes that were written, and the pieces that were asked to be put, in order, of which one whose
--- put failed is one, where it tells these; and how many puts failed, where it may stop counting at 2^64 - 1
+-- what a sink records: the bytes written; every attempted piece in order, failed ones too, if it records them; and the
+-- number of failed puts, which may saturate at 2^64 - 1
 pub record SinkLog : Type 0 where
   pub written : Option (List ℕ)
   pub pieces : Option (List (List ℕ))
   pub failures : ℕ
 
--- what a shelf tells: the files, and the name and the limit of each load that was made, in order, where it tells these;
--- how many loads failed, where it may stop counting at 2^64 - 1; and the name of the last one that did, if there was one
+-- what a shelf records: the files, and the name and limit of each load in order, if it records them; the number of
+-- failed loads, which may saturate at 2^64 - 1; and the name of the last failed one, if any
 pub record ShelfLog : Type 0 where
   pub files : Option Files
   pub asked : Option (List (List ℕ × ℕ))
@@ -29,14 +29,14 @@ LoadFails name old new = Rose old.failures new.failures × (new.failed_name ≡ 
 abbrev pub NoLoadFails : ShelfLog → ShelfLog → Type 0
 NoLoadFails old new = (new.failures ≡ old.failures) × (new.failed_name ≡ old.failed_name)
 
--- a failure shows in the count and leaves its name, and any other answer leaves count and name as they were
+-- a failure shows in the count and is recorded as the last; any other result leaves both unchanged
 abbrev pub LoadCause : ShelfLog → ShelfLog → List ℕ → Result Load LoadFault → Type 0
 LoadCause old new name (Err Failed) = LoadFails name old new
 LoadCause old new name (Err NoMemory) = NoLoadFails old new
 LoadCause old new name (Ok load) = NoLoadFails old new
 
--- what a source tells: the bytes that are left, and how many bytes each take gave, in order, where it tells these (a take
--- that failed gave none); and how many takes failed, where it may stop counting at 2^64 - 1
+-- what a source records: the bytes that are left, and how many bytes each take returned, in order, if it records them
+-- (a failed take returned none); and the number of failed takes, which may saturate at 2^64 - 1
 pub record SourceLog : Type 0 where
   pub left : Option (List ℕ)
   pub takes : Option (List ℕ)

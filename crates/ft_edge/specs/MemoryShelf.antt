@@ -1,4 +1,4 @@
--- What a shelf in memory holds, and what its loads answer and leave.
+-- What a shelf in memory holds, and what its loads return and change.
 use Rattle.std.specs.Prelude.{ℕ, refl, nat_lt, List, length, Option, Some, None, Result, Ok, Err, if◌then◌else◌}
 use Rattle.std.specs.FinMap.{empty, get, insert, code}
 use Rattle.std.specs.Coded.{Coded, code_by, coded×, coded_list, coded_ℕ, coded_option}
@@ -27,24 +27,24 @@ shelf_code =
 abbrev pub empty_shelf : MemoryShelf
 empty_shelf = record { files = empty; calls = no_calls; failed_name = None }
 
--- the file stands under its name, in place of an earlier one
+-- the file is stored under its name and replaces an earlier one
 abbrev pub with_file : MemoryShelf → List ℕ → List ℕ → MemoryShelf
 with_file shelf name bytes = record shelf { files = insert shelf.files name bytes }
 
--- one more load is to fail
+-- one more load must fail
 abbrev pub with_failing_load : MemoryShelf → ℕ → MemoryShelf
 with_failing_load shelf number = record shelf { calls = with_failing shelf.calls number }
 
--- what a load answers that is not to fail: a name that is not held is a failure
+-- the result of a load that need not fail: a missing name is a failure
 abbrev pub answer_to : Option (List ℕ) → ℕ → Result Load LoadFault
 answer_to None limit = Err Failed
 answer_to (Some bytes) limit = if nat_lt limit (length bytes) then Ok TooLong else Ok Whole
 
--- what the next load answers where it finds memory
+-- the result of the next load if there is memory
 abbrev pub load_answer : MemoryShelf → List ℕ → ℕ → Result Load LoadFault
 load_answer shelf name limit = if is_to_fail shelf.calls then Err Failed else answer_to (get shelf.files name) limit
 
--- the shelf after a failure at this name was counted
+-- the shelf after a failure with this name was counted
 abbrev pub after_failure_at : MemoryShelf → List ℕ → MemoryShelf
 after_failure_at shelf name = record shelf { calls = after_failure shelf.calls; failed_name = Some name }
 
@@ -52,7 +52,7 @@ after_failure_at shelf name = record shelf { calls = after_failure shelf.calls; 
 abbrev pub after_load_call : MemoryShelf → MemoryShelf
 after_load_call shelf = record shelf { calls = after_call shelf.calls }
 
--- the shelf after a load of this name with this answer
+-- the shelf after a load of this name with this result
 abbrev pub after_load : MemoryShelf → List ℕ → Result Load LoadFault → MemoryShelf
 after_load shelf name (Ok load) = after_load_call shelf
 after_load shelf name (Err NoMemory) = after_load_call shelf

@@ -1,4 +1,4 @@
--- What a source in memory holds, and what its takes answer and leave.
+-- What a source in memory holds, and what its takes return and change.
 use Rattle.std.specs.Prelude.{ℕ, List, drop, Result, Ok, Err}
 use Rattle.ft_edge.specs.declared.failed.Failed.{Failed}
 use Rattle.ft_edge.specs.Calls.{Calls, no_calls, with_failing, after_call, after_failed_call}
@@ -12,11 +12,11 @@ pub record MemorySource : Type 0 where
 abbrev pub source_of_bytes : List ℕ → MemorySource
 source_of_bytes bytes = record { left = bytes; calls = no_calls }
 
--- one more take is to fail
+-- one more take must fail
 abbrev pub with_failing_take : MemorySource → ℕ → MemorySource
 with_failing_take source number = record source { calls = with_failing source.calls number }
 
--- the source after a take with this answer
+-- the source after a take with this result
 abbrev pub after_take : MemorySource → Result ℕ Failed → MemorySource
 after_take source (Ok count) = record { left = drop count source.left; calls = after_call source.calls }
 after_take source (Err failed) = record source { calls = after_failed_call source.calls }

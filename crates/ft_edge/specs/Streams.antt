@@ -1,4 +1,4 @@
--- What reading from and writing to a stream does, where the stream tells its bytes.
+-- What reading from and writing to a stream does, if the stream reveals its bytes.
 use Rattle.std.specs.Prelude.{◌≡◌, ℕ, ◌-◌, ◌<◌, ◌≤◌, List, length, take, sum, All, Option, Result, Ok, Err}
 use Rattle.std.specs.Io.KnownBytes.{Consumes, Appends}
 use Rattle.ft_edge.specs.Told.{append_told}
@@ -12,16 +12,16 @@ ConsumesAtMost old new most = (bytes : List ℕ) × Consumes old new bytes × (l
 abbrev pub AppendsFront : Option (List ℕ) → Option (List ℕ) → List ℕ → Type 0
 AppendsFront old new bytes = (count : ℕ) × Appends old new (take count bytes)
 
--- how many bytes a take gave: none where it failed
+-- how many bytes a take returned: none if it failed
 abbrev pub given : {E : Type 0} → Result ℕ E → ℕ
 given (Ok count) = count
 given (Err e) = 0
 
--- of takes that gave so many bytes each but the last gave some
+-- every take but the last returned at least one byte
 abbrev pub IsFrugal : List ℕ → Type 0
 IsFrugal sizes = All (λ count. 0 < count) (take (length sizes - 1) sizes)
 
--- at most so many bytes were taken, by takes of these sizes, and none after one that gave nothing
+-- at most n bytes were taken, by takes of these sizes, and nothing after an empty take
 pub record TakesAtMost (most : ℕ) (old new : SourceLog) : Type 0 where
   pub bytes : List ℕ
   pub sizes : List ℕ

@@ -1,7 +1,7 @@
--- Lists that an implementation tells, or does not tell.
+-- Lists that an implementation may record.
 use Rattle.std.specs.Prelude.{List, ◌++◌, Option}
 use Rattle.std.specs.Option.{option_map}
 
--- what is told, and after it these
+-- the recorded list with these appended
 abbrev pub append_told : {X : Type 0} → Option (List X) → List X → Option (List X)
 append_told told xs = option_map (λ ys. ys ++ xs) told

@@ -1,12 +1,12 @@
-//! Calls numbered from 0, some of which are to fail.
+//! Calls numbered from 0, some of which must fail.
 ghost use Rattle.std.specs.Prelude.{◌≡◌, ◌≤◌, OnOk, OnErr};
 
 use ft_isa::NoMemory;
 use std::alloc::Global;
 use std::marker::Model;
 
-/// The calls on an object in memory: which of them are to fail, how many there were, and how many of
-/// them failed. Both counts stand still at 2^64 - 1.
+/// The calls on an object in memory: which of them must fail, how many there were, and how many of them failed. Both
+/// counts saturate at 2^64 - 1.
 #[derive(Drop)]
 pub(crate) struct Counter {
     failing: Vec<u64>,
@@ -25,7 +25,7 @@ impl Model for Counter {
 impl Counter {
     ghost use Rattle.ft_edge.specs.Calls.{no_calls, is_to_fail, with_failing, after_call, after_failure};
 
-    /// No call, and none that is to fail.
+    /// No call, and none that must fail.
     pub(crate) fn new(alloc: Global) -> Counter
         ensures { result ≡ no_calls }
     {
@@ -36,7 +36,7 @@ impl Counter {
         }
     }
 
-    /// Adds a call that is to fail.
+    /// Adds a call that must fail.
     pub(crate) fn fail_at(&mut self, call: u64) -> Result<(), NoMemory>
         ensures ok { OnOk result (self.new ≡ with_failing self.old call) }
         ensures err { OnErr result (self.new ≡ self.old) }
@@ -45,7 +45,7 @@ impl Counter {
         Ok(())
     }
 
-    /// Numbers the next call, and tells whether it is to fail.
+    /// Numbers the next call, and returns whether it must fail.
     pub(crate) fn begin(&mut self) -> bool
         ensures fails { result ≡ is_to_fail self.old }
         ensures after { self.new ≡ after_call self.old }

@@ -12,11 +12,11 @@ use std::io::Read;
 use std::marker::Model;
 use std::rt::Files;
 
-/// How many bytes are read at once at most.
+/// The maximum bytes of one read.
 const PIECE: usize = 131_072;
 
-/// Files of the system, by path. It does not tell them. A file that is missing or cannot be read is a
-/// failure, and the count of failures stands still at 2^64 - 1.
+/// Files of the system, by path. It does not reveal them. A file that is missing or cannot be read is a failure, and
+/// the count of failures saturates at 2^64 - 1.
 #[derive(Drop)]
 pub struct FolderShelf<R: Files> {
     rt: R,
@@ -34,7 +34,7 @@ impl<R: Files> Model for FolderShelf<R> {
     ghost view = { λ s. record { count = s.failures; failed_name = known_text s.failed } };
 }
 
-/// Takes memory for so many bytes, or for the limit, and for one more, by which the end is found.
+/// Allocates memory for this many bytes, or for the limit, and for one more, to find the end.
 fn reserve_whole(into: &mut Vec<u8>, limit: usize, size: usize) -> Result<(), LoadFault>
     ensures { into.new.items ≡ into.old.items }
 {
@@ -44,8 +44,8 @@ fn reserve_whole(into: &mut Vec<u8>, limit: usize, size: usize) -> Result<(), Lo
     }
 }
 
-/// Makes the vector longer than what is filled of it, by a piece: up to one byte past the size where
-/// less is filled, and up to one byte past the limit.
+/// Makes the vector longer than its filled part by a piece: up to one byte past the size if less is filled, and up to
+/// one byte past the limit.
 fn make_room(into: &mut Vec<u8>, filled: usize, limit: usize, size: usize) -> Result<(), LoadFault>
     requires few { filled ≤ limit }
     requires part { filled ≤ length into.old.items }
@@ -66,7 +66,7 @@ fn make_room(into: &mut Vec<u8>, filled: usize, limit: usize, size: usize) -> Re
     }
 }
 
-/// Reads once, into the room of the vector past what is filled of it.
+/// Reads once, into the room of the vector past its filled part.
 fn read_more<F: Read>(
     file: &mut F,
     filled: usize,
@@ -91,10 +91,9 @@ fn read_more<F: Read>(
     }
 }
 
-/// Reads a file to its end, or to one byte past the limit, in the room of the vector. The size is how
-/// many bytes the file is said to have. Memory for them is taken at once, and the room is made piece by
-/// piece. Where the file is too long or a read failed, the vector holds what was read and what is left
-/// of the room.
+/// Reads a file to its end, or to one byte past the limit, in the room of the vector. The size is what the system
+/// reports. Memory for that many bytes is allocated at once, and the room is made piece by piece. If the file is too
+/// long or a read failed, the vector holds what was read and the rest of the room.
 fn fill<F: Read>(
     file: &mut F,
     limit: usize,
@@ -122,7 +121,7 @@ fn fill<F: Read>(
     Ok(Load::TooLong)
 }
 
-/// How many bytes an open file is said to have, or 0 where it does not say.
+/// The size that the system reports of an open file, or 0 if it reports none.
 fn size_of_file<F: OpenFile>(file: &F) -> usize {
     match file.metadata() {
         Ok(metadata) => usize::try_from(metadata.len()).unwrap_or(0),
@@ -130,7 +129,7 @@ fn size_of_file<F: OpenFile>(file: &F) -> usize {
     }
 }
 
-/// Loads a file that is open.
+/// Loads an open file.
 fn load_from<F: Read>(
     file: &mut F,
     limit: usize,

@@ -1,4 +1,4 @@
-//! A sink that gathers what it takes and hands it to a writer in large pieces.
+//! A sink that buffers pieces and passes them to a writer in large ones.
 ghost use Rattle.std.specs.Prelude.{◌≡◌, ◌≢◌, ◌≤◌, ◌+◌, [], length, drop, None, IsTrue, IfOk, IfErr, OnOk, OnErr};
 ghost use Rattle.std.specs.Io.KnownBytes.{Appends, Keeps};
 ghost use Rattle.ft_edge.specs.Calls.{next_count};
@@ -10,12 +10,12 @@ use ft_isa::NoMemory;
 use std::alloc::Global;
 use std::io::Write;
 
-/// How many bytes are gathered before they are handed on.
+/// The size of the buffer in bytes.
 const ROOM: usize = 65_536;
 
-/// A sink that gathers pieces and hands them to a writer, 64 KiB at a time. What was written is what
-/// the writer took and then what is gathered. `finish` hands on the rest. The sink does not tell its
-/// bytes, and its count of failures stands still at 2^64 - 1.
+/// A sink that buffers pieces and passes them to a writer, 64 KiB at a time. The written bytes are those that the
+/// writer accepted, followed by the buffer. `finish` writes the rest. It does not reveal its bytes, and its failure
+/// count saturates at 2^64 - 1.
 #[derive(Drop)]
 pub struct GatheringSink<W: Write + Drop> {
     out: W,
@@ -26,7 +26,7 @@ pub struct GatheringSink<W: Write + Drop> {
 impl<W: Write + Drop> GatheringSink<W> {
     ghost use Rattle.ft_edge.specs.Gathered.{written_to, sink_writer};
 
-    /// A sink over this writer. The room is reserved here, so that no put takes memory.
+    /// A sink over this writer. The room is reserved here, so that no put allocates.
     pub fn new(alloc: Global, writer: W) -> Result<GatheringSink<W>, NoMemory>
         ensures empty { IfOk result (λ sink. Keeps (W.contents writer) (written_to W.contents sink)) }
         ensures count { IfOk result (λ sink. sink.failures ≡ 0) }
@@ -41,8 +41,7 @@ impl<W: Write + Drop> GatheringSink<W> {
         }
     }
 
-    /// Hands on what is gathered, and tells whether the writer took all. What it did not take stays
-    /// gathered.
+    /// Flushes the buffer, and returns whether the writer accepted all of it. The rest stays in the buffer.
     fn hand_on(&mut self) -> bool
         ensures kept { Keeps (written_to W.contents self.old) (written_to W.contents self.new) }
         ensures all { IsTrue result → self.new.gathered.items ≡ [] }
@@ -54,7 +53,7 @@ impl<W: Write + Drop> GatheringSink<W> {
         self.gathered.is_empty()
     }
 
-    /// Hands on what is gathered, and gives the writer back. It does not fail where nothing is gathered.
+    /// Flushes the buffer, and returns the writer. It does not fail if the buffer is empty.
     pub fn finish(self) -> Result<W, Failed>
         ensures ok { IfOk result (λ writer. Keeps (written_to W.contents self) (W.contents writer)) }
         ensures err { IfErr result (λ _. self.gathered.items ≢ []) }
@@ -69,7 +68,7 @@ impl<W: Write + Drop> GatheringSink<W> {
         Ok(sink.discard())
     }
 
-    /// Gives the writer back, and lets go of what is gathered: nothing more is written.
+    /// Returns the writer and discards the buffer: nothing more is written.
     pub fn discard(self) -> W
         ensures { (sink_writer self) ≡ result }
     {
@@ -91,7 +90,7 @@ impl<W: Write + Drop> GatheringSink<W> {
         Err(Failed)
     }
 
-    /// Puts a piece for which there is no room.
+    /// Puts a piece that does not fit into the buffer.
     #[cold]
     #[inline(never)]
     fn put_apart(&mut self, bytes: &[u8]) -> Result<(), Failed>
@@ -111,7 +110,7 @@ impl<W: Write + Drop> GatheringSink<W> {
         self.gather(bytes)
     }
 
-    /// Gathers a piece.
+    /// Buffers a piece.
     #[inline(always)]
     fn gather(&mut self, bytes: &[u8]) -> Result<(), Failed>
         ensures gathers { OnOk result (Appends (written_to W.contents self.old) (written_to W.contents self.new) bytes.now) }
@@ -128,7 +127,7 @@ impl<W: Write + Drop> GatheringSink<W> {
     }
 }
 
-/// Takes away so many bytes from the front.
+/// Removes the first `count` bytes.
 fn remove_front(bytes: &mut Vec<u8>, count: usize)
     requires { count ≤ length bytes.old.items }
     ensures { bytes.new.items ≡ drop count bytes.old.items }

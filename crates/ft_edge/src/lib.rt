@@ -1,9 +1,9 @@
-//! The outside: files on a shelf, a script to take and an output to put, each with a count of failures.
+//! The outside: files on a shelf, a script to read and an output to write, each with a count of failures.
 //!
-//! The crate promises what a call does to the content where it is told, that a call fails only where
-//! the count rose, and what each implementation in memory answers exactly. Its definitions:
-//! `specs/Causes.antt` and `specs/Loads.antt` for the traits, `specs/Calls.antt` and the `Memory`
-//! files for the implementations in memory, `specs/Streams.antt` for those over the system.
+//! The crate promises how a call changes content that is known, that a call fails only if its count rises,
+//! and exactly what each in-memory implementation returns. Its definitions: `specs/Causes.antt` and
+//! `specs/Loads.antt` for the traits, `specs/Calls.antt` and the `Memory` files for the in-memory
+//! implementations, `specs/Streams.antt` for those over the system.
 #![tactic(auto)]
 
 mod counter;

@@ -1,4 +1,4 @@
-//! Files in memory, with loads that are to fail.
+//! Files in memory, with loads that must fail.
 ghost use Rattle.std.specs.Prelude.{◌≡◌, ◌≢◌, ◌≤◌, [], map, string_bytes, Err, None, Some, OnOk, OnErr};
 ghost use Rattle.std.specs.Option.{option_map};
 ghost use Rattle.std.specs.Ordering.{nat_cmp};
@@ -20,8 +20,8 @@ struct Stored {
     bytes: Vec<u8>,
 }
 
-/// Files in memory, with loads that are to fail. It tells its files, and not its loads: to keep the name
-/// of each load, also where there is no memory, it would need memory.
+/// Files in memory, with loads that must fail. It reveals its files but does not record its loads: to record the name
+/// of each load, even if memory ran out, it would need memory.
 #[derive(Drop)]
 pub struct MemShelf {
     alloc: Global,
@@ -58,7 +58,7 @@ impl MemShelf {
         }
     }
 
-    /// Puts a file under its name, in place of an earlier one of that name.
+    /// Puts a file under its name, replacing an earlier one of that name.
     pub fn add(&mut self, name: &str, bytes: &[u8]) -> Result<(), NoMemory>
         ensures ok { OnOk result (self.new ≡ with_file self.old name.now bytes.now) }
         ensures err { OnErr result (self.new ≡ self.old) }
@@ -71,8 +71,7 @@ impl MemShelf {
         Ok(())
     }
 
-    /// Adds a load that is to fail. Loads are numbered from 0, and every load from number 2^64 - 1 on
-    /// has that number.
+    /// Adds a load that must fail. Loads are numbered from 0, and every load from number 2^64 - 1 has that number.
     pub fn fail_at(&mut self, call: u64) -> Result<(), NoMemory>
         ensures ok { OnOk result (self.new ≡ with_failing_load self.old call) }
         ensures err { OnErr result (self.new ≡ self.old) }
@@ -112,8 +111,8 @@ impl Shelf for MemShelf {
 
     ghost log = { λ shelf. record { files = Some shelf.files; asked = None; failures = shelf.calls.failures; failed_name = shelf.failed_name } };
 
-    /// Loads the file of a name. A name that the shelf does not hold is a failure. A load that finds no
-    /// memory is a call like any other, and counts no failure.
+    /// Loads the file of a name. A name that the shelf does not hold is a failure. A load that finds no memory is a
+    /// call like any other, and does not count as a failure.
     fn load(&mut self, name: &str, limit: usize, into: &mut Vec<u8>) -> Result<Load, LoadFault>
         requires { into.old.items ≡ [] }
         ensures loads { Loads (Some self.old.files) name.now limit into.new.items result }

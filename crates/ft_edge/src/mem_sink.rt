@@ -1,4 +1,4 @@
-//! Bytes written to memory, with puts that are to fail.
+//! Bytes written to memory, with puts that must fail.
 ghost use Rattle.std.specs.Prelude.{◌≡◌, ◌≤◌, None, Some, is_err, IfOk, OnOk, OnErr};
 
 use crate::counter::Counter;
@@ -7,8 +7,8 @@ use ft_isa::NoMemory;
 use std::alloc::Global;
 use std::marker::Model;
 
-/// Bytes written to memory, with puts that are to fail. It tells its bytes, and not its pieces: to keep
-/// each piece, also where its put fails, a put would have to take memory.
+/// Bytes written to memory, with puts that must fail. It reveals its bytes but does not record its pieces: to record
+/// each piece, even of a failed put, a put would have to allocate.
 #[derive(Drop)]
 pub struct MemSink {
     written: Vec<u8>,
@@ -30,7 +30,7 @@ impl Model for MemSink {
 impl MemSink {
     ghost use Rattle.ft_edge.specs.MemorySink.{empty_sink, with_failing_put};
 
-    /// A sink with room for this many bytes. The room is reserved here, so that no put takes memory.
+    /// A sink with room for this many bytes. The room is reserved here, so that no put allocates.
     pub fn new(alloc: Global, room: usize) -> Result<MemSink, NoMemory>
         ensures { IfOk result (λ sink. sink ≡ empty_sink room) }
     {
@@ -41,8 +41,7 @@ impl MemSink {
         })
     }
 
-    /// Adds a put that is to fail. Puts are numbered from 0, and every put from number 2^64 - 1 on has
-    /// that number.
+    /// Adds a put that must fail. Puts are numbered from 0, and every put from number 2^64 - 1 has that number.
     pub fn fail_at(&mut self, call: u64) -> Result<(), NoMemory>
         ensures ok { OnOk result (self.new ≡ with_failing_put self.old call) }
         ensures err { OnErr result (self.new ≡ self.old) }
@@ -64,7 +63,7 @@ impl Sink for MemSink {
 
     ghost log = { λ sink. record { written = Some sink.written; pieces = None; failures = sink.calls.failures } };
 
-    /// Adds the piece, where there is room for all of it.
+    /// Adds the piece, if there is room for all of it.
     fn put(&mut self, bytes: &[u8]) -> Result<(), Failed>
         ensures count { self.old.calls.failures ≤ self.new.calls.failures }
         ensures answer { is_err result ≡ put_fails self.old bytes.now }

@@ -1,4 +1,4 @@
-//! Bytes in memory to be taken, with takes that are to fail.
+//! Bytes in memory to read, with takes that must fail.
 ghost use Rattle.std.specs.Prelude.{◌≡◌, ◌<◌, ◌≤◌, length, min, take, None, Some, is_err, IfOk, OnOk, OnErr};
 
 use crate::counter::Counter;
@@ -7,8 +7,8 @@ use ft_isa::NoMemory;
 use std::alloc::Global;
 use std::marker::Model;
 
-/// Bytes in memory to be taken, with takes that are to fail. It tells its bytes, and not the sizes of
-/// its takes: to keep each of them, a take would have to take memory.
+/// Bytes in memory to read, with takes that must fail. It reveals its bytes but does not record the sizes of its takes:
+/// to record each of them, a take would have to allocate.
 #[derive(Drop)]
 pub struct MemSource {
     bytes: Vec<u8>,
@@ -41,8 +41,7 @@ impl MemSource {
         })
     }
 
-    /// Adds a take that is to fail. Takes are numbered from 0, and every take from number 2^64 - 1 on
-    /// has that number.
+    /// Adds a take that must fail. Takes are numbered from 0, and every take from number 2^64 - 1 has that number.
     pub fn fail_at(&mut self, call: u64) -> Result<(), NoMemory>
         ensures ok { OnOk result (self.new ≡ with_failing_take self.old call) }
         ensures err { OnErr result (self.new ≡ self.old) }
@@ -58,7 +57,7 @@ impl Source for MemSource {
 
     ghost log = { λ source. record { left = Some source.left; takes = None; failures = source.calls.failures } };
 
-    /// Takes as many bytes as there are left, or as many as the buffer holds.
+    /// Takes as many bytes as are left, or as fit into the buffer.
     fn take(&mut self, buf: &mut [u8]) -> Result<usize, Failed>
         requires { 0 < length buf.old }
         ensures count { self.old.calls.failures ≤ self.new.calls.failures }

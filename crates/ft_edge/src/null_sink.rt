@@ -3,7 +3,7 @@ ghost use Rattle.std.specs.Prelude.{◌≡◌, None, Ok};
 
 use crate::{Failed, Sink};
 
-/// A sink that drops what it takes and never fails. It tells no content, and its count of failures is 0.
+/// A sink that drops what it takes and never fails. It reveals nothing, and its count of failures is 0.
 #[derive(Drop)]
 pub struct NullSink;
 

@@ -11,7 +11,7 @@ use thiserror::Error;
 pub enum Load {
     /// The whole file was loaded.
     Whole,
-    /// The file is longer than the limit, and nothing of it was loaded.
+    /// The file is longer than the limit, and none of it was loaded.
     TooLong,
 }
 
@@ -21,19 +21,19 @@ pub enum LoadFault {
     /// The file could not be read, and the count of failures rose.
     #[error("the file could not be read")]
     Failed,
-    /// There was no memory left, and the count of failures stays.
+    /// Memory ran out, and the count of failures is unchanged.
     #[error("out of memory")]
     NoMemory,
 }
 
 /// Files by name.
 pub trait Shelf {
-    // What the shelf tells: the files, the loads that were made, how many of them failed, and the name of the
-    // last one that did.
+    // What the shelf records: the files, the loads that were made, how many of them failed, and the name of the last
+    // one that did.
     ghost log: { Self → ShelfLog };
 
-    /// Loads the file of a name into an empty vector, if the file has at most `limit` bytes. After any
-    /// answer but `Whole` the vector is empty.
+    /// Loads the file of a name into an empty vector, if the file has at most `limit` bytes. After any result but
+    /// `Whole` the vector is empty.
     fn load(&mut self, name: &str, limit: usize, into: &mut Vec<u8>) -> Result<Load, LoadFault>
         requires { into.old.items ≡ [] }
         ensures files { (log self.new).files ≡ (log self.old).files }

@@ -1,4 +1,4 @@
-//! Where bytes are put.
+//! Where bytes are written.
 ghost use Rattle.std.specs.Prelude.{◌≡◌, ◌≤◌, [], ◌∷◌, OnOk, OnErr};
 ghost use Rattle.std.specs.Io.KnownBytes.{append_known};
 ghost use Rattle.ft_edge.specs.Causes.{Rose, AddsPrefix};
@@ -7,10 +7,9 @@ ghost use Rattle.ft_edge.specs.Told.{append_told};
 
 use crate::Failed;
 
-/// Where bytes are put.
+/// Where bytes are written.
 pub trait Sink {
-    // What the sink tells: the bytes that were written, the pieces that were asked to be put, and how many
-    // puts failed.
+    // What the sink records: the bytes written, every attempted piece, and how many puts failed.
     ghost log: { Self → SinkLog };
 
     /// Adds the whole piece to what was written; a put that fails adds a prefix of it.

@@ -1,4 +1,4 @@
-//! Bytes to be taken.
+//! Sources of bytes.
 ghost use Rattle.std.specs.Prelude.{◌≡◌, ◌<◌, ◌≤◌, [], ◌∷◌, length, is_some, OnOk, OnErr};
 ghost use Rattle.std.specs.Io.{ReadsAtMost};
 ghost use Rattle.std.specs.Io.KnownBytes.{ReadConsumes};
@@ -9,14 +9,13 @@ ghost use Rattle.ft_edge.specs.Told.{append_told};
 
 use crate::Failed;
 
-/// Bytes to be taken.
+/// A source of bytes.
 pub trait Source {
-    // What the source tells: the bytes that are left, how many bytes each take gave, and how many takes
-    // failed.
+    // What the source records: the bytes that are left, how many bytes each take returned, and how many takes failed.
     ghost log: { Self → SourceLog };
 
-    /// Takes the next bytes into the front of a buffer that is not empty, and answers how many there
-    /// are: at least one where any are left, and 0 at the end. A take that fails takes nothing, and leaves the buffer as it was.
+    /// Reads the next bytes into the start of a buffer of nonzero length, and returns how many: at least one if any are
+    /// left, and 0 at the end. A take that fails reads nothing, and leaves the buffer unchanged.
     fn take(&mut self, buf: &mut [u8]) -> Result<usize, Failed>
         requires { 0 < length buf.old }
         ensures takes { (log self.new).takes ≡ append_told (log self.old).takes (given result ∷ []) }

@@ -9,10 +9,10 @@ use crate::{Failed, Source};
 use std::io::Read;
 use std::marker::Model;
 
-/// How many bytes are read at once at most.
+/// The maximum bytes of one read.
 const PIECE: usize = 4096;
 
-/// Standard input. It does not tell its bytes, and its count of failures stands still at 2^64 - 1.
+/// Standard input. It does not reveal its bytes, and its count of failures saturates at 2^64 - 1.
 #[derive(Drop)]
 pub struct StdinSource<R: Input> {
     rt: R,
@@ -27,8 +27,8 @@ impl<R: Input> Model for StdinSource<R> {
     ghost view = { λ s. s.failures };
 }
 
-/// Reads once, and counts a read that failed. The bytes come over a piece apart, since a read that
-/// fails may leave anything in what it reads into.
+/// Reads once, and counts a read that failed. The bytes pass through a buffer of their own, since a failed read may
+/// leave anything in the buffer that it reads into.
 fn take_from<F: Read>(file: &mut F, buf: &mut [u8], failures: &mut u64) -> Result<usize, Failed>
     ensures bound { ReadsAtMost result buf.new }
     ensures bytes { ReadConsumes (F.remaining file.old) (F.remaining file.new) result buf.new }

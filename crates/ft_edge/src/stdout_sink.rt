@@ -6,7 +6,7 @@ use crate::{Failed, Sink};
 use std::io;
 use std::marker::Model;
 
-/// Standard output. It does not tell its bytes, and its count of failures stands still at 2^64 - 1.
+/// Standard output. It does not reveal its bytes, and its count of failures saturates at 2^64 - 1.
 #[derive(Drop)]
 pub struct StdoutSink<R: Print> {
     rt: R,

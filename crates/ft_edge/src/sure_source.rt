@@ -1,4 +1,4 @@
-//! Bytes to be taken that never fail.
+//! A source that never fails.
 ghost use Rattle.std.specs.Prelude.{◌≡◌, ◌<◌, None, Ok, Some, length, min};
 ghost use Rattle.std.specs.Io.{ReadsAtMost};
 ghost use Rattle.std.specs.Io.KnownBytes.{ReadConsumes};
@@ -6,7 +6,7 @@ ghost use Rattle.std.specs.Io.KnownBytes.{ReadConsumes};
 use crate::{Failed, Source};
 use std::marker::Model;
 
-/// A source of known bytes that never fails. It tells its bytes, and its count of failures is 0.
+/// A source of known bytes that never fails. It reveals its bytes, and its count of failures is 0.
 #[derive(Drop)]
 pub struct SureSource<'a> {
     left: &'a [u8],
@@ -32,7 +32,7 @@ impl<'a> SureSource<'a> {
 impl<'a> Source for SureSource<'a> {
     ghost log = { λ bytes. record { left = Some bytes; takes = None; failures = 0 } };
 
-    /// Takes as many bytes as there are left, or as many as the buffer holds. It never fails.
+    /// Takes as many bytes as are left, or as fit into the buffer. It never fails.
     fn take(&mut self, buf: &mut [u8]) -> Result<usize, Failed>
         requires { 0 < length buf.old }
         ensures bound { ReadsAtMost result buf.new }

@@ -1,4 +1,4 @@
-//! Single reads and writes, begun again where a signal interrupted them.
+//! Single reads and writes, repeated if a signal interrupts them.
 ghost use Rattle.std.specs.Prelude.{◌≡◌, ◌<◌, length, take, drop};
 ghost use Rattle.std.specs.Io.{ReadsAtMost, WritesAtMost};
 ghost use Rattle.std.specs.Io.KnownBytes.{ReadConsumes, WriteAppends};
@@ -6,7 +6,7 @@ ghost use Rattle.std.specs.Io.KnownBytes.{ReadConsumes, WriteAppends};
 use crate::Failed;
 use std::io::{ErrorKind, Read, Write};
 
-/// Reads once, at most as many bytes as the buffer holds.
+/// Reads once, at most as many bytes as fit into the buffer.
 pub(crate) fn read_once<F: Read>(file: &mut F, buf: &mut [u8]) -> Result<usize, Failed>
     ensures bound { ReadsAtMost result buf.new }
     ensures bytes { ReadConsumes (F.remaining file.old) (F.remaining file.new) result buf.new }
@@ -21,7 +21,7 @@ pub(crate) fn read_once<F: Read>(file: &mut F, buf: &mut [u8]) -> Result<usize, 
     Err(Failed)
 }
 
-/// Reads once, into what a buffer holds past its first bytes.
+/// Reads once, into a buffer past its first bytes.
 pub(crate) fn read_past<F: Read>(file: &mut F, buf: &mut [u8], past: usize) -> Result<usize, Failed>
     requires { past < length buf.old }
     ensures front { take past buf.new ≡ take past buf.old }

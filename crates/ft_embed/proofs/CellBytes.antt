@@ -42,7 +42,7 @@ regroup h b i a r = simp append_assoc
 
 -- CELLS
 
--- the records of cells in three parts, of which the middle one is the initial word of cell k
+-- the records of cells in three parts, the middle of which is the initial word of cell k
 record Cut (start k : ℕ) (cs : List Cell) (c : Cell) : Type 0 where
   pub before : List ℕ
   pub after : List ℕ
@@ -144,7 +144,7 @@ in_parts : (v : Version) (o : Object) → spelling v o ≡ header_by v o (length
 unfolding spelling
 in_parts v o = refl
 
--- the bytes of an object in three parts, of which the middle one is the initial word of cell k
+-- the bytes of an object in three parts, the middle of which is the initial word of cell k
 record CutWhole (v : Version) (o : Object) (k : ℕ) (c : Cell) : Type 0 where
   pub before : List ℕ
   pub after : List ℕ
@@ -232,7 +232,7 @@ length_word : (w : ℕ) → length (bytes_of w64 w) ≡ 8
 unfolding bytes_of
 length_word w = refl
 
--- the word of a cell that is there stands among the bytes
+-- the word of an existing cell is among the bytes
 pub word_there : (bytes : List ℕ) (v : Version) (o : Object) (k : ℕ) (c : Cell) → Spells bytes v o → slice_get o.cells k
     ≡ Some c → 56 + 16 * k + 8 ≤ length bytes
 word_there bytes v o k c h e =
@@ -244,7 +244,7 @@ word_there bytes v o k c h e =
     let n = r.long in
     omega (arith, whole, a, b, m, n)
 
--- bytes of which the word of cell k is replaced spell the object with this word
+-- bytes with the word of cell k replaced spell the object with this word
 pub spells_set : (old new : List ℕ) (v : Version) (o : Object) (k w : ℕ) (c : Cell) → IsWord w → Spells old v o →
     slice_get o.cells k ≡ Some c
     → new ≡ take (56 + 16 * k) old ++ (bytes_of w64 w ++ drop (56 + 16 * k + 8) old) →

@@ -1,4 +1,4 @@
--- What a refusal tells.
+-- What a refusal reports.
 use Rattle.std.proofs.Common.{◌≢◌, ◌≡◌, Option, Some, None, Result, Ok, refl, sym, subst, ◌∙◌, arith}
 use Rattle.ft_typing.specs.Accepted.{Refusal, refusal, IsAccepted}
 use Rattle.ft_typing.proofs.Acceptance.{accepted_is_unrefused}
@@ -24,7 +24,7 @@ use Rattle.ft_embed.specs.Verdicts.{Tells, IsAcceptedFile, judged, told_refusal,
 use Rattle.ft_embed.specs.Texts.{IsCompiled, IsSourceRefused, told_source, IsMalformed, IsAsmRefused, IsAsmBroken}
 use Rattle.ft_embed.specs.Texts.{none_of_the_forms, out_of_order, too_long, told_asm, HandsOver, fits, too_many}
 
--- what is told of a refusal is told of whatever is that refusal
+-- what is reported of a refusal is reported of whatever is that refusal
 pub tells_refused : (x : Option Refusal) (r : Refusal) → x ≡ Some r → Tells 8 (told_refusal r) (judged x)
 tells_refused x r is = subst (λ y. Tells 8 (told_refusal r) (judged y)) (sym is) (record {
   status_is = refl;
@@ -59,7 +59,7 @@ pub not_handed : (bytes old : List ℕ) (made : ℕ) → made ≡ length bytes �
     HandsOver bytes old old made 15
 not_handed bytes old made is more = too_many refl is more refl
 
--- a status of 0 comes for what is not refused
+-- a status of 0 means that nothing is refused
 unrefused : (x : Option Refusal) → 0 ≡ (judged x).status → x ≡ None
 unrefused None h = refl
 unrefused (Some r) h = absurd (omega (arith, h))
@@ -88,7 +88,7 @@ pub source_refused : (text : List ℕ) (e : SourceError) (told : Refused) → (e
 source_refused text e told h named is = record { error = e; refused = h named; named = named; told_is = is }
 
 -- a text is one program, so an object that stands for a program of it and is that of a flow of one does both for the
--- same one
+-- same program
 same_ok : (p q : Program) → ◌≡◌ {A = Result Program SourceError} (Ok p) (Ok q) → p ≡ q
 same_ok p q e = cc
 

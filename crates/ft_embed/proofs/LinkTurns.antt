@@ -60,7 +60,7 @@ pub ends_unaccepted : (modules : List Object) (o : Object) (u : Unlinked) →
     IsUnaccepted (refusal o) (length modules) u → EndsAtObject modules o u
 ends_unaccepted modules o u h = let r = unaccepted_by (refusal o) (length modules) u h in not_accepted r.0 r.1 r.2
 
--- the bytes of the first module of a name, from a place on
+-- the bytes of the first module of a name, from some place
 pub bytes_from : (given : List Module) (name : List ℕ) (i : ℕ) (m : Module) → i < length given → m ≡ get_or given i m →
     bytes_of (drop i given) name ≡ (if bytes_eq m.name.now name then Some m.bytes.now
     else bytes_of (drop (i + 1) given) name)
@@ -108,7 +108,7 @@ pub longer : (given : List Module) (modules modules' : List Object) (name : List
     IsAddedTo given modules name modules' → length modules' ≡ length modules + 1
 longer given modules modules' name a = ap length a.added ∙ length-append modules (a.object ∷ [])
 
--- the files from a place on
+-- the files from some place
 turn : (files : List (List ℕ)) (i : ℕ) (x : List ℕ) → i < length files → x ≡ get_or files i x → drop i files
     ≡ x ∷ drop (i + 1) files
 turn files i x lt is = drop-cons files i x lt ∙ ap (λ y. y ∷ drop (suc i) files) (sym is)

@@ -7,7 +7,7 @@ use Rattle.ft_isa.specs.declared.colour.Colour.{Colour}
 use Rattle.ft_isa.specs.declared.colour.Colour.TheVariants.{Green, Blue}
 use Rattle.ft_isa.specs.declared.reg.Reg.{Reg}
 use Rattle.ft_isa.specs.declared.instr.Instr.{Instr}
-use Rattle.ft_isa.specs.declared.instr.Instr.TheVariants.{OpReg, OpWord, Mov, Ld, St, JmpG, JmpB, BzG, BzB, Halt, Idx}
+use Rattle.ft_isa.specs.declared.instr.Instr.TheVariants.{Ld, St, JmpG, JmpB, BzG, BzB}
 use Rattle.ft_types.specs.declared.object.Object.{Object}
 use Rattle.ft_types.specs.Objects.{instr_at}
 use Rattle.ft_semantics.specs.declared.status.Status.{Status}
@@ -53,9 +53,6 @@ pass_none : (s : State) → LeavesNone (pass s no_words)
 pass_none s = none_if (s.d == 0) (quiet (goes_on s) no_words) (detected s no_words) refl refl
 
 execute_none : (i : Instr) (s : State) → LeavesNone (execute i s no_words)
-execute_none (OpReg op rd rs rt) s = refl
-execute_none (OpWord op rd rs value) s = refl
-execute_none (Mov rd value basic) s = refl
 execute_none (Ld c rd rs) s = load_none c rd (found c s (word s rs)) s
 execute_none (St c rd rs) s = store_none c (word s rd) (word s rs) s
 execute_none (JmpG rd) s = jump_green_none (word s rd) s
@@ -64,8 +61,7 @@ execute_none (BzG rz rd) s = none_if (word s rz == 0) (jump_green (word s rd) s 
     (jump_green_none (word s rd) s) (pass_none s)
 execute_none (BzB rz rd subst) s = none_if (word s rz == 0) (jump_blue (word s rd) s no_words) (pass s no_words)
     (jump_blue_none (word s rd) s) (pass_none s)
-execute_none Halt s = refl
-execute_none (Idx rd rs first m) s = refl
+execute_none i s = refl
 
 advance_none : (o : Object) (f : Option Instr) (s : State) → LeavesNone (advance o f s no_words)
 advance_none o None s = none_if (s.pc_green == s.pc_blue) (fetch (instr_at o s.pc_green) s no_words)

@@ -16,7 +16,7 @@ use Rattle.ft_isa.specs.declared.basic.Basic.{Basic}
 use Rattle.ft_isa.specs.declared.colour.Colour.TheVariants.{Green, Blue}
 use Rattle.ft_isa.specs.declared.instr.Subst.{Subst}
 use Rattle.ft_isa.specs.declared.instr.Instr.{Instr}
-use Rattle.ft_isa.specs.declared.instr.Instr.TheVariants.{OpReg, OpWord, Mov, Ld, St, JmpG, JmpB, BzG, BzB, Halt, Idx}
+use Rattle.ft_isa.specs.declared.instr.Instr.TheVariants.{Mov, St, JmpB, BzB, Idx}
 use Rattle.ft_static.specs.FormOrder.{same_polynomial, same_updates}
 use Rattle.ft_static.specs.NormalForm.{constant}
 use Rattle.ft_types.specs.declared.object.Object.{Object}
@@ -183,14 +183,10 @@ module _ (o : Object) (cs : List Cell) (same : map basic_of cs ≡ map basic_of 
   -- ROWS
 
   row_same : (c : Context) (i : Instr) → row (with_cells o cs) c i ≡ row o c i
-  row_same c (OpReg op rd rs rt) = refl
-  row_same c (OpWord op rd rs value) = refl
   row_same c (Mov rd value basic) = λ i. need premise.BasicType (has_type_same value.word basic i)
       (Goes (with_type rd.number (record { colour = value.colour; basic = basic; form = constant value.word }) c))
-  row_same c (Ld k rd rs) = refl
   row_same c (St Green rd rs) = refl
   row_same c (St Blue rd rs) = refl
-  row_same c (JmpG rd) = refl
   row_same c (JmpB rd u) = λ i.
       for_typed (typed c rd.number) (λ a.
       need premise.Colour (same_colour a.colour Blue) (
@@ -198,7 +194,6 @@ module _ (o : Object) (cs : List Cell) (same : map basic_of cs ≡ map basic_of 
       for_target c.d (λ t' f.
       need premise.Targets ((t == t') && same_polynomial a.form f) (
       leads_same u t c Ends i)))))
-  row_same c (BzG rz rd) = refl
   row_same c (BzB rz rd u) = λ i.
       for_typed (typed c rz.number) (λ z.
       for_typed (typed c rd.number) (λ a.
@@ -208,11 +203,11 @@ module _ (o : Object) (cs : List Cell) (same : map basic_of cs ≡ map basic_of 
       need premise.Conditions (same_polynomial z.form y) (
       need premise.Targets ((t == t') && same_polynomial a.form f) (
       leads_same u t c (Goes (record c { d = d_zero })) i)))))))
-  row_same c Halt = refl
   row_same c (Idx rd rs first m) = λ i.
       for_typed (typed c rs.number) (λ s.
       for_run (run_type_same first m i) (λ b.
       Goes (with_type rd.number (record { colour = s.colour; basic = ref b; form = run_form first m s.form }) c)))
+  row_same c i = refl
 
   pub applies_same : (c : Context) (is : List Instr) → Applies o c is → Applies (with_cells o cs) c is
   applies_same c _ (last_row e) = last_row (row_same _ _ ∙ e)

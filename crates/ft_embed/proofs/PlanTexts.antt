@@ -30,7 +30,7 @@ form_or_memory : (text : List ℕ) (e : WildError) → e ≢ NoMemory → IsWild
 form_or_memory text (Form at) named h answers = h.none answers
 form_or_memory text NoMemory named h answers = absurd (named refl)
 
--- a text that is not empty, and is refused, says no answers
+-- a text that is not empty, and is refused, spells no answers
 pub none_said : (text : List ℕ) (e : WildError) (answers : List Wild) → (length text ≡ 0 → ⊥) → e ≢ NoMemory →
     IsWildError text e → AreAnswers text answers → ⊥
 none_said text e answers some named h (no_answers is) = some (ap length is)

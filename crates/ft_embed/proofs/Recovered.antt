@@ -1,4 +1,4 @@
--- Runs that are begun again where a fault is detected.
+-- Runs that are restarted if a fault is detected.
 use Rattle.std.proofs.Common.{◌≡◌, ◌≢◌, ℕ, ◌<◌, ◌≤◌, List, length, Option, None, refl, ap, sym, subst, ◌∙◌}
 use Rattle.std.specs.Prelude.{map}
 use Rattle.std.proofs.lemmas.List.{length-map, length-take-le}
@@ -39,7 +39,7 @@ some_count Running xs n is e = absurd (cc)
 some_count Done xs n is e = absurd (cc)
 some_count Detected xs n is e = (refl, e)
 
--- as many outputs stand in the array as the run has
+-- as many outputs are in the array as the run has
 outputs_count : (o : Object) (strike : Option Strike) (w : List Wild) (steps taken : ℕ) (s : Status) (count : ℕ)
     (new : List CellOutput) → Takes o strike w steps taken s count new → count ≡ length (outputs_after o strike w taken)
 outputs_count o strike w steps taken s count new a = sym (length-take-le count new a.within) ∙ ap length a.outputs

@@ -1,4 +1,4 @@
--- Bytes of which the word of a cell was replaced.
+-- Bytes with the word of a cell replaced.
 use Rattle.std.proofs.Common.{◌≡◌, ℕ, ◌+◌, ◌*◌, ◌≤◌, List, ◌++◌, length, take, drop, sym, subst}
 use Rattle.std.specs.Int.{w64}
 use Rattle.ft_isa.specs.Words.{IsWord}

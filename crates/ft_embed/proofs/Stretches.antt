@@ -1,4 +1,4 @@
--- Steps of which the outputs stand in an array.
+-- Steps whose outputs are in an array.
 use Rattle.std.proofs.Common.{◌≡◌, ℕ, ◌+◌, ◌-◌, ◌<◌, ◌≤◌, List, ◌++◌, true, refl, length, ap, sym, subst, ◌∙◌}
 use Rattle.std.proofs.Common.{⊎_elim, append_assoc, add-zero, arith}
 use Rattle.std.specs.Prelude.{take, map}
@@ -58,7 +58,7 @@ module _ (o : Object) (s s1 : State) (w w1 : List Wild) (n from c1 : ℕ) (old m
   whole : (k : ℕ) → span o (n + k) s w ≡ joined (span o n s w).outputs (span o k s1 w1)
   whole k = span_then o n k s s1 w w1 a.state_is a.wild_is
 
-  -- as many outputs stand in the array as before them, and theirs
+  -- as many outputs are in the array as before them, and theirs
   counted : (k : ℕ) → from + length (span o (n + k) s w).outputs ≡ c1 + length (span o k s1 w1).outputs
   counted k =
       let more = ap (λ (r : Ran). length r.outputs) (whole k)

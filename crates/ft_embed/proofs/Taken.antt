@@ -1,4 +1,4 @@
--- Runs under a plan of which the outputs stand in an array.
+-- Runs under a plan whose outputs are in an array.
 use Rattle.std.proofs.Common.{◌≡◌, ℕ, zero, suc, ◌+◌, ◌-◌, ◌<◌, ◌≤◌, List, ◌++◌, length, Option, ap, sym, subst, ◌∙◌}
 use Rattle.std.proofs.Common.{⊎_elim, arith, add-zero}
 use Rattle.std.specs.Prelude.{map}
@@ -24,7 +24,7 @@ pub struck_cells : (strike : Option Strike) (k cells : ℕ) (s t : State) → t 
 struck_cells strike k cells s t struck has a =
     ap (λ (q : State). is_cell q.cells a) struck ∙ ap (λ m. is_cell m a) (strike_keeps strike k s).cells ∙ has a
 
--- steps from the start on, with no strike within them
+-- steps from the start, with no strike within them
 module _ (o : Object) (strike : Option Strike) (w : List Wild) (s0 : State) (w0 : List Wild) (begun : s0
     ≡ start o) (answers : w0 ≡ w) where
   -- before each step of them
@@ -69,7 +69,7 @@ module _ (o : Object) (strike : Option Strike) (w : List Wild) (before : ℕ) (s
       ap (λ (x : Ran). x.state.status)
       (sym (run_second o strike w s1 s2 w1 before (suc m) state_is wild_is struck spares (omega arith)))
 
-  -- before each step of them, of which the outputs stand in an array after those before the strike
+  -- before each of these steps, whose outputs are in an array after those before the strike
   pub might_second : (m c1 c2 : ℕ) (s3 : State) (w3 : List Wild) (mid new : List CellOutput) → length new ≡ length mid →
       c1 ≡ length (run o strike w before).outputs → Fills o s2 w1 m s3 w3 c1 c2 mid new
       → (k : ℕ) → k < m → MayGoOn (run o strike w (before + k)).state.status

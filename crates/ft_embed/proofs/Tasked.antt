@@ -1,4 +1,4 @@
--- Runs that go on from call to call.
+-- Runs that continue across calls.
 use Rattle.std.proofs.Common.{◌≡◌, ℕ, zero, suc, ◌+◌, ◌<◌, ◌≤◌, false, List, [], length, Option, Some, None, is_some}
 use Rattle.std.proofs.Common.{if◌then◌else◌, refl, ap, sym, subst, ◌∙◌, arith, add-zero, eq-eqb}
 use Rattle.std.specs.Prelude.{◌++◌, IfSome}

@@ -23,7 +23,7 @@ use Rattle.ft_embed.specs.Verdicts.{IsAcceptedFile}
 use Rattle.ft_embed.specs.Trials.{fault_verdict, fault_totals, Tries, TriesFile, TriesList, IsListRefused, bad_line}
 use Rattle.ft_embed.specs.Trials.{too_much, told_list}
 
--- a line that is no fault
+-- a line that is not a fault
 pub list_line : (list : List ℕ) (steps : ℕ) (error : ListError) (line : ℕ) → error ≡ lists.Line line →
     IsListError list error → IsListRefused list steps (told_list 1 line)
 list_line list steps error line is h = bad_line line (subst (IsListError list) is h) refl
@@ -39,7 +39,7 @@ pub as_many : (o : Object) (faults : List Strike) (w : List Wild) (steps : ℕ) 
     AreVerdicts o faults w steps found → length found ≡ length faults
 as_many o faults w steps found h = AllZip-long _ faults found h
 
--- the verdicts of an accepted object's faults stand in an array
+-- the verdicts of an accepted object's faults are in an array
 pub tried : (o : Object) (faults : List Strike) (w : List Wild) (steps : ℕ) (found : List Verdict)
     (old new : List FaultVerdict) → IsSpellable o → IsAccepted o → AreVerdicts o faults w steps found
     → length faults ≤ length old → length new ≡ length old → take (length found) new ≡ map fault_verdict found →

@@ -1,4 +1,4 @@
--- What a link answers over the text of a link map and modules in an array of the caller.
+-- What a link returns over the text of a link map and modules in an array of the caller.
 use Rattle.std.specs.Prelude.{◌≡◌, ◌⊎◌, ℕ, ◌+◌, ◌<◌, ◌≤◌, if◌then◌else◌, List, [], ◌∷◌, ◌++◌, length, Option, Some, None}
 use Rattle.std.specs.Str.{bytes_eq}
 use Rattle.ft_types.specs.declared.object.Object.{Object}
@@ -19,11 +19,11 @@ use Rattle.ft_embed.specs.Verdicts.{nothing, told_error, told_refusal}
 
 -- REFUSALS
 
--- a refusal of a link with one number: the line of the map, the module or the most bytes of a map
+-- a refusal of a link with one number: the line of the map, the module or the maximum bytes of a map
 abbrev pub told_link : ℕ → ℕ → Refused
 told_link n x = record { part = 7; number = n; place = x; index = 0 }
 
--- the module of a refusal, 0 where it is of a line
+-- the module of a refusal, 0 if it is of a line
 abbrev pub module_of : LinkRefusal → ℕ
 module_of (Cells m) = m
 module_of (Rows m) = m
@@ -45,13 +45,13 @@ why_unlinked (Stub line) = told_link 8 line
 why_unlinked (Missing line) = told_link 9 line
 why_unlinked (Types line) = told_link 10 line
 
--- what is answered for modules that are not linked
+-- the result for modules that are not linked
 abbrev pub unlinked : LinkRefusal → Unlinked
 unlinked r = record { status = 13; «module» = module_of r; why = why_unlinked r }
 
 -- THE MAP
 
--- what is said of a text as a link map, which has at most 65,536 bytes
+-- the outcome of a text as a link map; the text has at most 65,536 bytes
 pub record SaysOf (text : List ℕ) (said : Answer) : Type 0 where
   pub short : length text ≤ 65536
   pub lines : List MapLine
@@ -62,11 +62,11 @@ pub record SaysOf (text : List ℕ) (said : Answer) : Type 0 where
 abbrev pub IsMap : List ℕ → LinkMap → Type 0
 IsMap text linkage = SaysOf text (Is linkage)
 
--- what is answered for a text that is no map
+-- the result for a text that is not a map
 abbrev pub bad_map : ℕ → ℕ → Unlinked
 bad_map n x = record { status = 13; «module» = 0; why = told_link n x }
 
--- the text ends the link so: it is too long, or a line of it is refused
+-- the link ends with this refusal of the text: it is too long, or a line of it is refused
 pub data EndsAtMap (text : List ℕ) (u : Unlinked) : Type 0 where
   long_map : 65536 < length text → u ≡ bad_map 11 65536 → EndsAtMap text u
   bad_line : (line : ℕ) → SaysOf text (Line line) → u ≡ bad_map 1 line → EndsAtMap text u
@@ -79,22 +79,23 @@ abbrev pub bytes_of : List Module → List ℕ → Option (List ℕ)
 bytes_of [] name = None
 bytes_of (m ∷ ms) name = if bytes_eq m.name.now name then Some m.bytes.now else bytes_of ms name
 
--- an object ends the link so: it is not accepted, or not added to the modules before it
+-- the link ends with this refusal of an object: it is not accepted, or not added to the modules before it
 pub data EndsAtObject (modules : List Object) (o : Object) (u : Unlinked) : Type 0 where
   not_accepted : (r : Refusal) → refusal o ≡ Some r → u ≡ record { status = 8; «module» = length modules; why = told_refusal r } → EndsAtObject modules o u
   not_added : refusal o ≡ None → (r : LinkRefusal) → added_refusal modules o ≡ Some r → u ≡ unlinked r → EndsAtObject modules o u
 
--- the bytes of a further module end the link so: they spell no object, or one that does
+-- the link ends with this refusal of a further module's bytes: they spell no object, or a refused one
 pub data EndsAtBytes (modules : List Object) (bytes : List ℕ) (u : Unlinked) : Type 0 where
   no_object : (e : ObjectError) → broken bytes ≡ Some e → u ≡ record { status = 7; «module» = length modules; why = told_error e } → EndsAtBytes modules bytes u
   no_module : Spells bytes (version_at bytes) (object_of bytes) → EndsAtObject modules (object_of bytes) u → EndsAtBytes modules bytes u
 
--- the file of a further module ends the link so: no module has its name, or the bytes of the first one that has it do
+-- the link ends with this refusal of a further module's file: no module has its name, or the bytes of the first one
+-- with it are refused
 pub data EndsAtModule (given : List Module) (modules : List Object) (name : List ℕ) (u : Unlinked) : Type 0 where
   not_given : bytes_of given name ≡ None → u ≡ record { status = 20; «module» = length modules; why = nothing } → EndsAtModule given modules name u
   ends_at_bytes : (bytes : List ℕ) → bytes_of given name ≡ Some bytes → EndsAtBytes modules bytes u → EndsAtModule given modules name u
 
--- an object is accepted, and is added to the modules before it
+-- an object is accepted and added to the modules before it
 pub record AddsObject (modules : List Object) (o : Object) (modules' : List Object) : Type 0 where
   pub accepted : refusal o ≡ None
   pub unrefused : added_refusal modules o ≡ None
@@ -108,12 +109,12 @@ pub record IsAdded (given : List Module) (modules : List Object) (name : List �
   pub accepted : refusal o ≡ None
   pub unrefused : added_refusal modules o ≡ None
 
--- the files of further modules are added in turn, and then these are all
+-- the files of further modules are added in turn, and these are then all
 abbrev pub AddsAll : List Module → List Object → List (List ℕ) → List Object → Type 0
 AddsAll given modules [] all = all ≡ modules
 AddsAll given modules (name ∷ names) all = (o : Object) × (IsAdded given modules name o × AddsAll given (modules ++ o ∷ []) names all)
 
--- the file of one of further modules ends the link, and those before it are added
+-- the link ends with this refusal of the file of some further module, and those before it are added
 abbrev pub EndsInTurn : List Module → List Object → List (List ℕ) → Unlinked → Type 0
 EndsInTurn given modules [] u = ⊥
 EndsInTurn given modules (name ∷ names) u = EndsAtModule given modules name u ⊎ ((o : Object) × (IsAdded given modules name o × EndsInTurn given (modules ++ o ∷ []) names u))
@@ -127,16 +128,15 @@ pub data IsUnlinked (given : List Module) (text : List ℕ) (u : Unlinked) : Typ
   ends_at_end : (linkage : LinkMap) → IsMap text linkage → (modules : List Object) → AddsAll given [] linkage.files modules
       → (r : LinkRefusal) → refusal_of linkage modules ≡ Some r → u ≡ unlinked r → IsUnlinked given text u
 
--- these bytes are what a map links of modules that were added, in version 2 of the format. It is accepted; without a
--- fault it
--- runs as the modules do, and with one it does, too, or is detected
+-- these bytes are the object that a map makes of the added modules, in version 2 of the format. It is accepted; it runs
+-- as the modules do; with a fault it does so too, or is detected
 pub record IsLinkedAll (linkage : LinkMap) (modules : List Object) (bytes : List ℕ) : Type 0 where
   pub unrefused : refusal_of linkage modules ≡ None
   pub object : Object
   pub linked : IsLinked linkage modules object
   pub spelled : Spells bytes Second object
 
--- these bytes are what the map that the text is links of the modules that it names
+-- these bytes are the object that the map in the text makes of the modules that it names
 pub record IsLinkedOf (given : List Module) (text bytes : List ℕ) : Type 0 where
   pub linkage : LinkMap
   pub is_map : IsMap text linkage
@@ -146,7 +146,7 @@ pub record IsLinkedOf (given : List Module) (text bytes : List ℕ) : Type 0 whe
 
 -- FOR THE CODE
 
--- a refusal that applies is answered so: private to the code
+-- the result for a refusal that applies: private to the code
 abbrev pub IsUnlinkedBy : Option LinkRefusal → Unlinked → Type 0
 IsUnlinkedBy None u = ⊥
 IsUnlinkedBy (Some r) u = u ≡ unlinked r
@@ -156,19 +156,19 @@ abbrev pub IsUnaccepted : Option Refusal → ℕ → Unlinked → Type 0
 IsUnaccepted None m u = ⊥
 IsUnaccepted (Some r) m u = u ≡ record { status = 8; «module» = m; why = told_refusal r }
 
--- what is said of a map is answered so: private to the code
+-- the result for a refused map: private to the code
 abbrev pub SaidUnlinked : Answer → Unlinked → Type 0
 SaidUnlinked (Is linkage) u = ⊥
 SaidUnlinked (Line line) u = u ≡ bad_map 1 line
 SaidUnlinked (Twice line) u = u ≡ bad_map 2 line
 
--- the object of the file of a further module was added: private to the code
+-- the object of a further module's file was added: private to the code
 pub record IsAddedTo (given : List Module) (modules : List Object) (name : List ℕ) (modules' : List Object) : Type 0 where
   pub object : Object
   pub is : IsAdded given modules name object
   pub added : modules' ≡ modules ++ object ∷ []
 
--- these modules of a map were added; what the rest of its files comes to, all of its files come to: private to the code
+-- these modules of a map were added; however its remaining files end, all of its files end: private to the code
 pub record HasAdded (given : List Module) (linkage : LinkMap) (modules : List Object) (rest : List (List ℕ)) : Type 0 where
   pub count : length modules + length rest ≡ length linkage.files
   pub adds : (all : List Object) → AddsAll given modules rest all → AddsAll given [] linkage.files all

@@ -30,15 +30,14 @@ GoesToCell (stepped.Commit output) = 1048576 ≤ output.addr
 GoesToCell stepped.Done = Unit {0}
 GoesToCell stepped.Detected = Unit {0}
 
--- a run with this status, of which so many outputs stand in an array with this much room, may take a step: it has not
--- stopped, and the array is not full
+-- a run with this status and `count` outputs in an array with this much room may take a step: it has not stopped, and
+-- the array is not full
 pub record MayGoOn (status : Status) (count room : ℕ) : Type 0 where
   pub running : status ≡ Running
   pub free : count < room
 
--- n steps from a state on were taken, each only where there was room for one more output, and their outputs stand in an
--- array
--- after those that stood there: private to the code
+-- n steps from a state were taken, each only if there was room for one more output, and their outputs are in an array
+-- after those that were there: private to the code
 pub record Fills (o : Object) (s : State) (w : List Wild) (n : ℕ) (s' : State) (w' : List Wild) (from count : ℕ) (old new : List CellOutput) : Type 0 where
   pub state_is : s' ≡ (span o n s w).state
   pub wild_is : w' ≡ (span o n s w).wild
@@ -46,15 +45,14 @@ pub record Fills (o : Object) (s : State) (w : List Wild) (n : ℕ) (s' : State)
   pub count_is : count ≡ from + length (span o n s w).outputs
   pub before : (j : ℕ) → j < n → MayGoOn (span o j s w).state.status (from + length (span o j s w).outputs) (length old)
 
--- a run under a plan might take each of so many steps: before it the run had not stopped, and its outputs left room in
--- an
--- array. So it took no step after its end, nor one after the array was full
+-- the run could take each of `taken` steps: before each it had not stopped and the array had room. So it took no step
+-- after its end or after the array was full
 abbrev pub GoesUntil : Object → Option Strike → List Wild → ℕ → ℕ → Type 0
 GoesUntil o strike w taken room = (n : ℕ) → n < taken →
     MayGoOn (status_after o strike w n) (length (outputs_after o strike w n)) room
 
--- a run under a plan was taken for so many of at most `steps` steps: it has this status, and its outputs stand in the array;
--- a run that goes on took all steps, or the array is full: private to the code
+-- `taken` of at most `steps` steps of a run under a plan were taken: it has this status, and its outputs are in the
+-- array; if it is still running, it took all steps or the array is full: private to the code
 pub record Takes (o : Object) (strike : Option Strike) (w : List Wild) (steps taken : ℕ) (status : Status) (count : ℕ) (new : List CellOutput) : Type 0 where
   pub few : taken ≤ steps
   pub within : count ≤ length new
@@ -63,9 +61,7 @@ pub record Takes (o : Object) (strike : Option Strike) (w : List Wild) (steps ta
   pub all : status ≡ Running → count < length new → taken ≡ steps
   pub before : GoesUntil o strike w taken (length new)
 
--- why a run of at most so many steps took no more: it is done; it is detected; it took them all; or it did not, and the
--- array
--- is full
+-- why a run of at most `steps` steps took no more: it is done; it is detected; it took them all; or the array is full
 pub data Ends (status steps taken count room : ℕ) (s : Status) : Type 0 where
   done : status ≡ 0 → s ≡ Done → Ends status steps taken count room s
   detected : status ≡ 1 → s ≡ Detected → Ends status steps taken count room s
@@ -77,9 +73,8 @@ pub record SameAfter (o : Object) (strike : Option Strike) (w : List Wild) (n m 
   pub outputs : outputs_after o strike w n ≡ outputs_after o strike w m
   pub status : status_after o strike w n ≡ status_after o strike w m
 
--- a run under a plan was taken for so many of at most `steps` steps, and no step beyond its end: its outputs stand in
--- the array,
--- and one fault is masked or detected. Where it ended otherwise than with a full array, it is the run of all the steps
+-- `taken` of at most `steps` steps of a run under a plan were taken, none beyond its end: its outputs are in the array,
+-- and one fault is masked or detected. Unless the array was full, it is the run of all steps
 pub record RunsInto (o : Object) (strike : Option Strike) (w : List Wild) (steps status taken count : ℕ) (new : List CellOutput) : Type 0 where
   pub few : taken ≤ steps
   pub within : count ≤ length new
@@ -89,15 +84,15 @@ pub record RunsInto (o : Object) (strike : Option Strike) (w : List Wild) (steps
   pub all : status ≢ 14 → SameAfter o strike w taken steps
   pub before : GoesUntil o strike w taken (length new)
 
--- what is told where nothing was run
+-- what is reported if nothing was run
 abbrev pub not_begun : Ran
 not_begun = record { steps = 0; count = 0; restarts = 0; again = 0 }
 
--- what is told of a run that was not begun again
+-- what is reported of a run that was not restarted
 abbrev pub IsOnce : Ran → Type 0
 IsOnce ran = (ran.restarts ≡ 0) × (ran.again ≡ 0)
 
--- bytes whose object is accepted were run under the plan that two texts say
+-- bytes whose object is accepted were run under the plan that two texts spell
 pub record RunsFile (bytes fault wild : List ℕ) (steps status taken count : ℕ) (new : List CellOutput) : Type 0 where
   pub file : IsAcceptedFile bytes
   pub strike : Option Strike

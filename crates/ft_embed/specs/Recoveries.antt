@@ -13,14 +13,13 @@ use Rattle.ft_embed.specs.Outputs.{cell_output, Ends, GoesUntil, SameAfter}
 use Rattle.ft_embed.specs.Plans.{IsFault, AreAnswers}
 use Rattle.ft_embed.specs.Verdicts.{IsAcceptedFile}
 
--- no restart is told as 0 and 0, and one after n outputs as 1 and n
+-- no restart is reported as 0 and 0, and one after n outputs as 1 and n
 abbrev pub IsRestart : Option ℕ → ℕ → ℕ → Type 0
 IsRestart None restarts again = (restarts ≡ 0) × (again ≡ 0)
 IsRestart (Some n) restarts again = (restarts ≡ 1) × (again ≡ n)
 
 -- a run under a plan took all steps, or as many as it could before it stopped or its outputs filled the room, and no
--- more; where
--- it was detected, it is begun again
+-- more; if it was detected, it was restarted
 pub record FirstRun (o : Object) (strike : Option Strike) (w : List Wild) (steps room restarts again : ℕ) : Type 0 where
   pub taken : ℕ
   pub few : taken ≤ steps
@@ -29,8 +28,8 @@ pub record FirstRun (o : Object) (strike : Option Strike) (w : List Wild) (steps
   pub before : GoesUntil o strike w taken room
   pub told : IsRestart (restart_output o strike w taken) restarts again
 
--- a program was run under a plan, and begun again without the strike where it was detected: what is in the array, and how it
--- ended, is the run without the strike
+-- a program was run under a plan, and restarted without the strike if that was detected: the outputs in the array and
+-- the end are those of the run without the strike
 pub record RecoversInto (o : Object) (strike : Option Strike) (w : List Wild) (steps status taken count restarts again : ℕ) (new : List CellOutput) : Type 0 where
   pub few : taken ≤ steps
   pub within : count ≤ length new
@@ -41,7 +40,7 @@ pub record RecoversInto (o : Object) (strike : Option Strike) (w : List Wild) (s
   pub restart : status ≢ 14 → IsRestart (restart_output o strike w steps) restarts again
   pub first : FirstRun o strike w steps (length new) restarts again
 
--- bytes whose object is accepted were recovered under the plan that two texts say
+-- bytes whose object is accepted were recovered under the plan that two texts spell
 pub record RecoversFile (bytes fault wild : List ℕ) (steps status taken count restarts again : ℕ) (new : List CellOutput) : Type 0 where
   pub file : IsAcceptedFile bytes
   pub strike : Option Strike

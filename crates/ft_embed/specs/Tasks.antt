@@ -1,4 +1,4 @@
--- Runs that go on from call to call.
+-- Runs that continue across calls.
 use Rattle.std.specs.Prelude.{◌≡◌, ℕ, ◌+◌, ◌<◌, ◌≤◌, List, [], ◌++◌, length, take, map, Option, Some, None, IfSome}
 use Rattle.ft_isa.specs.declared.output.Output.{Output}
 use Rattle.ft_isa.specs.declared.plan.Strike.{Strike}
@@ -15,7 +15,7 @@ use Rattle.ft_embed.specs.declared.filling.CellOutput.{CellOutput}
 use Rattle.ft_embed.specs.Outputs.{Ends, MayGoOn, cell_output}
 use Rattle.ft_embed.specs.Verdicts.{IsAcceptedFile}
 
--- a run without answers to wild loads: the object, its strike, if there was one, and how many steps were taken
+-- a run without answers to wild loads: the object, its strike, if any, and how many steps were taken
 pub record TaskRun : Type 0 where
   pub object : Object
   pub strike : Option Strike
@@ -25,18 +25,18 @@ pub record TaskRun : Type 0 where
 abbrev pub begun : Object → TaskRun
 begun o = record { object = o; strike = None; taken = 0 }
 
--- a strike came at a step that was taken, or comes before the next one
+-- the strike was made at a step already taken, or is due before the next one
 abbrev pub IsBy : ℕ → Strike → Type 0
 IsBy taken x = x.step ≤ taken
 
--- the machine of such a run of an accepted object, after the strike where it comes before the next step
+-- the machine of such a run of an accepted object, after the strike if that is due before the next step
 pub record IsTask (r : TaskRun) (s : State) : Type 0 where
   pub spellable : IsSpellable r.object
   pub accepted : IsAccepted r.object
   pub by : IfSome r.strike (IsBy r.taken)
   pub state : s ≡ struck_before r.strike r.taken (state_after r.object r.strike [] r.taken)
 
--- n steps were taken after k, and their outputs stand in an array
+-- n steps were taken after k, and their outputs are in an array
 pub record GoesOn (o : Object) (strike : Option Strike) (k n count : ℕ) (new : List CellOutput) : Type 0 where
   pub more : List Output
   pub split : outputs_after o strike [] (k + n) ≡ outputs_after o strike [] k ++ more
@@ -47,21 +47,19 @@ pub record IsOpened (bytes : List ℕ) (held : Option TaskRun) : Type 0 where
   pub file : IsAcceptedFile bytes
   pub holds : held ≡ Some (begun (object_of bytes))
 
--- a call may take all of so many steps, or as many as can be counted: 2^64 - 1 in all
+-- a call may take all of `steps` steps, or as many as can be counted: 2^64 - 1 in all
 pub data IsLimit (steps taken most : ℕ) : Type 0 where
   all_steps : most ≡ steps → IsLimit steps taken most
   last_steps : taken + most ≡ 18446744073709551615 → most < steps → IsLimit steps taken most
 
--- n steps after k might be taken, one by one: before each the run had not stopped, and the outputs of those before it
--- left room
+-- the run could take n steps after k: before each the run had not stopped, and the earlier outputs left room
 abbrev pub GoesOnUntil : Object → Option Strike → ℕ → ℕ → ℕ → Type 0
 GoesOnUntil o strike k n room =
     (j : ℕ) → j < n → MayGoOn (status_after o strike [] (k + j)) (length (outputs_after o strike [] (k + j)))
     (length (outputs_after o strike [] k) + room)
 
--- a run went on: it took so many steps and none beyond its end, and their outputs stand in an array; its status says
--- why it
--- took no more; and one fault is masked or detected
+-- a run continued: it took `taken` steps, none beyond its end, and their outputs are in an array; its status says why
+-- it took no more; and one fault is masked or detected
 pub record WentOn (r new : TaskRun) (status steps taken count : ℕ) (out : List CellOutput) : Type 0 where
   pub goes : new ≡ record { object = r.object; strike = r.strike; taken = r.taken + taken }
   pub within : count ≤ length out

@@ -1,4 +1,4 @@
--- What is answered over texts.
+-- What is returned over texts.
 use Rattle.std.specs.Prelude.{◌≡◌, ◌≢◌, ◌<◌, ℕ, List, length, take, slice_get, Option, Some}
 use Rattle.std.specs.Option.{option_map}
 use Rattle.ft_types.specs.Objects.{name_of}
@@ -18,51 +18,19 @@ use Rattle.ft_scope.specs.Resolved.{Program}
 use Rattle.ft_scope.specs.Outcome.{IsProgramOf, IsRefusalOf}
 use Rattle.ft_syntax.specs.declared.source_error.SourceError.{SourceError}
 use Rattle.ft_syntax.specs.declared.source_error.SourceError.TheVariants as source
+use Rattle.ft_syntax.specs.Errors.{source_number, source_told}
 use Rattle.ft_isa.specs.declared.plan.Wild.{Wild}
 use Rattle.ft_typing.specs.Accepted.{IsAccepted}
 use Rattle.ft_exchange.specs.Alike.{RunsAlike}
 use Rattle.ft_exchange.specs.Scheduled.{IsScheduled}
 use Rattle.ft_embed.specs.declared.refused.Refused.{Refused}
 
--- the number of a refusal of a source; out of memory has none
-abbrev pub source_number : SourceError → ℕ
-source_number source.TooLong = 1
-source_number (source.Byte at) = 2
-source_number (source.Number at) = 3
-source_number (source.Syntax at) = 4
-source_number (source.Deep at) = 5
-source_number (source.Twice at) = 6
-source_number (source.Unknown at) = 7
-source_number (source.Cells count) = 8
-source_number (source.Registers need) = 9
-source_number (source.Weight weight) = 10
-source_number (source.Array at) = 11
-source_number (source.Length at) = 12
-source_number source.NoMemory = 0
-
--- what a refusal of a source tells: a place, or what is above a limit
-abbrev pub source_told : SourceError → ℕ
-source_told source.TooLong = 1048576
-source_told (source.Byte at) = at
-source_told (source.Number at) = at
-source_told (source.Syntax at) = at
-source_told (source.Deep at) = at
-source_told (source.Twice at) = at
-source_told (source.Unknown at) = at
-source_told (source.Cells count) = count
-source_told (source.Registers need) = need
-source_told (source.Weight weight) = weight
-source_told (source.Array at) = at
-source_told (source.Length at) = at
-source_told source.NoMemory = 0
-
 -- why a source is refused
 abbrev pub told_source : SourceError → Refused
 told_source e = record { part = 5; number = source_number e; place = source_told e; index = 0 }
 
 -- these bytes are an object in version 2 of the format that stands for the program that the text is; it is that of a
--- flow of
--- the program, and a module that the linker takes
+-- flow of the program, and a module that the linker accepts
 pub record IsCompiled (text bytes : List ℕ) : Type 0 where
   pub program : Program
   pub is : IsProgramOf text program
@@ -72,25 +40,25 @@ pub record IsCompiled (text bytes : List ℕ) : Type 0 where
   pub joins : IsModule object.cells object
   pub spelled : Spells bytes Second object
 
--- the text is refused so
+-- this is the text's refusal
 pub record IsSourceRefused (text : List ℕ) (told : Refused) : Type 0 where
   pub error : SourceError
   pub refused : IsRefusalOf text error
   pub named : error ≢ source.NoMemory
   pub told_is : told ≡ told_source error
 
--- bytes were written into a buffer from its start on, or are too many for it; their number is told
+-- bytes were written to the start of a buffer, or do not fit; their number is reported
 pub data HandsOver (bytes old new : List ℕ) (made status : ℕ) : Type 0 where
   fits : status ≡ 0 → made ≡ length bytes → take made new ≡ bytes → length new ≡ length old → HandsOver bytes old new made status
   too_many : status ≡ 15 → made ≡ length bytes → length old < made → new ≡ old → HandsOver bytes old new made status
 
--- bytes of which this holds were handed over
+-- bytes with this property were returned
 pub record Given (Holds : List ℕ → Type 0) (old new : List ℕ) (made status : ℕ) : Type 0 where
   pub bytes : List ℕ
   pub holds : Holds bytes
   pub handed : HandsOver bytes old new made status
 
--- why bytes were not read: the first rule that they break; out of memory says nothing
+-- why bytes were not read: the first rule that they break; out of memory claims nothing
 abbrev pub IsWhy : Option ObjectError → DecodeError → Type 0
 IsWhy rule (decodes.Object e) = rule ≡ Some e
 IsWhy rule decodes.NoMemory = Unit {0}
@@ -134,11 +102,11 @@ pub record IsNameOf (bytes : List ℕ) (k : ℕ) (name : List ℕ) : Type 0 wher
   pub spelled : Spells bytes (version_at bytes) (object_of bytes)
   pub is : IsCellName (object_of bytes) k name
 
--- why an assembly text is refused: the number of the refusal, and a line or the most bytes of a text
+-- why an assembly text is refused: the number of the refusal, and a line or the maximum bytes of a text
 abbrev pub told_asm : ℕ → ℕ → Refused
 told_asm n x = record { part = 6; number = n; place = x; index = 0 }
 
--- the assembly text is refused so
+-- this is the assembly text's refusal
 pub data IsAsmRefused (text : List ℕ) (told : Refused) : Type 0 where
   none_of_the_forms : (line : ℕ) → Applies text (Text line) → told ≡ told_asm 1 line → IsAsmRefused text told
   out_of_order : (line : ℕ) → Applies text (Order line) → told ≡ told_asm 2 line → IsAsmRefused text told

@@ -25,7 +25,7 @@ verdict_number (verdicts.Detected at) = 1
 verdict_number verdicts.Idle = 2
 verdict_number verdicts.Corrupt = 3
 
--- the step that detected the fault, 0 where none did
+-- the step that detected the fault, or 0
 abbrev pub detected_at : Verdict → ℕ
 detected_at verdicts.Masked = 0
 detected_at (verdicts.Detected at) = at
@@ -40,7 +40,7 @@ fault_verdict v = record { verdict = verdict_number v; at = detected_at v }
 abbrev pub fault_totals : ℕ → Totals → FaultTotals
 fault_totals n t = record { count = n; masked = t.masked; detected = t.detected; idle = t.idle }
 
--- so many faults, of which none was tried
+-- n faults, none of which was tried
 abbrev pub untried : ℕ → FaultTotals
 untried n = record { count = n; masked = 0; detected = 0; idle = 0 }
 
@@ -65,7 +65,7 @@ pub record TriesFile (bytes list wild : List ℕ) (steps : ℕ) (totals : FaultT
   pub tries : Tries (object_of bytes) faults answers steps totals new
   pub sound : IsNeverDetected (object_of bytes) answers
 
--- the text is a list of more faults than the array has room for; their number is told, and none was tried
+-- the text is a list of more faults than the array has room for; their number is reported, and none was tried
 pub record WantsRoom (list : List ℕ) (totals : FaultTotals) (old new : List FaultVerdict) : Type 0 where
   pub faults : List Strike
   pub are_faults : IsFaultList list faults
@@ -73,11 +73,13 @@ pub record WantsRoom (list : List ℕ) (totals : FaultTotals) (old new : List Fa
   pub told : totals ≡ untried (length faults)
   pub kept : new ≡ old
 
--- why a list is refused: the number of the refusal, and a line, the most faults, or the product that is above the limit
+-- why a list is refused: the number of the refusal, and a line, the maximum of faults, or the product that is above the
+-- limit
 abbrev pub told_list : ℕ → ℕ → Refused
 told_list n x = record { part = 8; number = n; place = x; index = 0 }
 
--- the list is refused so: a line is no fault, there are too many, or their number times that of the steps is too large
+-- this is the list's refusal: a line is not a fault, there are too many, or their number times that of the steps is too
+-- large
 pub data IsListRefused (list : List ℕ) (steps : ℕ) (told : Refused) : Type 0 where
   bad_line : (line : ℕ) → IsListError list (lists.Line line) → told ≡ told_list 1 line → IsListRefused list steps told
   too_many : IsListError list lists.TooMany → told ≡ told_list 2 65536 → IsListRefused list steps told

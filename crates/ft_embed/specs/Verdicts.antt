@@ -1,37 +1,13 @@
--- What is answered over the bytes of an object: a status, and why they are refused.
+-- What is returned over the bytes of an object: a status, and why they are refused.
 use Rattle.std.specs.Prelude.{◌≡◌, ℕ, List, Option, Some, None}
 use Rattle.ft_typing.specs.Accepted.{Refusal, EntryType, CellType, Refused as AtInstr, refusal, IsAccepted}
 use Rattle.ft_typing.specs.Premise.{number_of}
 use Rattle.ft_format.specs.declared.object_error.ObjectError.{ObjectError}
-use Rattle.ft_format.specs.declared.object_error.ObjectError.TheVariants.{Magic, Length, Count, Pad, Kind, Index, Order, Name, Entry}
+use Rattle.ft_format.specs.Errors.{error_number, error_place}
 use Rattle.ft_format.specs.Format.{Spells}
 use Rattle.ft_format.specs.Broken.{broken, object_of, version_at}
 use Rattle.ft_embed.specs.declared.refused.Refused.{Refused}
 use Rattle.ft_embed.specs.declared.verdict.Verdict.{Verdict}
-
--- the number of an error of the object format
-abbrev pub error_number : ObjectError → ℕ
-error_number (Magic at) = 1
-error_number (Length at) = 2
-error_number (Count at) = 3
-error_number (Pad at) = 4
-error_number (Kind at) = 5
-error_number (Index at) = 6
-error_number (Order at) = 7
-error_number (Name at) = 8
-error_number (Entry at) = 9
-
--- the place of an error in the bytes
-abbrev pub error_place : ObjectError → ℕ
-error_place (Magic at) = at
-error_place (Length at) = at
-error_place (Count at) = at
-error_place (Pad at) = at
-error_place (Kind at) = at
-error_place (Index at) = at
-error_place (Order at) = at
-error_place (Name at) = at
-error_place (Entry at) = at
 
 -- nothing is refused
 abbrev pub nothing : Refused
@@ -47,12 +23,12 @@ told_refusal EntryType = record { part = 2; number = 0; place = 0; index = 0 }
 told_refusal (CellType k) = record { part = 3; number = 0; place = k; index = 0 }
 told_refusal (AtInstr b i p) = record { part = 4; number = number_of p; place = b; index = i }
 
--- an object that is accepted, or refused so
+-- an object that is accepted, or has this refusal
 abbrev pub judged : Option Refusal → Verdict
 judged None = record { status = 0; why = nothing }
 judged (Some r) = record { status = 8; why = told_refusal r }
 
--- bytes that break this rule, or an object that is refused so
+-- bytes that break this rule, or an object with this refusal
 abbrev pub verdict : Option ObjectError → Option Refusal → Verdict
 verdict (Some e) r = record { status = 7; why = told_error e }
 verdict None r = judged r
@@ -62,7 +38,7 @@ verdict None r = judged r
 abbrev pub verdict_on : List ℕ → Verdict
 verdict_on bytes = verdict (broken bytes) (refusal (object_of bytes))
 
--- a call answered this verdict
+-- a call returned this verdict
 pub record Tells (status : ℕ) (why : Refused) (v : Verdict) : Type 0 where
   pub status_is : status ≡ v.status
   pub why_is : why ≡ v.why

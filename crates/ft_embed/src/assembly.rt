@@ -13,7 +13,7 @@ use ft_types::Program;
 use ft_view::View;
 use std::alloc::Global;
 
-/// What is answered for an assembly text that is refused.
+/// The result for an assembly text that is refused.
 #[tactic(auto, using(crate::proofs::Judged::asm_text, crate::proofs::Judged::asm_order, crate::proofs::Judged::asm_long, crate::proofs::Judged::asm_broken))]
 fn refuse_text(error: AsmError) -> Written
     ensures refused { (text : List ℕ) → IsRefusal text error → result.status ≡ 12 → IsAsmRefused text result.why }
@@ -31,9 +31,9 @@ fn refuse_text(error: AsmError) -> Written
     }
 }
 
-/// Writes the bytes of the object that an assembly text reads as, in version 2 of the format. The status
-/// is 0; 15 where they find no room; 12 for a text that is refused; 7 where the tables that it means
-/// break a rule of the format; or 5, out of memory.
+/// Writes the bytes of the object that an assembly text reads as, in version 2 of the format. The status is 0; 15 if
+/// they do not fit; 12 for a text that is refused; 7 if the tables that it means break a rule of the format; or 5, out
+/// of memory.
 pub fn assemble_into(alloc: Global, text: &[u8], out: &mut [u8]) -> Written
     ensures given { result.status ≢ 5 → result.status ≢ 7 → result.status ≢ 12 → Given (IsAssembly text.now) out.old out.new result.made result.status }
     ensures refused { result.status ≡ 12 → IsAsmRefused text.now result.why }
@@ -63,8 +63,8 @@ fn text_into<P: Program>(alloc: Global, program: &P, out: &mut [u8]) -> Written
     }
 }
 
-/// Writes the assembly text of the object that bytes spell. The status is 0; 15 where it finds no room; 7
-/// for bytes that spell no object; or 5, out of memory.
+/// Writes the assembly text of the object that bytes spell. The status is 0; 15 if it does not fit; 7 for bytes that
+/// spell no object; or 5, out of memory.
 #[tactic(auto, using(crate::proofs::Judged::malformed))]
 pub fn disassemble_into(alloc: Global, bytes: &[u8], out: &mut [u8]) -> Written
     ensures given { result.status ≢ 5 → result.status ≢ 7 → Given (IsText bytes.now) out.old out.new result.made result.status }

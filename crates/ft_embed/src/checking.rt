@@ -7,42 +7,10 @@ ghost use Rattle.ft_embed.specs.Verdicts.{IsAcceptedFile, Tells, judged, nothing
 
 use crate::refused::{told_cell, told_entry, told_error, told_instr};
 use crate::verdict::{Verdict, unrefused};
-use ft_checker::{CheckError, Checked};
-use ft_isa::Steps;
+use ft_checker::{CheckError, check_uncounted};
 use ft_types::Program;
 use ft_view::View;
 use std::alloc::Global;
-use std::marker::Brand;
-use std::sync::ledger::{Blank, Ledger};
-
-/// Checks an object, and counts the steps.
-fn check_counted<'a, P: Program, L: Ledger>(
-    alloc: Global,
-    program: &'a P,
-    blank: Blank,
-) -> Result<Checked<'a, P>, CheckError>
-    requires name { blank.name ≡ L.name }
-    requires parts { blank.parts ≡ L.parts }
-    requires some { 0 < L.parts }
-    requires spellable { IsSpellable (P.object program.now) }
-    ensures judged { Judges (refusal (P.object program.now)) result }
-    ensures program { IfOk result (λ k. k ≡ program.now) }
-{
-    let mut steps = Steps::<L>::new(blank);
-    ft_checker::check(alloc, program, &mut steps)
-}
-
-/// Checks an object.
-pub(crate) fn check<'a, P: Program>(
-    alloc: Global,
-    program: &'a P,
-) -> Result<Checked<'a, P>, CheckError>
-    requires { IsSpellable (P.object program.now) }
-    ensures judged { Judges (refusal (P.object program.now)) result }
-    ensures program { IfOk result (λ k. k ≡ program.now) }
-{
-    check_counted::<P, Brand>(alloc, program, Blank::new(1))
-}
 
 /// The verdict of an object that is not accepted.
 #[tactic(auto, using(crate::proofs::Judged::tells_refused))]
@@ -78,7 +46,7 @@ fn judge_program<P: Program>(alloc: Global, program: &P) -> Verdict
     ensures told { result.status ≢ 5 → Tells result.status result.why (judged (refusal (P.object program.now))) }
     ensures unrefused { result.status ≢ 8 → result.why ≡ nothing_told }
 {
-    match check(alloc, program) {
+    match check_uncounted(alloc, program) {
         Ok(_) => unrefused(0),
         Err(error) => refuse(error),
     }

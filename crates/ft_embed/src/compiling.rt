@@ -29,7 +29,7 @@ fn compile_bytes(alloc: Global, text: &[u8]) -> Result<Vec<u8>, SourceError>
     }
 }
 
-/// What is answered for a source that is refused.
+/// The result for a source that is refused.
 fn refuse_source(error: SourceError) -> Written
     ensures told { result.status ≡ 6 → result.why ≡ told_source error }
     ensures named { result.status ≡ 6 → error ≢ errors.NoMemory }
@@ -43,9 +43,8 @@ fn refuse_source(error: SourceError) -> Written
     not_written(6, told_source(error))
 }
 
-/// Compiles a source, and writes the bytes of its object in version 2 of the format. The status is 0; 15
-/// where they find no room, and `made` tells how many they are; 6 for a source that is refused; or 5, out
-/// of memory.
+/// Compiles a source, and writes the bytes of its object in version 2 of the format. The status is 0; 15 if they do not
+/// fit, with the number needed in `made`; 6 for a source that is refused; or 5, out of memory.
 pub fn compile_into(alloc: Global, text: &[u8], out: &mut [u8]) -> Written
     ensures given { result.status ≢ 5 → result.status ≢ 6 → Given (IsCompiled text.now) out.old out.new result.made result.status }
     ensures refused { result.status ≡ 6 → IsSourceRefused text.now result.why }

@@ -40,7 +40,7 @@ fn put_at(out: &mut [CellOutput], at: usize, output: CellOutput)
     out[at..at + 1].copy_from_slice(&one);
 }
 
-/// Puts a step's output, where it has one, into an array at a place, and tells the place after it.
+/// Puts a step's output, if it has one, into an array at a place, and returns the place after it.
 fn put_told(last: Stepped, out: &mut [CellOutput], at: usize) -> usize
     requires room { at < length out.old }
     requires cell { GoesToCell last }
@@ -60,15 +60,15 @@ fn put_told(last: Stepped, out: &mut [CellOutput], at: usize) -> usize
     }
 }
 
-/// Steps that were taken, and how many outputs stand in the array after them.
+/// Steps that were taken, and how many outputs are in the array after them.
 #[derive(Clone, Copy)]
 pub struct Filled {
     pub taken: u64,
     pub count: usize,
 }
 
-/// Takes at most `most` steps, and fewer where the machine stops or the array is full. Puts their outputs into
-/// the array, from place `from` on.
+/// Takes at most `most` steps, and fewer if the machine stops or the array is full. Puts their outputs into the array,
+/// from place `from`.
 pub(crate) fn fill<P: Program>(
     machine: &mut Machine,
     program: &P,

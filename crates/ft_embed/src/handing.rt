@@ -6,8 +6,8 @@ ghost use Rattle.ft_embed.specs.Verdicts.{nothing as nothing_told};
 use crate::refused::{Refused, nothing};
 use crate::verdict::Verdict;
 
-/// What is answered where bytes are written: a status, the number of bytes that were written or are too
-/// many, and why none are, where something is refused.
+/// The result for bytes that are written: a status, the number of bytes that were written or do not fit, and why none
+/// are, if something is refused.
 #[derive(Clone, Copy)]
 pub struct Written {
     pub status: u32,
@@ -15,7 +15,7 @@ pub struct Written {
     pub why: Refused,
 }
 
-/// Writes bytes into a buffer, where they find room, and tells their number.
+/// Writes bytes into a buffer, if they fit, and returns their number.
 #[tactic(auto, using(crate::proofs::Judged::handed, crate::proofs::Judged::not_handed))]
 pub(crate) fn hand_over(bytes: &[u8], out: &mut [u8]) -> Written
     ensures handed { HandsOver bytes.now out.old out.new result.made result.status }

@@ -1,11 +1,11 @@
 //! The checker, the machine and the compiler over bytes, texts and arrays of a caller.
 //!
-//! The crate promises what the crates below it promise, as answers that C can take. A check is exact
+//! The crate repeats the promises of lower crates in terms that C can use. A check is exact
 //! (`specs/Verdicts.antt`). The outputs of a run are those of the definition, and one fault is masked or
-//! detected (`specs/Outputs.antt`). Texts and objects are those of the definitions (`specs/Texts.antt`). A cell of
-//! an object gets another initial word in place (`specs/Cells.antt`). Links and campaigns answer what the linker
-//! and the campaign define (`specs/Links.antt`, `specs/Trials.antt`). A `Task` is a run that goes on from call to
-//! call (`specs/Tasks.antt`). The crate `ft_c` exports these calls.
+//! detected (`specs/Outputs.antt`). Texts and objects are those of the definitions (`specs/Texts.antt`). A
+//! cell's initial word is changed in place (`specs/Cells.antt`). Links and campaigns return what
+//! `ft_modules` and `ft_campaign` define (`specs/Links.antt`, `specs/Trials.antt`). A `Task` is a run that
+//! continues across calls (`specs/Tasks.antt`). The crate `ft_c` exports these calls.
 #![tactic(auto)]
 
 mod answer;

@@ -8,12 +8,12 @@ ghost use Rattle.ft_embed.specs.Links.{AddsAll, AddsObject, EndsAtModule, EndsAt
 ghost use Rattle.ft_embed.specs.Texts.{Given};
 ghost use Rattle.ft_embed.specs.Verdicts.{nothing as nothing_told};
 
-use crate::checking::check;
 use crate::handing::{Written, hand_over, none_written, not_written};
 use crate::refused::{nothing, told_error};
 use crate::unlinked::{
     Module, Unlinked, bad_map, no_room, refuse_map, refuse_module, refuse_modules,
 };
+use ft_checker::check_uncounted;
 use ft_link_map::{LinkMap, read_map};
 use ft_linker::Linker;
 use ft_object::encode;
@@ -21,7 +21,7 @@ use ft_types::Program;
 use ft_view::View;
 use std::alloc::Global;
 
-/// The most bytes of a link map.
+/// The maximum bytes of a link map.
 const MAP_LIMIT: usize = 65_536;
 
 /// The bytes of the first module of a name.
@@ -50,7 +50,7 @@ fn add_object<P: Program>(
     ensures some { IfErr result (λ u. (u.status ≢ 0) × (u.status ≢ 15)) }
     ensures unrefused { IfErr result (λ u. u.status ≡ 5 → u.why ≡ nothing_told) }
 {
-    match check(alloc, program) {
+    match check_uncounted(alloc, program) {
         Ok(checked) => match linker.add(&checked) {
             Ok(()) => Ok(()),
             Err(error) => Err(refuse_modules(error)),
@@ -117,7 +117,7 @@ fn add_modules(
     Ok(())
 }
 
-/// The bytes of what a map links of modules that were added.
+/// The bytes of the object that a map makes of modules that were added.
 fn link_added(alloc: Global, linker: Linker, linkage: &LinkMap) -> Result<Vec<u8>, Unlinked>
     requires sound { IsSound linkage.now }
     requires modules { length linker ≡ length linkage.now.files }
@@ -135,7 +135,7 @@ fn link_added(alloc: Global, linker: Linker, linkage: &LinkMap) -> Result<Vec<u8
     }
 }
 
-/// The bytes of what a text links of modules.
+/// The bytes of the object that a text makes of modules.
 fn link_bytes(alloc: Global, text: &[u8], given: &[Module]) -> Result<Vec<u8>, Unlinked>
     ensures ok { IfOk result (λ bytes. IsLinkedOf given.now text.now bytes.items) }
     ensures err { IfErr result (λ u. u.status ≢ 5 → IsUnlinked given.now text.now u) }
@@ -158,17 +158,17 @@ fn link_bytes(alloc: Global, text: &[u8], given: &[Module]) -> Result<Vec<u8>, U
     }
 }
 
-/// What is answered where modules are linked: what is written, and the number of the module that is refused, where one is.
+/// The result for modules that are linked: what is written, and the number of the module that is refused, if any.
 #[derive(Clone, Copy)]
 pub struct LinkAnswer {
     pub written: Written,
     pub module: u32,
 }
 
-/// Writes the object that a link map links of modules, in version 2 of the format. The map names the file of each module, and
-/// the first module of the array with this name is taken. The status is 0; 15 where the bytes find no room; 13 for a map
-/// or modules that are refused; 7 or 8 for a module whose bytes are refused; 20 where no module has a name; or 5, out of
-/// memory.
+/// Writes the object that a link map makes of modules, in version 2 of the format. The map names the file of each
+/// module, and the first module of the array with this name is taken. The status is 0; 15 if the bytes do not fit; 13
+/// for a map or modules that are refused; 7 or 8 for a module whose bytes are refused; 20 if no module has a name; or
+/// 5, out of memory.
 pub fn link_into(alloc: Global, text: &[u8], given: &[Module], out: &mut [u8]) -> LinkAnswer
     ensures linked { (result.written.status ≡ 0) ⊎ (result.written.status ≡ 15) → Given (IsLinkedOf given.now text.now) out.old out.new result.written.made result.written.status }
     ensures unlinked { result.written.status ≢ 0 → result.written.status ≢ 5 → result.written.status ≢ 15

@@ -7,10 +7,10 @@ ghost use Rattle.ft_embed.specs.Cells.{HasNoCell};
 ghost use Rattle.ft_embed.specs.Texts.{Given, IsCellName, IsMalformed, IsNameOf, IsScheduleOf, IsScheduleOfFile, IsUpgraded, IsWhy};
 ghost use Rattle.ft_embed.specs.Verdicts.{Tells, judged, nothing as nothing_told, verdict_on};
 
-use crate::checking::{check, refuse};
+use crate::checking::refuse;
 use crate::handing::{Written, hand_over, none_accepted, none_written, not_written};
 use crate::refused::told_error;
-use ft_checker::Checked;
+use ft_checker::{Checked, check_uncounted};
 use ft_isa::NoMemory;
 use ft_object::{DecodeError, decode, encode};
 use ft_sched::schedule;
@@ -33,7 +33,7 @@ fn upgrade_bytes(alloc: Global, bytes: &[u8]) -> Result<Vec<u8>, DecodeError>
     }
 }
 
-/// What is answered for bytes that spell no object.
+/// The result for bytes that spell no object.
 #[tactic(auto, using(crate::proofs::Judged::malformed))]
 fn refuse_bytes(error: DecodeError) -> Written
     ensures told { (bytes : List ℕ) → IsWhy (broken bytes) error → result.status ≡ 7 → IsMalformed bytes result.why }
@@ -47,8 +47,8 @@ fn refuse_bytes(error: DecodeError) -> Written
     }
 }
 
-/// Writes the bytes of the object that bytes spell in version 2 of the format. The status is 0; 15
-/// where they find no room; 7 for bytes that spell no object; or 5, out of memory.
+/// Writes the bytes of the object that bytes spell in version 2 of the format. The status is 0; 15 if they do not fit;
+/// 7 for bytes that spell no object; or 5, out of memory.
 pub fn upgrade_into(alloc: Global, bytes: &[u8], out: &mut [u8]) -> Written
     ensures given { result.status ≢ 5 → result.status ≢ 7 → Given (IsUpgraded bytes.now) out.old out.new result.made result.status }
     ensures malformed { result.status ≡ 7 → IsMalformed bytes.now result.why }
@@ -62,8 +62,8 @@ pub fn upgrade_into(alloc: Global, bytes: &[u8], out: &mut [u8]) -> Written
     }
 }
 
-/// Writes the name of a cell of the object that bytes spell. The status is 0; 15 where it finds no room;
-/// 7 for bytes that spell no object; or 16 where there is no such cell.
+/// Writes the name of a cell of the object that bytes spell. The status is 0; 15 if it does not fit; 7 for bytes that
+/// spell no object; or 16 if there is no such cell.
 #[tactic(auto, using(crate::proofs::Judged::malformed, ft_types::proofs::Counted::spellable_counted))]
 pub fn name_into(bytes: &[u8], cell: u32, out: &mut [u8]) -> Written
     ensures given { result.status ≢ 7 → result.status ≢ 16 → Given (IsNameOf bytes.now cell) out.old out.new result.made result.status }
@@ -107,7 +107,7 @@ fn schedule_bytes<'a, P: Program>(
     encode(alloc, &object)
 }
 
-/// Writes the schedule of a program, where it is accepted.
+/// Writes the schedule of a program, if it is accepted.
 fn schedule_program<P: Program>(alloc: Global, program: &P, out: &mut [u8]) -> Written
     requires { IsSpellable (P.object program.now) }
     ensures given { result.status ≢ 5 → result.status ≢ 8 → Given (IsScheduleOf (P.object program.now)) out.old out.new result.made result.status }
@@ -118,7 +118,7 @@ fn schedule_program<P: Program>(alloc: Global, program: &P, out: &mut [u8]) -> W
     ensures accepted { result.status ≢ 5 → result.status ≢ 8 → IsAccepted (P.object program.now) }
     ensures unrefused { result.status ≢ 8 → result.why ≡ nothing_told }
 {
-    let checked = match check(alloc, program) {
+    let checked = match check_uncounted(alloc, program) {
         Ok(checked) => checked,
         Err(error) => return none_accepted(refuse(error)),
     };

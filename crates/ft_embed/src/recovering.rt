@@ -11,12 +11,13 @@ ghost use Rattle.ft_embed.specs.Recoveries.{RecoversFile, RecoversInto};
 ghost use Rattle.ft_embed.specs.Verdicts.{Tells, judged, nothing as nothing_told, verdict_on};
 
 use crate::answer::{RunAnswer, has_run, has_run_again, not_run};
-use crate::checking::{check, refuse};
+use crate::checking::refuse;
 use crate::filling::CellOutput;
 use crate::plan_text::{read_answers, read_fault};
 use crate::refused::told_error;
 use crate::running::{end_of, no_run, run_machine};
 use crate::verdict::Verdict;
+use ft_checker::check_uncounted;
 use ft_isa::{Plan, WildError};
 use ft_machine::Machine;
 use ft_semantics::Status;
@@ -24,7 +25,7 @@ use ft_types::Program;
 use ft_view::View;
 use std::alloc::Global;
 
-/// Whether a machine that stands so noticed a fault.
+/// Whether a machine with this status noticed a fault.
 fn is_detected(status: Status) -> bool
     ensures yes { result ≡ true → status ≡ Status.Detected }
     ensures no { result ≡ false → status ≢ Status.Detected }
@@ -36,7 +37,7 @@ fn is_detected(status: Status) -> bool
     }
 }
 
-/// Runs a machine under a plan, and where it is detected a second one without the strike.
+/// Runs a machine under a plan, and if it is detected, a second one without the strike.
 fn recover_machines<P: Program>(
     first: &mut Machine,
     second: &mut Machine,
@@ -72,7 +73,7 @@ fn recover_machines<P: Program>(
     has_run_again(status, whole.taken, whole.count as u64, filled.count as u64)
 }
 
-/// Checks a program, runs it, and runs it again where it is detected.
+/// Checks a program, runs it, and runs it again if it is detected.
 fn recover_program<P: Program>(
     alloc: Global,
     program: &P,
@@ -90,7 +91,7 @@ fn recover_program<P: Program>(
     ensures unrun { (result.status ≡ 5) ⊎ (result.status ≡ 8) → result.ran ≡ not_begun }
     ensures kept { (result.status ≡ 5) ⊎ (result.status ≡ 8) → out.new ≡ out.old }
 {
-    match check(alloc, program) {
+    match check_uncounted(alloc, program) {
         Ok(_) => {}
         Err(error) => return not_run(refuse(error)),
     }
@@ -103,7 +104,7 @@ fn recover_program<P: Program>(
     recover_machines(&mut first, &mut second, program, plan, steps, out)
 }
 
-/// Checks the object that bytes spell, runs it, and runs it again where it is detected.
+/// Checks the object that bytes spell, runs it, and runs it again if it is detected.
 fn recover_bytes(
     alloc: Global,
     bytes: &[u8],
@@ -129,11 +130,11 @@ fn recover_bytes(
     }
 }
 
-/// Checks the object that bytes spell, and runs it from its start for at most `steps` steps, under the plan
-/// that two texts say, as `run` does. Where the fault is detected, it is run again without the fault, and its
-/// outputs take the place of the first ones. So the outputs and the end are those of the run without a fault.
-/// The status is 0 for a run that is done; 9 for one that still runs after the steps; 14 where the array is
-/// full; 2 where one of the texts says nothing; 7 or 8 for bytes that are refused; or 5, out of memory.
+/// Checks the object that bytes spell, and runs it from its start for at most `steps` steps, under the plan that two
+/// texts spell, as `run` does. If the fault is detected, it is run again without the fault, and its outputs replace the
+/// first ones. So the outputs and the end are those of the run without a fault. The status is 0 for a run that is done;
+/// 9 for one that is still running after the steps; 14 if the array is full; 2 if a text is invalid; 7 or 8 for bytes
+/// that are refused; or 5, out of memory.
 pub fn recover(
     alloc: Global,
     bytes: &[u8],

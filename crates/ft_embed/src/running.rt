@@ -12,43 +12,18 @@ ghost use Rattle.ft_embed.specs.Outputs.{Ends, IsOnce, RunsFile, RunsInto, Takes
 ghost use Rattle.ft_embed.specs.Verdicts.{Tells, judged, nothing as nothing_told, verdict_on};
 
 use crate::answer::{RunAnswer, has_run, not_run};
-use crate::checking::{check, refuse};
+use crate::checking::refuse;
 use crate::filling::{CellOutput, Filled, fill};
 use crate::plan_text::{read_answers, read_fault};
 use crate::refused::told_error;
 use crate::verdict::{Verdict, unrefused};
+use ft_checker::check_uncounted;
 use ft_isa::{Plan, Strike, WildError};
-use ft_machine::{Machine, WildLeft};
+use ft_machine::{Machine, WildLeft, steps_before, strike_before};
 use ft_semantics::Status;
 use ft_types::Program;
 use ft_view::View;
 use std::alloc::Global;
-
-/// How many steps of a run come before its strike.
-fn steps_before(strike: Option<Strike>, steps: u64) -> u64
-    ensures within { result ≤ steps }
-    ensures before { (j : ℕ) → j < result → Spares strike j }
-    ensures after { (j : ℕ) → result < steps → result < j → Spares strike j }
-{
-    let Some(strike) = strike else {
-        return steps;
-    };
-    if strike.step < steps {
-        return strike.step;
-    }
-    steps
-}
-
-/// Strikes before step `k`, where the plan strikes there.
-fn strike_before(machine: &mut Machine, strike: Option<Strike>, k: u64)
-    ensures { machine.new ≡ struck_before strike k machine.old }
-{
-    if let Some(strike) = strike {
-        if strike.step == k {
-            let _ = machine.strike(strike.site, strike.value);
-        }
-    }
-}
 
 /// Runs a machine from its start under a plan.
 pub(crate) fn run_machine<P: Program>(
@@ -90,8 +65,8 @@ pub(crate) fn run_machine<P: Program>(
     }
 }
 
-/// The status of a run that took so many of so many steps: 0 where it is done, 1 where it is detected, 9
-/// where it took them all, and 14 where the array is full.
+/// The status of a run that took `taken` of `steps` steps: 0 if it is done, 1 if it is detected, 9 if it took them all,
+/// and 14 if the array is full.
 #[tactic(auto, using(crate::proofs::Ends::done_at, crate::proofs::Ends::detected_at, crate::proofs::Ends::cut_at, crate::proofs::Ends::full_at))]
 pub(crate) fn end_of(status: Status, taken: u64, steps: u64) -> u32
     ensures ends { (count room : ℕ) → count ≤ room → taken ≤ steps → (status ≡ Status.Running → count < room → taken ≡ steps) → Ends result steps taken count room status }
@@ -126,7 +101,7 @@ fn run_program<P: Program>(
     ensures unrun { (result.status ≡ 5) ⊎ (result.status ≡ 8) → result.ran ≡ not_begun }
     ensures kept { (result.status ≡ 5) ⊎ (result.status ≡ 8) → out.new ≡ out.old }
 {
-    match check(alloc, program) {
+    match check_uncounted(alloc, program) {
         Ok(_) => {}
         Err(error) => return not_run(refuse(error)),
     }
@@ -165,7 +140,7 @@ fn run_bytes(
     }
 }
 
-/// A run that was not begun: two texts say no plan, or memory ran out.
+/// A run that was not started: a text of the plan is invalid, or memory ran out.
 pub(crate) fn no_run(status: u32) -> RunAnswer
     ensures status { result.status ≡ status }
     ensures once { IsOnce result.ran }
@@ -175,11 +150,11 @@ pub(crate) fn no_run(status: u32) -> RunAnswer
     not_run(unrefused(status))
 }
 
-/// Checks the object that bytes spell, and runs it from its start for at most `steps` steps, under the fault
-/// that a text says, as `4:r1:6`, and with the answers to wild loads that another one says, as `5,stop`. An
-/// empty text says none. The outputs go into the array. The status is 0 for a run that is done; 1 for one
-/// that is detected; 9 for one that still runs after the steps; 14 where the array is full; 2 where one of the
-/// texts says nothing; 7 or 8 for bytes that are refused; or 5, out of memory.
+/// Checks the object that bytes spell, and runs it from its start for at most `steps` steps, under the fault that
+/// `fault` spells, such as `4:r1:6`, and with the answers to wild loads that `wild` spells, such as `5,stop`. An empty
+/// text means none. The outputs go into the array. The status is 0 for a run that is done; 1 for one that is detected;
+/// 9 for one that is still running after the steps; 14 if the array is full; 2 if a text is invalid; 7 or 8 for bytes
+/// that are refused; or 5, out of memory.
 pub fn run(
     alloc: Global,
     bytes: &[u8],

@@ -1,4 +1,4 @@
-//! Runs that go on from call to call.
+//! Runs that continue across calls.
 ghost use Rattle.std.specs.Prelude.{◌≡◌, ◌≢◌, ◌≤◌, ◌+◌, [], IfOk, IfErr, OnOk, OnErr, None, Some, true, false};
 ghost use Rattle.ft_types.specs.Spellable.{IsSpellable};
 ghost use Rattle.ft_typing.specs.Accepted.{IsAccepted, refusal};
@@ -10,11 +10,12 @@ ghost use Rattle.ft_embed.specs.Tasks.{IsLimit, WentOn};
 ghost use Rattle.ft_embed.specs.Verdicts.{IsAcceptedFile, Tells, judged, nothing, verdict_on};
 
 use crate::answer::{RunAnswer, has_run};
-use crate::checking::{check, refuse};
+use crate::checking::refuse;
 use crate::filling::{CellOutput, fill};
 use crate::refused::told_error;
 use crate::running::end_of;
 use crate::verdict::{Verdict, unrefused};
+use ft_checker::check_uncounted;
 use ft_isa::{NoMemory, Site, Strike};
 use ft_machine::{Machine, WildLeft};
 use ft_types::{Object, Program, copy_object};
@@ -22,8 +23,8 @@ use ft_view::View;
 use std::alloc::Global;
 use std::marker::Model;
 
-/// The run of an accepted object, which goes on from call to call, and may be struck once. Contracts see it
-/// as the object, the strike, if there was one, and the number of steps that were taken.
+/// The run of an accepted object, which continues across calls, and may be struck once. Contracts see it as the object,
+/// the strike, if any, and the number of steps that were taken.
 #[derive(Drop)]
 pub struct Task {
     object: Object,
@@ -42,7 +43,7 @@ impl Model for Task {
     ghost invariant = { λ t. IsTask (record { object = t.object; strike = t.strike; taken = t.taken }) t.machine };
 }
 
-/// How many of so many steps a run may take that has taken so many: all, or as many as can be counted.
+/// How many of `steps` further steps a run may take after `taken`: all, unless the count would overflow.
 fn limit(steps: u64, taken: u64) -> u64
     ensures within { result + taken ≤ 18446744073709551615 }
     ensures limit { IsLimit steps taken result }
@@ -52,7 +53,7 @@ fn limit(steps: u64, taken: u64) -> u64
 }
 
 impl Task {
-    /// The run of a program before its first step, where the program is accepted; else the verdict.
+    /// The run of a program before its first step, if the program is accepted; else the verdict.
     fn of_program<P: Program>(alloc: Global, program: &P) -> Result<Task, Verdict>
         requires { IsSpellable (P.object program.now) }
         ensures ok { IfOk result (λ t. t ≡ record { object = P.object program.now; strike = None; taken = 0 }) }
@@ -61,7 +62,7 @@ impl Task {
         ensures some { IfErr result (λ v. v.status ≢ 0) }
         ensures unrefused { IfErr result (λ v. v.status ≢ 7 → v.status ≢ 8 → v.why ≡ nothing) }
     {
-        match check(alloc, program) {
+        match check_uncounted(alloc, program) {
             Ok(_) => {}
             Err(error) => return Err(refuse(error)),
         }
@@ -79,8 +80,8 @@ impl Task {
         })
     }
 
-    /// The run of the object that bytes spell before its first step, where it is accepted; else the verdict.
-    /// The bytes are copied.
+    /// The run of the object that bytes spell before its first step, if it is accepted; else the verdict. The bytes are
+    /// copied.
     pub fn open(alloc: Global, bytes: &[u8]) -> Result<Task, Verdict>
         ensures ok { IfOk result (λ t. t ≡ record { object = object_of bytes.now; strike = None; taken = 0 }) }
         ensures file { IfOk result (λ t. IsAcceptedFile bytes.now) }
@@ -97,9 +98,9 @@ impl Task {
         }
     }
 
-    /// Takes at most `steps` steps, and fewer where the run is done or detected, or the array is full. Puts
-    /// their outputs into the array. The status is 0 for a run that is done, 1 for one that is detected, 9
-    /// where all steps were taken, or 2^64 - 1 in all, and 14 where the array is full.
+    /// Takes at most `steps` steps, and fewer if the run is done or detected, or the array is full. Puts their outputs
+    /// into the array. The status is 0 for a run that is done, 1 for one that is detected, 9 if all steps were taken,
+    /// or 2^64 - 1 in all, and 14 if the array is full.
     pub fn advance(&mut self, steps: u64, out: &mut [CellOutput]) -> RunAnswer
         ensures went { WentOn self.old self.new result.status steps result.ran.steps result.ran.count out.new }
         ensures once { IsOnce result.ran }
@@ -112,8 +113,8 @@ impl Task {
         has_run(status, filled.taken, filled.count as u64)
     }
 
-    /// Strikes a site before the next step: the word there becomes `value`. Gives `false`, and changes
-    /// nothing, where the run was struck before, has stopped, or the site is not there.
+    /// Strikes a site before the next step: the word there becomes `value`. Returns `false`, and changes nothing, if
+    /// the run was struck before, has stopped, or the site does not exist.
     pub fn strike(&mut self, site: Site, value: u64) -> bool
         ensures struck { result ≡ true → self.new ≡ record { object = self.old.object; strike = Some (record { step = self.old.taken; site = site; value = value }); taken = self.old.taken } }
         ensures first { result ≡ true → self.old.strike ≡ None }
@@ -133,7 +134,7 @@ impl Task {
         false
     }
 
-    /// Begins the run again, without a strike. Where memory runs out the run is as before.
+    /// Starts the run again, without a strike. If memory runs out the run is unchanged.
     pub fn restart(&mut self, alloc: Global) -> Result<(), NoMemory>
         ensures ok { OnOk result (self.new ≡ record { object = self.old.object; strike = None; taken = 0 }) }
         ensures err { OnErr result (self.new ≡ self.old) }

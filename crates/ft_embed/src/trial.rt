@@ -34,7 +34,7 @@ fn verdict_number(verdict: Verdict) -> u64
     }
 }
 
-/// The step that detected the fault, 0 where none did.
+/// The step that detected the fault, or 0.
 fn detected_at(verdict: Verdict) -> u64
     ensures { result ≡ detected_at verdict }
 {
@@ -66,7 +66,7 @@ fn put_verdict(out: &mut [FaultVerdict], at: usize, verdict: FaultVerdict)
     out[at..at + 1].copy_from_slice(&one);
 }
 
-/// Puts verdicts into an array from its start on.
+/// Puts verdicts into an array from its start.
 pub(crate) fn put_verdicts(verdicts: &[Verdict], out: &mut [FaultVerdict])
     requires { length verdicts.now ≤ length out.old }
     ensures written { take (length verdicts.now) out.new ≡ map fault_verdict verdicts.now }
@@ -89,7 +89,7 @@ pub(crate) fn fault_totals(count: usize, totals: Totals) -> FaultTotals
     }
 }
 
-/// No totals: so many faults are wanted, or none is.
+/// No totals: only the number of faults that need room, or 0.
 pub(crate) fn no_totals(count: usize) -> FaultTotals
     ensures { result ≡ untried count }
 {

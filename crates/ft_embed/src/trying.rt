@@ -9,12 +9,13 @@ ghost use Rattle.ft_embed.specs.Plans.{AreAnswers};
 ghost use Rattle.ft_embed.specs.Trials.{IsListRefused, Tries, TriesFile, TriesList, WantsRoom, told_list, untried};
 ghost use Rattle.ft_embed.specs.Verdicts.{IsAcceptedFile, Tells, judged, nothing as nothing_told, verdict_on};
 
-use crate::checking::{check, refuse};
+use crate::checking::refuse;
 use crate::plan_text::read_answers;
 use crate::refused::{Refused, nothing, told_error};
 use crate::trial::{FaultTotals, FaultVerdict, fault_totals, no_totals, put_verdicts};
 use crate::verdict::Verdict;
 use ft_campaign::{ListError, find_verdicts, read_faults, totals_of};
+use ft_checker::check_uncounted;
 use ft_isa::{NoMemory, Steps, Strike, Wild, WildError};
 use ft_types::Program;
 use ft_view::View;
@@ -22,13 +23,13 @@ use std::alloc::Global;
 use std::marker::Brand;
 use std::sync::ledger::{Blank, Ledger};
 
-/// The most steps of a campaign.
+/// The maximum steps of a campaign.
 const MOST_STEPS: u64 = 1_000_000;
 
-/// The most that the number of faults times the number of steps may be.
+/// The maximum of the number of faults times the number of steps.
 const PRODUCT_LIMIT: u64 = 1_000_000_000;
 
-/// What is tried on an object: the text of a fault list, the answers to wild loads, and at most how many steps.
+/// What is tried on an object: the text of a fault list, the answers to wild loads, and the maximum of steps.
 #[derive(Clone, Copy)]
 pub(crate) struct Trial<'a> {
     pub(crate) list: &'a [u8],
@@ -36,7 +37,7 @@ pub(crate) struct Trial<'a> {
     pub(crate) steps: u64,
 }
 
-/// What is answered for a campaign.
+/// The result for a campaign.
 #[derive(Clone, Copy)]
 pub struct TrialAnswer {
     pub status: u32,
@@ -44,7 +45,7 @@ pub struct TrialAnswer {
     pub why: Refused,
 }
 
-/// A campaign that was not made, or whose verdicts find no room: so many faults are wanted.
+/// A campaign that was not made, or whose verdicts do not fit: this many faults need room.
 fn not_tried(status: u32, why: Refused, count: usize) -> TrialAnswer
     ensures status { result.status ≡ status }
     ensures why { result.why ≡ why }
@@ -69,7 +70,7 @@ fn told_list(number: u32, place: u64) -> Refused
     }
 }
 
-/// What is answered for a text that is no fault list.
+/// The result for a text that is not a fault list.
 fn refuse_list(error: ListError) -> TrialAnswer
     ensures told { (list : List ℕ) (steps : ℕ) → IsListError list error → result.status ≡ 11 → IsListRefused list steps result.why }
     ensures status { (result.status ≡ 5) ⊎ (result.status ≡ 11) }
@@ -196,7 +197,7 @@ fn try_program<P: Program>(
     ensures unrefused { result.status ≢ 8 → result.status ≢ 11 → result.why ≡ nothing_told }
     ensures untried { result.status ≢ 0 → result.status ≢ 15 → result.totals ≡ untried 0 }
 {
-    match check(alloc, program) {
+    match check_uncounted(alloc, program) {
         Ok(_) => try_list(alloc, program, trial, out),
         Err(error) => {
             let verdict = refuse(error);
@@ -226,11 +227,11 @@ fn try_bytes(alloc: Global, bytes: &[u8], trial: Trial, out: &mut [FaultVerdict]
     }
 }
 
-/// Checks the object that bytes spell, and runs it without a fault and under each fault of a list, each for at most `steps`
-/// steps, which are at most 1,000,000, and with the answers to wild loads that a text says. The list is a text of lines such
-/// as `4:r1:6`. The verdicts go into the array, in the list's order. The status is 0; 15 where they find no room; 11 for a
-/// list that is refused; 2 for a text that says no answers, or too many steps; 7 or 8 for bytes that are refused; or 5, out
-/// of memory.
+/// Checks the object that bytes spell, and runs it without a fault and under each fault of a list, each for at most
+/// `steps` steps, which are at most 1,000,000, and with the answers to wild loads that a text spells. The list is a
+/// text of lines such as `4:r1:6`. The verdicts go into the array, in the list's order. The status is 0; 15 if they do
+/// not fit; 11 for a list that is refused; 2 for a text that spells no answers, or too many steps; 7 or 8 for bytes
+/// that are refused; or 5, out of memory.
 pub fn campaign(
     alloc: Global,
     bytes: &[u8],

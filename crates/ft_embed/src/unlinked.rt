@@ -22,8 +22,8 @@ pub struct Module<'a> {
     pub bytes: &'a [u8],
 }
 
-/// Why modules are not linked: a status; the number of the module that it is about, in the order of the map, from 0, or 0
-/// where it is about a line; and a refusal.
+/// Why modules are not linked: a status; the number of the module that it is about, in the order of the map, from 0, or
+/// 0 if it is about a line; and a refusal.
 #[derive(Clone, Copy)]
 pub struct Unlinked {
     pub status: u32,
@@ -66,7 +66,7 @@ pub(crate) fn bad_map(number: u32, place: u64) -> Unlinked
     }
 }
 
-/// What is answered for a map that is refused.
+/// The result for a map that is refused.
 pub(crate) fn refuse_map(error: MapError) -> Unlinked
     ensures told { (said : Answer) → IsRefusal error said → result.status ≢ 5 → SaidUnlinked said result }
     ensures some { (result.status ≢ 0) × (result.status ≢ 15) }
@@ -90,7 +90,7 @@ fn link_refused(module: u32, why: Refused) -> Unlinked
     }
 }
 
-/// What is answered for modules that are not linked.
+/// The result for modules that are not linked.
 pub(crate) fn refuse_modules(error: LinkError) -> Unlinked
     ensures told { (x : Option LinkRefusal) → IsRefusalOf x error → result.status ≢ 5 → IsUnlinkedBy x result }
     ensures some { (result.status ≢ 0) × (result.status ≢ 15) }
@@ -121,7 +121,7 @@ pub(crate) fn refuse_modules(error: LinkError) -> Unlinked
     }
 }
 
-/// What is answered for a module that is not accepted.
+/// The result for a module that is not accepted.
 #[tactic(auto, using(crate::proofs::LinkTurns::some_status))]
 pub(crate) fn refuse_module(error: CheckError, module: u32) -> Unlinked
     ensures told { (x : Option Refusal) → IsCheckRefusalOf x error → result.status ≢ 5 → IsUnaccepted x «module» result }

@@ -26,9 +26,9 @@ use Rattle.ft_format.proofs.Codes.{colour_small, basic_back, base_small, type_fi
 use Rattle.ft_format.proofs.Versions.{magic_small, names_magic}
 use Rattle.ft_format.proofs.Nodes.{shape_fit, shape_back}
 use Rattle.ft_format.proofs.Types.{types_back}
-use Rattle.ft_format.proofs.Write.{header_for}
+use Rattle.ft_format.proofs.SpelledSections.{header_for}
 use Rattle.ft_format.proofs.SmallRows.{reg_back}
-use Rattle.ft_format.proofs.Instrs.{instr_fit, instr_back}
+use Rattle.ft_format.proofs.InstrsBack.{instr_fit, instr_back}
 use Rattle.ft_encode.proofs.Sections.{SectionsFit, Sections, sections_are}
 
 -- LISTS

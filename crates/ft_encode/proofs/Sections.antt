@@ -1,4 +1,4 @@
--- What stands in the sections of what is written for an object whose numbers their fields can hold.
+-- The content of the sections of what is written for an object whose numbers their fields can hold.
 use Rattle.std.proofs.Common.{◌≡◌, ℕ, ◌+◌, ◌*◌, List, ◌++◌, length, drop, map, ap, ◌∙◌, arith}
 use Rattle.std.specs.Int.{Width}
 use Rattle.std.proofs.lemmas.List.{length-append, length-map, drop_at}
@@ -12,7 +12,8 @@ use Rattle.ft_format.specs.Rows.{all_queue, all_names, header_row, spelling}
 use Rattle.ft_format.specs.Values.{header_of}
 use Rattle.ft_format.specs.Broken.{nodes_at, types_at, regs_at, queue_at, blocks_at, instrs_at, substs_at, names_at}
 use Rattle.ft_format.specs.Broken.{total, header_at}
-use Rattle.ft_format.proofs.Write.{header_for, length_cell_rows, length_type_rows, after_section, section_rows}
+use Rattle.ft_format.proofs.SpelledSections.{header_for, length_cell_rows, length_type_rows, after_section}
+use Rattle.ft_format.proofs.SpelledSections.{section_rows}
 use Rattle.ft_format.proofs.Layouts.{Fit, AllFit, numbers_back, length_written, length_spelled}
 
 -- the bytes that are written after a section
@@ -58,7 +59,7 @@ pub record SectionsFit (v : Version) (o : Object) : Type 0 where
   pub instrs : AllFit code_layout (map instr_row o.instrs)
   pub substs : AllFit subst_layout (map subst_row o.substs)
 
--- the header, the rows of each section, and the bytes from some sections on
+-- the header, the rows of each section, and the bytes from some section
 pub record Sections (bytes : List ℕ) (v : Version) (o : Object) : Type 0 where
   pub header : header_at bytes ≡ header_for v o
   pub total_is : length bytes ≡ total (header_for v o)

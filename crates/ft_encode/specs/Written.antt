@@ -1,4 +1,4 @@
--- The bytes of one record each: private to the code.
+-- The bytes of each kind of record: private to the code.
 use Rattle.std.specs.Prelude.{ℕ, List}
 use Rattle.ft_isa.specs.declared.instr.Instr.{Instr}
 use Rattle.ft_static.specs.declared.node.Node.{Node}

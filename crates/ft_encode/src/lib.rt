@@ -1,9 +1,9 @@
 //! Objects as bytes, written.
 //!
 //! The crate promises that `spell` writes the version 2 layout of an object's tables, and that `encode`
-//! writes that of an object that obeys the rules of the format, so that reading it gives the object
-//! back, and each version 2 file is written by it. The format's definitions and laws are those of
-//! `ft_format`; `specs/Written.antt` has the bytes of each record.
+//! writes an object that obeys the format's rules, so that reading gives it back; every version 2 file is
+//! what `encode` writes for its object. The format's definitions and laws are those of `ft_format`;
+//! `specs/Written.antt` has the bytes of each record.
 #![tactic(auto)]
 
 mod laws;

@@ -11,21 +11,21 @@ ghost use Rattle.ft_encode.specs.Written.{subst_bytes};
 use ft_format::{CodeRow, NodeRow, PairRow, RegRow, SubstRow, put_pair};
 use ft_isa::{Base, Basic, Colour, Coloured, Instr, NoMemory, Reg, Subst};
 use ft_static::{Node, Shape};
-use ft_types::{Block, RegType};
+use ft_types::{Block, RegType, high_half, low_half, shape_numbers};
 
-/// What is written in a record of its own.
+/// What is written as one record.
 pub(crate) trait Record {
     ghost use Rattle.std.specs.Prelude.{ℕ, List, OnOk};
     ghost use Rattle.ft_format.specs.Puts.{Puts};
 
     ghost bytes: { Self → List ℕ };
 
-    /// Puts the record's bytes at the end.
+    /// Appends the record's bytes.
     fn write(&self, out: &mut Vec<u8>) -> Result<(), NoMemory>
         ensures { OnOk result (Puts out.old.items out.new.items (bytes self.now)) };
 }
 
-/// Puts records at the end, one after the other.
+/// Appends records, one after the other.
 pub(crate) fn write_all<T: Record>(records: &[T], out: &mut Vec<u8>) -> Result<(), NoMemory>
     ensures { OnOk result (Puts out.old.items out.new.items (flat_map T.bytes records.now)) }
 {
@@ -73,41 +73,19 @@ fn basic_number(basic: Basic) -> u32
     (u32::from(basic.refs) << 24) | base
 }
 
-/// The upper four bytes of a word.
-fn high_half(word: u64) -> u32
-    ensures { result ≡ high_half word }
-{
-    (word >> 32) as u32
-}
-
-/// The lower four bytes of a word.
-fn low_half(word: u64) -> u32
-    ensures { result ≡ low_half word }
-{
-    (word & 0xffff_ffff) as u32
-}
-
 /// The numbers of a node of a scope and a shape.
 fn shape_row(scope: u8, shape: Shape) -> NodeRow
     ensures { node_numbers result ≡ shape_row scope shape }
 {
-    let (kind, op, a, b, c) = match shape {
-        Shape::Word(word) => (0, 0, 0, high_half(word), low_half(word)),
-        Shape::Var(i) => (1, 0, u32::from(i), 0, 0),
-        Shape::Op { op, a, b } => (2, op.code(), a, b, 0),
-        Shape::Sel { memory, at } => (3, 0, memory, at, 0),
-        Shape::Memory => (4, 0, 0, 0, 0),
-        Shape::Upd { memory, at, value } => (5, 0, memory, at, value),
-        Shape::Rem { a, length } => (6, 0, a, length, 0),
-    };
+    let numbers = shape_numbers(shape);
     NodeRow {
-        kind,
-        op,
+        kind: numbers.kind,
+        op: numbers.op,
         scope,
         pad: 0,
-        a,
-        b,
-        c,
+        a: numbers.a,
+        b: numbers.b,
+        c: numbers.c,
     }
 }
 
@@ -261,7 +239,7 @@ impl Record for Instr {
     }
 }
 
-/// Puts substitution rows at the end, two at a time: an object may have a million of them.
+/// Appends substitution rows, two at a time: an object may have a million of them.
 #[tactic(auto, unfolding(ft_format::specs::Layout::written))]
 pub(crate) fn write_rows(rows: &[u32], out: &mut Vec<u8>) -> Result<(), NoMemory>
     ensures { OnOk result (Puts out.old.items out.new.items (flat_map subst_bytes rows.now)) }

@@ -77,7 +77,7 @@ fn header_of(object: &Object) -> Header
     }
 }
 
-/// Puts the records of cells at the end.
+/// Appends the records of cells.
 fn write_cells(cells: &[Cell], out: &mut Vec<u8>) -> Result<(), NoMemory>
     requires { sum_by (λ c. length (name_of c)) cells.now < 2 ^ 32 }
     ensures { OnOk result (Puts out.old.items out.new.items (spelled cell_layout (cell_rows 0 cells.now))) }
@@ -97,7 +97,7 @@ fn write_cells(cells: &[Cell], out: &mut Vec<u8>) -> Result<(), NoMemory>
     Ok(())
 }
 
-/// Puts the records of code types at the end.
+/// Appends the records of code types.
 fn write_types(types: &[CodeType], out: &mut Vec<u8>) -> Result<(), NoMemory>
     requires regs { sum_by (λ t. length (regs_of t)) types.now < 2 ^ 32 }
     requires queue { sum_by (λ t. length (queue_of t)) types.now < 2 ^ 32 }
@@ -122,7 +122,7 @@ fn write_types(types: &[CodeType], out: &mut Vec<u8>) -> Result<(), NoMemory>
     Ok(())
 }
 
-/// Puts the register rows of code types at the end.
+/// Appends the register rows of code types.
 fn write_regs(types: &[CodeType], out: &mut Vec<u8>) -> Result<(), NoMemory>
     ensures { OnOk result (Puts out.old.items out.new.items (flat_map (λ t. flat_map reg_bytes (regs_of t)) types.now)) }
 {
@@ -132,7 +132,7 @@ fn write_regs(types: &[CodeType], out: &mut Vec<u8>) -> Result<(), NoMemory>
     Ok(())
 }
 
-/// Puts the queue rows of code types at the end.
+/// Appends the queue rows of code types.
 fn write_queue(types: &[CodeType], out: &mut Vec<u8>) -> Result<(), NoMemory>
     ensures { OnOk result (Puts out.old.items out.new.items (flat_map (λ t. flat_map pair_bytes (queue_of t)) types.now)) }
 {
@@ -142,7 +142,7 @@ fn write_queue(types: &[CodeType], out: &mut Vec<u8>) -> Result<(), NoMemory>
     Ok(())
 }
 
-/// Puts the names of cells at the end.
+/// Appends the names of cells.
 fn write_names(cells: &[Cell], out: &mut Vec<u8>) -> Result<(), NoMemory>
     ensures { OnOk result (Puts out.old.items out.new.items (flat_map name_of cells.now)) }
 {
@@ -152,7 +152,7 @@ fn write_names(cells: &[Cell], out: &mut Vec<u8>) -> Result<(), NoMemory>
     Ok(())
 }
 
-/// How many bytes the counts of a header give.
+/// How many bytes the counts of a header add up to.
 fn size_of(header: Header) -> usize
     ensures { result ≡ total header }
 {
@@ -192,9 +192,9 @@ pub fn encode(alloc: Global, object: &Object) -> Result<Vec<u8>, NoMemory>
     // It breaks no rule, and decoding it gives the object back.
     ensures unbroken { IfOk result (λ bytes. broken bytes.items ≡ None) }
     ensures back { IfOk result (λ bytes. Spells bytes.items Second object.now × (object_of bytes.items ≡ object.now)) }
-    // Whatever bytes of version 2 spell the object, they are what is written.
+    // Whatever bytes of version 2 spell the object, they are the written ones.
     ensures one { IfOk result (λ bytes. (other : List ℕ) → Spells other Second object.now → other ≡ bytes.items) }
-    // It begins no other spelling.
+    // It is not a prefix of another spelling.
     ensures apart { IfOk result (λ bytes. (rest : List ℕ) (v : Version) (other : Object) → Spells (bytes.items ++ rest) v other → rest ≡ []) }
 {
     spell(alloc, object)

@@ -7,7 +7,7 @@ use Rattle.std.proofs.lemmas.Bool.{cases_eq}
 use Rattle.std.proofs.lemmas.Option.{slice_get_within}
 use Rattle.ft_simulation.proofs.Lists.{begins_itself, begins_on}
 use Rattle.ft_isa.specs.declared.instr.Instr.{Instr}
-use Rattle.ft_isa.specs.declared.instr.Instr.TheVariants.{OpReg, OpWord, Mov, Ld, St, JmpG, JmpB, BzG, BzB, Halt, Idx}
+use Rattle.ft_isa.specs.declared.instr.Instr.TheVariants.{JmpG, JmpB, BzG, BzB, Halt}
 use Rattle.ft_isa.specs.declared.plan.Wild.{Wild}
 use Rattle.ft_semantics.specs.declared.status.Status.{Status}
 use Rattle.ft_semantics.specs.declared.status.Status.TheVariants.{Running, Done, Detected}
@@ -41,7 +41,7 @@ use Rattle.ft_exchange.proofs.Lockstep.{next_of, sides}
 
 -- WHERE RUNS MEET
 
--- a state meets where it has stopped, or is at an instruction that stands fixed
+-- a state meets if it has stopped, or is at a fixed instruction
 abbrev meets_by : Status → Option Instr → Bool
 meets_by Running (Some i) = is_fixed i
 meets_by Running None = true
@@ -168,17 +168,12 @@ kept o _ spelled acc (exchange {s = s} b k h p) =
 
 further_free : (o : Object) (i : Instr) (t : State) (P : Place) → is_fixed i ≡ false → place_after o i t P
     ≡ further (row o P.context i) P
-further_free o (OpReg op rd rs rt) t P h = refl
-further_free o (OpWord op rd rs value) t P h = refl
-further_free o (Mov rd value basic) t P h = refl
-further_free o (Ld k rd rs) t P h = refl
-further_free o (St k rd rs) t P h = refl
 further_free o (JmpG rd) t P h = cc
 further_free o (JmpB rd u) t P h = cc
 further_free o (BzG rz rd) t P h = cc
 further_free o (BzB rz rd u) t P h = cc
 further_free o Halt t P h = cc
-further_free o (Idx rd rs first m) t P h = refl
+further_free o i t P h = refl
 
 -- an instruction that isn't fixed goes on
 goes_free : (o : Object) (c : Context) (i : Instr) → Passes o c i → is_fixed i ≡ false → (d : Context)
@@ -186,7 +181,7 @@ goes_free : (o : Object) (c : Context) (i : Instr) → Passes o c i → is_fixed
 goes_free o c i (ends e) free = (let f = ends_fixed o c i e in absurd (cc))
 goes_free o c i (goes d e) free = (d, e)
 
--- 1 where something is fetched
+-- 1 if something is fetched
 abbrev fetched_one : Option Instr → ℕ
 fetched_one None = 0
 fetched_one (Some i) = 1
@@ -195,7 +190,7 @@ fetched_few : (u : Option Instr) → fetched_one u ≤ 1
 fetched_few None = omega arith
 fetched_few (Some i) = omega arith
 
--- a place of the object with at most so many steps to the last instruction of its block
+-- a place of the object with at most n steps to the last instruction of its block
 pub record Ahead (o : Object) (t : State) (P : Place) (f : ℕ) : Type 0 where
   pub at : IsPlace o P
   pub enough : 2 * length (block_instrs o at.number) ≤ f + fetched_one t.fetched + 2 * P.index
@@ -266,7 +261,7 @@ module _ (o : Object) (spelled : IsSpellable o) (acc : IsAccepted o) where
       ahead_executed t w P f a h (e ∙ h.there) (ap is_fixed same ∙ free.free))
       fits.fetched
 
-  -- where there is an instruction, something is ahead
+  -- if there is an instruction, something is ahead
   ahead_some : (t : State) (P : Place) → Ahead o t P 0 → ⊥
   ahead_some t P a =
       let h = here o P acc a.at in
@@ -275,7 +270,7 @@ module _ (o : Object) (spelled : IsSpellable o) (acc : IsAccepted o) where
       let few = fetched_few t.fetched in
       omega arith
 
-  -- after at most so many steps the run meets
+  -- after at most n steps the run meets
   pub record Soon (n f : ℕ) : Type 0 where
     pub step_number : ℕ
     pub from : n ≤ step_number

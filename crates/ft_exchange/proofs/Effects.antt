@@ -73,7 +73,7 @@ with_pending a v m = record m { queue = m.queue ++ (a, v) ∷ [] }
 abbrev pub with_commit : ℕ → ℕ → Core → Core
 with_commit a v m = record m { queue = drop 1 m.queue; cells = with_cell m.cells a v }
 
--- what an instruction that is not fixed does, where it is not detected and no load is wild: the core after it, and the
+-- what an instruction that is not fixed does, if it is not detected and no load is wild: the core after it, and the
 -- output
 pub data Does : Instr → Core → Core → Option Output → Type 0 where
   writes : {i : Instr} {m : Core} (r : ℕ) (x : Coloured) → written i ≡ Some r → puts i m ≡ Some x →
@@ -87,7 +87,7 @@ pub data Does : Instr → Core → Core → Option Output → Type 0 where
 
 -- THE STEP
 
--- an instruction that does so is executed so
+-- an instruction with this effect is executed like this
 loaded_execute : (k : Colour) (rd rs : Reg) (s : State) (w : List Wild) (x : Coloured) (u : Option ℕ) → loaded k u
     ≡ Some x → load k rd u s w ≡ quiet (moved s (with_put rd.number x (core s))) w
 loaded_execute k rd rs s w x None e = cc
@@ -143,7 +143,7 @@ pub does_execute : (i : Instr) (s : State) (m : Core) (w : List Wild) (x : Optio
     execute i s w ≡ went s m w x
 does_execute i s m w x h = executes i s (core s) m w x refl h
 
--- what an instruction that isn't fixed does to a state, where it isn't detected
+-- what an instruction that isn't fixed does to a state, if it isn't detected
 pub record Done_ (i : Instr) (c : Core) : Type 0 where
   pub after : Core
   pub output : Option Output

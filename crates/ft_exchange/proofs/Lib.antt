@@ -1,6 +1,8 @@
 pub mod Lists
 pub mod BlockRanges
 pub mod Permits
+pub mod WriteRows
+pub mod StoreRows
 pub mod Crossing
 pub mod QueueLengths
 pub mod Accepted

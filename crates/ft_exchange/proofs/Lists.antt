@@ -17,14 +17,14 @@ length-exchanged (i ∷ j ∷ is) zero = refl
 
 -- PARTS
 
--- the part from a place up to the exchange on
+-- the part from a place up to the exchange
 drop_before : (a : ℕ) (is : List Instr) (n k : ℕ) → n ≡ a + k → drop a (exchanged is n) ≡ exchanged (drop a is) k
 drop_before zero is n k e = ap (exchanged is) (omega arith)
 drop_before (suc a) [] n k e = refl
 drop_before (suc a) (i ∷ is) zero k e = absurd (omega arith)
 drop_before (suc a) (i ∷ is) (suc n) k e = drop_before a is n k (omega arith)
 
--- the part from a place after the exchange on
+-- the part from a place after the exchange
 drop_after : (a : ℕ) (is : List Instr) (n : ℕ) → n + 2 ≤ a → drop a (exchanged is n) ≡ drop a is
 drop_after a [] n h = refl
 drop_after zero (i ∷ is) n h = absurd (omega arith)
@@ -99,7 +99,7 @@ all_exchanged P is n h k d lt =
     let f = from_exchanged is n k _ x in
     subst P (get_or_from_slice_get is f.0 _ d f.1) (h f.0 d (slice_get_within is f.0 _ f.1))
 
--- the substitutions are the same, where the two instructions carry none
+-- the substitutions are the same, if the two instructions carry none
 pub substs_exchanged : (is : List Instr) (n : ℕ) (a b : Instr) → slice_get is n ≡ Some a → slice_get is (suc n)
     ≡ Some b → subst_of a ≡ None → subst_of b ≡ None → substs_of (exchanged is n) ≡ substs_of is
 substs_exchanged [] n a b ea eb na nb = refl

@@ -10,7 +10,7 @@ use Rattle.ft_isa.specs.declared.colour.Colour.{Colour}
 use Rattle.ft_isa.specs.declared.colour.Colour.TheVariants.{Green, Blue}
 use Rattle.ft_isa.specs.declared.instr.Subst.{Subst}
 use Rattle.ft_isa.specs.declared.instr.Instr.{Instr}
-use Rattle.ft_isa.specs.declared.instr.Instr.TheVariants.{OpReg, OpWord, Mov, Ld, St, JmpG, JmpB, BzG, BzB, Halt, Idx}
+use Rattle.ft_isa.specs.declared.instr.Instr.TheVariants.{Ld, St, JmpG, JmpB, BzG, BzB, Halt}
 use Rattle.ft_isa.specs.declared.output.Output.{Output}
 use Rattle.ft_isa.specs.declared.plan.Wild.{Wild}
 use Rattle.ft_isa.specs.declared.plan.Wild.TheVariants.{Word, Stop}
@@ -85,9 +85,6 @@ fetches_pass s w = fetches_if _ _ _ (λ h. refl) (fetches_detected s w)
 
 fetches_after : (i : Instr) (s : State) (w : List Wild) → Fetches (execute i s w)
 unfolding Fetches
-fetches_after (OpReg op rd rs rt) s w = λ h. refl
-fetches_after (OpWord op rd rs value) s w = λ h. refl
-fetches_after (Mov rd value basic) s w = λ h. refl
 fetches_after (Ld k rd rs) s w = fetches_load k rd (found k s (word s rs)) s w
 fetches_after (St Green rd rs) s w = fetches_if _ _ _ (λ h. refl) (fetches_detected s w)
 fetches_after (St Blue rd rs) s w = fetches_if _ _ _ (λ h. refl) (fetches_detected s w)
@@ -98,7 +95,7 @@ fetches_after (BzG rz rd) s w = fetches_if (word s rz == 0) (jump_green (word s 
 fetches_after (BzB rz rd u) s w = fetches_if (word s rz == 0) (jump_blue (word s rd) s w) (pass s w)
     (fetches_jump_blue (word s rd) s w) (fetches_pass s w)
 fetches_after Halt s w = λ h. cc
-fetches_after (Idx rd rs first m) s w = λ h. refl
+fetches_after i s w = λ h. refl
 
 fetches_none : (i : Instr) (s : State) (w : List Wild) → (execute i s w).state.status ≡ Running →
     (execute i s w).state.fetched ≡ None
@@ -127,25 +124,17 @@ number_if true p x y h l = h
 number_if false p x y h l = l
 
 number_after : (o : Object) (i : Instr) (s : State) (p : Place) → Number p (place_after o i s p)
-number_after o (OpReg op rd rs rt) s p = number_further _ p
-number_after o (OpWord op rd rs value) s p = number_further _ p
-number_after o (Mov rd value basic) s p = number_further _ p
-number_after o (Ld k rd rs) s p = number_further _ p
-number_after o (St k rd rs) s p = number_further _ p
-number_after o (JmpG rd) s p = number_further _ p
 number_after o (JmpB rd u) s p = number_arrived o (block_at o (word s rd)) u p
-number_after o (BzG rz rd) s p = number_further _ p
 number_after o (BzB rz rd u) s p = number_if (word s rz == 0) p _ _ (number_arrived o (block_at o (word s rd)) u p)
     (number_further _ p)
-number_after o Halt s p = number_further _ p
-number_after o (Idx rd rs first m) s p = number_further _ p
+number_after o i s p = number_further _ p
 
 -- A MACHINE BESIDE ANOTHER
 
 abbrev pub ran : State → List Output → Ran
 ran s os = record { state = s; wild = []; outputs = os }
 
--- where both are in one state: not between the two, and not about to do the first
+-- if both are in one state: not between the two, and not about to do the first
 pub record Clear (n : ℕ) (s : State) : Type 0 where
   pub not_between : s.status ≡ Running → s.pc_green ≢ suc (suc n)
   pub not_fetched : s.status ≡ Running → (i : Instr) → s.fetched ≡ Some i → s.pc_green ≢ suc n
@@ -270,7 +259,7 @@ module _ (o : Object) (b k : ℕ) (spelled : IsSpellable o) (acc : IsAccepted o)
         not_fetched = λ go i f. cc;
       })))
 
-  -- the next step of both, where they are in one state that runs
+  -- the next step of both, if they are in one state that runs
   clear_stopped : (x : State) → x.status ≢ Running → Clear n0 x
   clear_stopped x h = record { not_between = λ go e. h go; not_fetched = λ go i f e. h go }
 
@@ -281,7 +270,7 @@ module _ (o : Object) (b k : ℕ) (spelled : IsSpellable o) (acc : IsAccepted o)
   pc_next t t' P Q (at_start e) f at' f' h l g = (let c = f'.pc_green in
       no_start o b k at'.number Q.block spelled p at'.block (omega arith))
 
-  -- what is known of a step from a place, where it leaves the machine running
+  -- what is known of a step from a place, if it leaves the machine running
   abbrev Onward : State → List Wild → Place → Type 0
   Onward t w P = (step o t w).state.status ≡ Running → IsPlace o (next_place o t.fetched t P)
       × Fits o (next_place o t.fetched t P) (step o t w).state

@@ -200,7 +200,7 @@ both_ways o b k c l (inr h) = ap (with_instrs o) (sym
 
 -- CHAINS
 
--- permitted exchanges from the first one on
+-- permitted exchanges from the first one
 data Chain (t : Object) : Object → Type 0 where
   done : Chain t t
   then_on : {o : Object} (b k : ℕ) → IsPermitted o b k → Chain t (after_exchange o b k) → Chain t o
@@ -213,7 +213,7 @@ chain_of : (o t : Object) → ComesFrom o t → Chain t o
 chain_of o _ itself = done
 chain_of o _ (exchange {s = s} b k h p) = longer s b k o (chain_of o s h) p
 
--- where a chain leads to an object with none left, it also leads there from after any permitted exchange
+-- if a chain leads to an object with none left, it also leads there from after any permitted exchange
 leads_there : (t : Object) (b k : ℕ) → ((c l : ℕ) → IsPermitted t c l → ⊥) → (o : Object) → IsSpellable o → Chain t o →
     IsPermitted o b k → Chain t (after_exchange o b k)
 leads_there t b k none _ spelled done p = absurd (none b k p)

@@ -6,9 +6,9 @@ use Rattle.ft_semantics.specs.declared.status.Status.TheVariants.{Running}
 use Rattle.ft_semantics.specs.Agrees.{IsPrefix}
 use Rattle.ft_semantics.specs.Run.{outputs_after, status_after}
 
--- after n steps without a fault, whatever answers to wild loads there are: the statuses are equal; the outputs of s are
--- a prefix of those of o, and are equal to them where the run is not running; and the outputs of o are a prefix of those
--- of s after 131,072 more steps
+-- after n steps without a fault, whatever the answers to wild loads: the statuses are equal; the outputs of s are a
+-- prefix of those of o, and equal to them if the run is not running; and the outputs of o are a prefix of those of s
+-- after 131,072 more steps
 pub record RunsAlike (o s : Object) (w : List Wild) (n : ℕ) : Type 0 where
   pub status : status_after s None w n ≡ status_after o None w n
   pub prefix : IsPrefix (outputs_after s None w n) (outputs_after o None w n)

@@ -25,7 +25,7 @@ leaves_alone i (Some r) = not (touches i r)
 
 -- THE STATIC QUEUE
 
--- the length of the static queue after these instructions, where it was n before them
+-- the length of the static queue after these instructions, if it was n before them
 abbrev pub queue_after : ℕ → List Instr → ℕ
 queue_after n is = n + count_by is_green_store is - count_by is_blue_store is
 
@@ -34,15 +34,15 @@ queue_after n is = n + count_by is_green_store is - count_by is_blue_store is
 abbrev pub queue_before : Object → ℕ → ℕ → ℕ
 queue_before o b k = queue_after (length (queue_rows o (block_type o b))) (take k (block_instrs o b))
 
--- where the first is `st_B` and the second `st_G`: whether the static queue of n pairs before the first has at most 7
+-- if the first is `st_B` and the second `st_G`: whether the static queue of n pairs before the first has at most 7
 abbrev pub has_room : Instr → Instr → ℕ → Bool
 has_room first second n = not (is_blue_store first && is_green_store second) || nat_lt n 8
 
 -- EXCHANGES
 
--- whether two neighbours of one block may be exchanged, where the static queue has n pairs before the first: the first
--- is trailing and the second leading (so neither is a jump, a branch or `halt`), neither writes a register that the
--- other reads or writes, and there is room in the static queue
+-- whether two neighbours of one block may be exchanged, if the static queue has n pairs before the first: the first is
+-- trailing and the second leading (so neither is a jump, a branch or `halt`), neither writes a register that the other
+-- reads or writes, and there is room in the static queue
 abbrev pub may_exchange : ℕ → Instr → Instr → Bool
 may_exchange n first second = is_trailing first && is_leading second && leaves_alone second (written first) && leaves_alone first (written second) && has_room first second n
 
@@ -55,7 +55,7 @@ pub record IsPermitted (o : Object) (b k : ℕ) : Type 0 where
   pub second_there : slice_get (block_instrs o b) (suc k) ≡ Some second
   pub may : may_exchange (queue_before o b k) first second ≡ true
 
--- a list with its elements at places n and n + 1 in each other's place
+-- a list with its elements at places n and n + 1 swapped
 abbrev pub exchanged : List Instr → ℕ → List Instr
 exchanged [] n = []
 exchanged (i ∷ is) (suc n) = i ∷ exchanged is n

@@ -1,4 +1,4 @@
--- What a scheduled object is.
+-- Schedules of objects.
 use Rattle.std.specs.Prelude.{ℕ}
 use Rattle.ft_types.specs.declared.object.Object.{Object}
 use Rattle.ft_exchange.specs.Exchange.{IsPermitted, after_exchange}

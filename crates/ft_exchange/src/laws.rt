@@ -1,4 +1,4 @@
-//! Laws of exchanges, over the definitions alone. Each function does nothing: its clause is the law.
+//! Laws of exchanges, over the definitions only. Each function does nothing: its clause is the law.
 ghost use Rattle.std.specs.Prelude.{◌≡◌, ℕ, List, None, Option};
 ghost use Rattle.ft_isa.specs.declared.plan.Strike.{Strike};
 ghost use Rattle.ft_isa.specs.declared.plan.Wild.{Wild};
@@ -29,13 +29,13 @@ pub fn exchanges_keep_runs()
     ensures { (o s : Object) (w : List Wild) (n : ℕ) → IsSpellable o → IsAccepted o → ComesFrom o s → RunsAlike o s w n }
 {}
 
-/// One fault is masked or detected in what comes from an accepted object by permitted exchanges.
+/// One fault is masked or detected in an object that comes from an accepted one by permitted exchanges.
 pub fn schedules_tolerate_one_fault()
     ensures { (o s : Object) (strike : Option Strike) (w : List Wild) (n : ℕ) → IsSpellable o → IsAccepted o → ComesFrom o s → Agrees (outputs_after s strike w n) (status_after s strike w n) (outputs_after s None w n) (status_after s None w n) }
 {}
 
-/// An object has one schedule at most: leading instructions keep their order among themselves, and so do
-/// trailing ones, so what passes what does not depend on the order of the exchanges.
+/// An object has at most one schedule: leading instructions keep their order among themselves, and so do trailing ones,
+/// so which instructions pass each other does not depend on the order of the exchanges.
 pub fn schedules_are_equal()
     ensures { (o s t : Object) → IsSpellable o → IsScheduled o s → IsScheduled o t → s ≡ t }
 {}

@@ -312,7 +312,7 @@ fn explain_entry<P: Program>(page: &mut Page, program: &P, name: &str) -> Result
         page.say("has ")?;
         page.count(head.queue, "`pend` line")?;
     } else {
-        return page.say("wants a memory other than the one at the start\n");
+        return page.say("requires a memory other than the initial one\n");
     }
     page.say(", and must have none\n")
 }

@@ -52,7 +52,7 @@ impl Content {
             Content::Wide => "UTF-16 text",
             Content::Empty => "empty",
             Content::Binary => "a binary file",
-            Content::Unknown => "a text",
+            Content::Unknown => "plain text",
         }
     }
 
@@ -70,9 +70,9 @@ impl Content {
                 ": `talft compile`, `talft asm` and `tools/cc` make objects",
             Content::Source => ": `talft compile FILE >OBJECT` makes an object",
             Content::Assembly => ": `talft asm FILE >OBJECT` makes an object",
-            Content::List => ": it stands after `--faults`",
+            Content::List => ": pass it with `--faults`",
             Content::Map => ": `talft link FILE >OBJECT` makes an object",
-            Content::Script => ": `talft debug OBJECT <FILE` carries it out",
+            Content::Script => ": `talft debug OBJECT <FILE` runs it",
             Content::C => ": `tools/cc FILE -o OBJECT` makes an object",
             Content::Wasm => ": `tools/cc FILE -o OBJECT` makes an object",
             Content::Wide => ": save it as ASCII text",

@@ -81,7 +81,7 @@ fn say_store(page: &mut Page, machine: &Machine, rd: Reg, rs: Reg) -> Result<(),
             "r{number} is {word}, and the oldest store in the queue has the value {value}"
         ));
     }
-    page.say(format_args!("{to} is the address of no cell"))
+    page.say(format_args!("no cell has the address {to}"))
 }
 
 /// Says what a blue jump, or a blue branch that is taken, found.
@@ -113,7 +113,7 @@ fn say_found(page: &mut Page, machine: &Machine, instr: Instr) -> Result<(), NoM
             let number = rs.number();
             let address = machine.reg(rs).word;
             page.say(format_args!(
-                "r{number} is {address}, which is the address of no cell, and no answer of `--wild` is left"
+                "r{number} is {address}, no cell has that address, and no answer of `--wild` is left"
             ))
         }
         Instr::St {

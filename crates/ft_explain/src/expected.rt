@@ -226,7 +226,7 @@ fn habit_after(last: Kind, next: Kind) -> Option<&'static str> {
 }
 
 /// What is said of an array that begins with several values.
-const SAME_VALUE: &str = "all cells of an array begin with the same value";
+const SAME_VALUE: &str = "all cells of an array have the same initial value";
 
 /// What is wrong with the first value or with the length in the declaration of a cell.
 fn habit_of_cell(before: Before<'_>, next: Kind) -> Option<&'static str> {
@@ -235,9 +235,9 @@ fn habit_of_cell(before: Before<'_>, next: Kind) -> Option<&'static str> {
         Kind::Minus if last == Kind::Assign => {
             Some("numbers have no sign: -1 is 18446744073709551615 (2^64 - 1)")
         }
-        Kind::Name if matches!(last, Kind::Assign | Kind::LBracket) => Some("a number stands here"),
+        Kind::Name if matches!(last, Kind::Assign | Kind::LBracket) => Some("expected a number"),
         Kind::Plus | Kind::Minus | Kind::Star | Kind::Shl if before.assigned => {
-            Some("a cell begins with a number, and statements compute")
+            Some("a cell's initial value is a number: compute it in a statement")
         }
         _ => None,
     }
@@ -247,16 +247,16 @@ fn habit_of_cell(before: Before<'_>, next: Kind) -> Option<&'static str> {
 fn habit_inside(before: Before<'_>, next: Kind) -> Option<&'static str> {
     match (before.first, next) {
         (Some(Kind::Var), Kind::Assign) if before.count == 2 => {
-            Some("a variable gets its value by a statement: `var a; a = 3;`")
+            Some("assign a variable in a statement: `var a; a = 3;`")
         }
         (Some(Kind::Cell | Kind::Var), Kind::Number) if before.count == 1 => {
             Some("a name begins with a letter or `_`")
         }
         (Some(Kind::Cell | Kind::Var), Kind::Cell | Kind::Var | Kind::While | Kind::If | Kind::Else)
             if before.count == 1 => Some("a reserved word is not a name"),
-        (Some(Kind::Var), Kind::LBracket) => Some("an array is of cells: `cell a[4] = 0;`"),
+        (Some(Kind::Var), Kind::LBracket) => Some("only cells can be arrays: `cell a[4] = 0;`"),
         (Some(Kind::Cell), Kind::Semi) if !before.assigned => {
-            Some("a cell begins with a value, as in `cell a = 0;` or `cell a[4] = 0;`")
+            Some("a cell needs an initial value, as in `cell a = 0;` or `cell a[4] = 0;`")
         }
         (Some(Kind::Cell), Kind::LBrace) => Some(SAME_VALUE),
         (Some(Kind::Cell), _) => habit_of_cell(before, next),
@@ -272,11 +272,11 @@ pub(crate) fn habit(source: &[u8], at: usize) -> Option<&'static str> {
     let before = read_before(source, at);
     let next = kind_at(source, at)?;
     if next == Kind::RBrace && before.depth == 0 {
-        return Some("there is no `{` that it closes");
+        return Some("no matching `{`");
     }
     let last = before.last?;
     if next == Kind::RParen && before.open == 0 {
-        return Some("there is no `(` that it closes");
+        return Some("no matching `(`");
     }
     if next == Kind::Assign && last.kind == Kind::Less {
         return Some(AT_MOST);
@@ -340,9 +340,9 @@ pub(crate) fn instead_of(byte: u8) -> &'static str {
         b'!' => ": write `(a == b) == 0` for `a != b`",
         b'/' => ": comments begin with `#`, and there is no division",
         b'%' => ": there is no division",
-        b'"' | b'\'' => ": there are no texts and no characters, only numbers",
+        b'"' | b'\'' => ": there are no strings or characters, only numbers",
         b'.' => ": numbers are whole",
-        b':' => ": a block stands between `{` and `}`",
+        b':' => ": a block is written between `{` and `}`",
         b'~' => ": write `a ^ 18446744073709551615` for `~a`",
         b'?' => ": write `if (..) { .. } else { .. }`",
         0x80.. => ": the language is written in ASCII",

@@ -15,7 +15,7 @@ talft check five.obj",
 check an object and run it, with a fault or without
 talft run five.obj --fault 4:r1:6",
     "recover OBJECT [--steps N] [--fault STEP:SITE:WORD] [--wild LIST]
-run an object, and where a fault is detected run it again without the fault
+run an object; if a fault is detected, run it again without the fault
 talft recover five.obj --fault 4:r1:6",
     "exec SOURCE [--steps N]
 compile a source and run its object
@@ -30,10 +30,10 @@ talft campaign five.obj --faults five.faults",
 try each fault of a list on an object that need not be accepted
 talft survey mixed.obj --faults mixed.faults",
     "mean SOURCE [--turns N]
-write the outputs that a source means
+write the output that a source specifies
 talft mean fibonacci.src",
     "debug OBJECT [--wild LIST]
-carry out the debugger commands of standard input
+run debugger commands from standard input
 talft debug five.obj <five.script",
     "demo N
 make an object of N turns, run it and try 64 faults on it; N is 1 to 10921
@@ -58,7 +58,7 @@ talft link updown.map >updown.obj",
 /// The options: how each is written, and what it says.
 pub(crate) const OPTIONS: &[&str] = &[
     "--steps N                 run at most N steps: 0 to 1000000000, for campaign and survey 0 to 1000000 (default 1000000)",
-    "--turns N                 take at most N turns of loops: 0 to 1000000000 (default 1000000)",
+    "--turns N                 run at most N loop iterations: 0 to 1000000000 (default 1000000)",
     "--fault STEP:SITE:WORD    before step STEP, counted from 0, the word at SITE becomes WORD (default no fault);
                             SITE is r0 to r63, d, pcg, pcb, qa0 to qa7 or qv0 to qv7; numbers are decimal, below 2^64",
     "--wild LIST               answers to loads from addresses without a cell, separated by commas, each a number or `stop` (default none)",

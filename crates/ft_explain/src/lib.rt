@@ -1,9 +1,9 @@
-//! Calls, explained for people.
+//! Explains calls to people.
 //!
-//! `explain` gives what the program says on standard error: after a refused call the place in the file, the line
-//! there and what is wrong with it; after a run that was detected or cut what it met; and help. The crate
-//! promises no text. Each call is safe and ends, and `LastLine`, through which the program hears the refusal, is
-//! a sink as the one below it. The tests show the words of each refusal.
+//! `explain` returns what the program writes to standard error: after a refused call the place in the file,
+//! the line there and what is wrong with it; after a run that was detected or cut what it met; and help.
+//! The crate promises nothing about texts. Each call is safe and ends, and `LastLine`, which captures the
+//! refusal, behaves like the sink that it wraps. The tests show the words of each refusal.
 #![tactic(auto)]
 
 mod assembly;

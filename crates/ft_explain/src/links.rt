@@ -71,7 +71,7 @@ fn say_asked(page: &mut Page, word: &str, rest: &str) -> Result<(), NoMemory> {
         return say_misfit(page, block.as_bytes(), 4_294_967_295);
     }
     page.say(format_args!(
-        "expected `{word} NAME B`: a name is at most 32 letters, digits and `_`, and begins with no digit"
+        "expected `{word} NAME B`: a name is at most 32 letters, digits and `_`, and does not begin with a digit"
     ))
 }
 
@@ -86,10 +86,10 @@ fn say_misplaced(page: &mut Page, line: &str, modules: u64) -> Result<(), NoMemo
             page.say("a link map has at most 64 modules")
         }
         b"module" => page.say(
-            "expected `module FILE`: FILE is 1 to 255 visible characters, without a blank",
+            "expected `module FILE`: FILE is 1 to 255 printable characters without spaces",
         ),
         b"export" | b"import" if modules == 0 => {
-            page.say(format_args!("no `module` line stands before this `{first}`"))
+            page.say(format_args!("no `module` line precedes this `{first}`"))
         }
         b"export" | b"import" => say_asked(page, first, rest),
         _ => say_unknown(page, first),
@@ -129,8 +129,8 @@ fn code_words(instr: Instr) -> &'static str {
         Instr::BzG { .. } =>
             "no `mov` of this block gives its target register the address of a block, or it tests such an address",
         Instr::JmpB { .. } | Instr::BzB { .. } =>
-            "no `mov` of this block gives its target register the address of a block, or it hands such an address on",
-        _ => "it reads the address of a block, and is no jump or branch to it",
+            "no `mov` of this block gives its target register the address of a block, or it passes such an address on",
+        _ => "it reads the address of a block, but is not a jump or branch to it",
     }
 }
 

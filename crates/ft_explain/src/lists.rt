@@ -48,7 +48,9 @@ fn explain_line(page: &mut Page, name: &str, start: Place<'_>) -> Result<(), NoM
     let place = start.after(begun(start.line()));
     page.head_at(name, &place)?;
     if has_verdict(start.line()) {
-        page.say("a verdict follows the fault: a fault list has STEP:SITE:WORD alone\n")?;
+        page.say(
+            "this line has a verdict after the fault; a fault list has only STEP:SITE:WORD\n",
+        )?;
         return place.show(page, 1);
     }
     page.say("invalid fault: expected STEP:SITE:WORD; ")?;

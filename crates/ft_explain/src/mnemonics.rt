@@ -134,7 +134,7 @@ fn habit_of(word: &[u8]) -> &'static str {
     } else if word.ends_with(b":") {
         "there are no labels: `block TYPE` begins a block, and blocks are numbered from 0"
     } else if word.ends_with(b";") {
-        "a line ends without `;`"
+        "lines do not end with `;`"
     } else if word.starts_with(b".") {
         "there are no directives"
     } else {

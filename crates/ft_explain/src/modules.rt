@@ -118,5 +118,5 @@ pub(crate) fn explain_unaccepted<S: Shelf>(
         }
     }
     page.head(name)?;
-    page.say("a module is not accepted; `talft check` of each tells which\n")
+    page.say("a module is not accepted; run `talft check` on each to find it\n")
 }

@@ -31,13 +31,13 @@ fn value_of(bytes: &[u8]) -> u64 {
 pub(crate) fn rule(number: u64) -> &'static str {
     match number {
         1 => "this is not an object: it does not begin with TALFT and version 1 or 2",
-        2 => "the object does not have as many bytes as its header gives",
+        2 => "the object's size does not match its header",
         3 => "a count, a scope or a length is out of its range",
         4 => "padding, or a field that the record does not use, is not zero",
         5 => "a code is unknown, a type has more than 8 `ref`, or a node is of the wrong kind",
         6 => "a number refers to a part that does not exist, or that this part may not refer to",
         7 =>
-            "ends, starts or registers are not in ascending order, or a row or a byte belongs to nothing",
+            "ends, starts or registers are not in ascending order, or there is a stray row or byte",
         8 => "a cell's name is too long, has a byte that is not allowed, or is used twice",
         _ => "the entry block does not exist",
     }
@@ -45,7 +45,7 @@ pub(crate) fn rule(number: u64) -> &'static str {
 
 /// What is said of an object that was copied as a text.
 const AS_TEXT: &str =
-    "  a carriage return stands before each line feed, as when a text is copied: copy the object as binary\n";
+    "  each line feed has a carriage return before it, as after a copy in text mode: copy the object in binary mode\n";
 
 /// Whether bytes are as many too many as they have line feeds with a carriage return before.
 fn is_as_text(bytes: &[u8], wanted: usize) -> bool {
@@ -119,7 +119,7 @@ fn say_short(page: &mut Page, at: u64) -> Result<(), NoMemory> {
         0 => page.say("the file is empty\n"),
         1..48 => page.say(format_args!("the object has {at} bytes: its header alone has 48\n")),
         _ => page.say(format_args!(
-            "the object does not have as many bytes as its header gives: it differs at byte {at}\n"
+            "the object's size does not match its header: it differs at byte {at}\n"
         )),
     }
 }

@@ -150,7 +150,7 @@ fn habit_of(text: &[u8]) -> &'static str {
     } else if text.ends_with(b",") {
         "words are separated by spaces, without commas"
     } else if text.ends_with(b";") {
-        "a line ends without `;`"
+        "lines do not end with `;`"
     } else {
         ""
     }

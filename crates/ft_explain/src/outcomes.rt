@@ -98,7 +98,7 @@ fn say_detected<P: Program>(
 fn say_detected_late(page: &mut Page, run: &Run) -> Result<(), NoMemory> {
     begin(page, run.object)?;
     page.say(
-        "detected after more than 1000000 steps; `talft campaign` or `talft debug` tells at which\n",
+        "detected after more than 1000000 steps; `talft campaign` or `talft debug` shows the step\n",
     )
 }
 

@@ -60,8 +60,8 @@ pub(crate) fn premise(number: u64, instr: Instr) -> &'static str {
         1 => "a register that it reads has no type",
         2 => colours(instr),
         3 => basic_types(instr),
-        4 => "its address register holds no address of a cell (`ref`)",
-        5 => "its target register holds no address of a block (`code`)",
+        4 => "its address register does not hold the address of a cell (`ref`)",
+        5 => "its target register does not hold the address of a block (`code`)",
         6 => states(instr),
         7 => "eight stores are pending already",
         8 => "no green store waits for it",
@@ -74,6 +74,6 @@ pub(crate) fn premise(number: u64, instr: Instr) -> &'static str {
         15 => "the memory is not known to be what the target's code type expects",
         16 => "its substitution does not fit the integer variables of the target or of this block",
         17 => ends(instr),
-        _ => "the cells of its run do not all have one type, or have 8 `ref` already",
+        _ => "the cells of its run do not all have the same type, or that type has 8 `ref`",
     }
 }

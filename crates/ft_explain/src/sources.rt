@@ -185,7 +185,7 @@ fn rule(number: u64) -> &'static str {
     match number {
         2 => "a character is not part of the language, or a name has more than 32 bytes",
         3 => "a number is too large",
-        4 => "a token is unexpected there",
+        4 => "unexpected token",
         5 => "it is nested too deeply, or has too many operators",
         6 => "a name is declared twice",
         7 => "a name is not declared",

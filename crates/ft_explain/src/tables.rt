@@ -173,7 +173,7 @@ fn kind_words(breach: &Breach<'_>) -> &'static str {
 fn say_index(page: &mut Page, breach: &Breach<'_>) -> Result<(), NoMemory> {
     let line = breach.place.line();
     if breach.record.part == Part::Node && word(line, 2) == b"var".as_slice() {
-        return page.say("a variable's number is below the scope of its node");
+        return page.say("a variable's number must be below the scope of its node");
     }
     let value = number_in(breach.word()).unwrap_or(0);
     let (what, count) = breach.named();
@@ -225,7 +225,7 @@ fn name_words(name: &[u8]) -> &'static str {
     } else if !may_begin(name.first()) {
         "a name begins with a letter or `_`"
     } else if !name.iter().all(may_follow) {
-        "a name has letters, digits, `_`, `[` and `]` alone"
+        "a name has only letters, digits, `_`, `[` and `]`"
     } else {
         "an earlier cell has this name"
     }
@@ -316,7 +316,7 @@ fn explain_entry(page: &mut Page, name: &str, text: &[u8], counts: Header) -> Re
 /// Explains why the tables that an assembly text means are refused, where the text is not there or no line is known.
 fn explain_unplaced(page: &mut Page, name: &str, number: u64, at: u64) -> Result<(), NoMemory> {
     page.head(name)?;
-    page.say("the text makes no object: ")?;
+    page.say("the text is not a valid object: ")?;
     page.say(rule(number))?;
     page.say(format_args!("\n  at byte {at} of its tables in version 2 of the object format\n"))
 }

@@ -106,7 +106,7 @@ fn say_extra(page: &mut Page, command: &'static str, word: &str) -> Result<(), N
         b"link" => page.say("a link map is a text with a line `module FILE` for each object"),
         b"campaign" | b"survey" => page.say("the fault list comes after `--faults`"),
         b"debug" => page.say("commands come from standard input"),
-        _ => page.say(format_args!("a call takes one {operand}")),
+        _ => page.say(format_args!("give only one {operand}")),
     }
 }
 

@@ -1,4 +1,4 @@
-//! What is said of assembly texts that are refused.
+//! Explanations of refused assembly texts.
 use crate::calls::{check_said, check_told};
 use std::test::Fail;
 
@@ -70,7 +70,7 @@ const TEXTS: &[(&str, &str)] = &[
     ),
     (
         "halt;\n",
-        "file:1:1: error: unexpected `halt;`: a line ends without `;`\n halt;\n ^~~~~\n",
+        "file:1:1: error: unexpected `halt;`: lines do not end with `;`\n halt;\n ^~~~~\n",
     ),
     (
         "cell out int\n",
@@ -151,7 +151,7 @@ const TABLES: &[(&str, &str)] = &[
     ),
     (
         "# a comment\nnode 0 memory\n\nnode 0 var 3\ntype 0 0\nblock 0\nhalt\nentry 0\n",
-        "file:4:12: error: invalid `3`: a variable's number is below the scope of its node\n node 0 var 3\n            ^\n",
+        "file:4:12: error: invalid `3`: a variable's number must be below the scope of its node\n node 0 var 3\n            ^\n",
     ),
     (
         "node 0 memory\ntype 0 7\nblock 0\nhalt\nentry 0\n",

@@ -1,4 +1,4 @@
-//! Calls of the tool over files in memory, with what is said of them.
+//! Calls of the tool over files in memory, with their explanations.
 use ft_edge::{MemShelf, MemSink, SureSource};
 use ft_explain::{Found, LastLine, Look, explain};
 use std::test::Fail;

@@ -1,4 +1,4 @@
-//! What is said of objects that are not accepted.
+//! Explanations of objects that are not accepted.
 use crate::calls::check_altered;
 use ft_worked_objects::{
     A, A2, I, J, N, P1, P3, P4, P5, P6, P8, P9, P11, P12, P13, P14, P15, P16, P17, X2,
@@ -38,12 +38,12 @@ const REFUSED: &[Refused] = &[
     (
         P4,
         &[],
-        "file: error: block 0, instruction 4: its address register holds no address of a cell (`ref`) (premise 4)\n  st_G r1 r0\n  r1: G int\n  r0: G ref:int\n",
+        "file: error: block 0, instruction 4: its address register does not hold the address of a cell (`ref`) (premise 4)\n  st_G r1 r0\n  r1: G int\n  r0: G ref:int\n",
     ),
     (
         P5,
         &[],
-        "file: error: block 0, instruction 4: its target register holds no address of a block (`code`) (premise 5)\n  jmp_G r1\n  r1: G int\n",
+        "file: error: block 0, instruction 4: its target register does not hold the address of a block (`code`) (premise 5)\n  jmp_G r1\n  r1: G int\n",
     ),
     (
         P6,
@@ -113,7 +113,7 @@ const REFUSED: &[Refused] = &[
     (
         I,
         &[(68, 1), (77, 0x10)],
-        "file: error: block 0, instruction 1: the cells of its run do not all have one type, or have 8 `ref` already (premise 18)\n  idx r1 r0 0 3\n  r0: G int\n",
+        "file: error: block 0, instruction 1: the cells of its run do not all have the same type, or that type has 8 `ref` (premise 18)\n  idx r1 r0 0 3\n  r0: G int\n",
     ),
 ];
 

@@ -1,4 +1,4 @@
-//! What is said of links that are refused, by status and line.
+//! Explanations of refused links, by status and line.
 use crate::calls::check_told;
 use ft_worked_objects::{A, A2};
 use std::test::Fail;
@@ -6,12 +6,12 @@ use std::test::Fail;
 /// A map of two modules.
 const MAP: &str = "module m\nimport go 1\nmodule a\nexport go 0\n";
 
-/// Maps, the line of a refusal, and what is said where the modules are not there.
+/// Maps, the line of a refusal, and its explanation if the modules do not exist.
 const MAPS: &[(&str, &str, &str)] = &[
     (
         "import go 1\nmodule a\n",
         "link 1 1\n",
-        "map:1:1: error: no `module` line stands before this `import`\n import go 1\n ^~~~~~~~~~~\n",
+        "map:1:1: error: no `module` line precedes this `import`\n import go 1\n ^~~~~~~~~~~\n",
     ),
     (
         "module m\nimports go 1\n",
@@ -81,7 +81,7 @@ const MAPS: &[(&str, &str, &str)] = &[
     ),
 ];
 
-/// Maps whose line 2 is none of a map, each with what is said of it.
+/// Maps with an invalid line 2, each with its explanation.
 const LINES: &[(&str, &str)] = &[
     (
         "module m\nexport go\n",
@@ -93,7 +93,7 @@ const LINES: &[(&str, &str)] = &[
     ),
     (
         "module m\nexport 2go 1\n",
-        "map:2:1: error: expected `export NAME B`: a name is at most 32 letters, digits and `_`, and begins with no digit\n export 2go 1\n ^~~~~~~~~~~~\n",
+        "map:2:1: error: expected `export NAME B`: a name is at most 32 letters, digits and `_`, and does not begin with a digit\n export 2go 1\n ^~~~~~~~~~~~\n",
     ),
     (
         "module m\nexport go 1\r\n",
@@ -172,12 +172,12 @@ const MODULES: &[(u8, &str, &str)] = &[
     (
         8,
         "check block 0 index 3 premise 2\n",
-        "map: error: a module is not accepted; `talft check` of each tells which\n",
+        "map: error: a module is not accepted; run `talft check` on each to find it\n",
     ),
     (
         8,
         "check cell 2\n",
-        "map: error: a module is not accepted; `talft check` of each tells which\n",
+        "map: error: a module is not accepted; run `talft check` on each to find it\n",
     ),
     (
         3,
@@ -213,7 +213,7 @@ fn refused_modules_are_explained(rt: HostRuntime) -> Result<(), Fail> {
 fn an_instruction_that_is_not_linked_is_shown(rt: HostRuntime) -> Result<(), Fail> {
     let files: &[(&str, &[u8])] = &[("map", MAP.as_bytes()), ("m", A2)];
     let text =
-        "m: error: block 0, instruction 3: it reads the address of a block, and is no jump or branch to it\n  add r33 r1 B 0\n";
+        "m: error: block 0, instruction 3: it reads the address of a block, but is not a jump or branch to it\n  add r33 r1 B 0\n";
     check_told(&rt, "link map", 13, "link 5 0 0 3\n", files, text)?;
     let text = "map: error: cannot be read\n";
     check_told(&rt, "link map", 3, "", &[], text)

@@ -1,4 +1,4 @@
-//! What is said of fault lists, campaigns and scripts that are refused, and of files that cannot be read.
+//! Explanations of refused fault lists, campaigns and scripts, and of files that cannot be read.
 use crate::calls::{check_said, check_told};
 use ft_tests::repeated;
 use ft_worked_objects::A;
@@ -30,7 +30,7 @@ fn a_campaign_that_is_too_long_is_explained(rt: HostRuntime) -> Result<(), Fail>
     )
 }
 
-/// Lines of a list that are no fault, each with what is said.
+/// Lines of a list that are not faults, each with its explanation.
 const LINES: &[(&str, &str)] = &[
     (
         "4:r1:6\r\n",
@@ -69,6 +69,10 @@ const LINES: &[(&str, &str)] = &[
         "list:1:5: error: invalid fault: expected STEP:SITE:WORD; the word is missing\n 4:r1\n     ^\n",
     ),
     (
+        "4:r1:6\tmasked\n",
+        "list:1:7: error: this line has a verdict after the fault; a fault list has only STEP:SITE:WORD\n 4:r1:6\tmasked\n       ^\n",
+    ),
+    (
         "4:r1 \t:6\n",
         "list:1:5: error: invalid fault: expected STEP:SITE:WORD; invalid site `r1 \t`: it contains a tab\n 4:r1 \t:6\n     ^\n",
     ),
@@ -91,7 +95,7 @@ fn lines_that_are_no_command_are_explained(rt: HostRuntime) -> Result<(), Fail> 
     check_told(&rt, "debug file", 0, "", &[("script", script)], text)
 }
 
-/// Calls by words, status and line, each with what is said where only the object is there.
+/// Calls by words, status and line, each with its explanation if only the object exists.
 const TOLD: &[(&str, u8, &str, &str)] = &[
     (
         "campaign file --faults list",

@@ -1,4 +1,4 @@
-//! What is said of bytes that spell no object.
+//! Explanations of bytes that spell no object.
 use crate::calls::{check_altered, check_said, check_told};
 use ft_worked_objects::A;
 use std::test::Fail;
@@ -33,7 +33,7 @@ const ALTERED: &[(usize, u8, &str)] = &[
     (
         99,
         0x01,
-        "file: error: ends, starts or registers are not in ascending order, or a row or a byte belongs to nothing\n  byte 96, block 0: its first instruction, 1\n",
+        "file: error: ends, starts or registers are not in ascending order, or there is a stray row or byte\n  byte 96, block 0: its first instruction, 1\n",
     ),
     (
         216,
@@ -65,7 +65,7 @@ fn lengths_are_explained(rt: HostRuntime) -> Result<(), Fail> {
     check_told(&rt, "dis file", 7, "object 2 67108864\n", &[], text)
 }
 
-/// Files that are no objects, each with what is said.
+/// Files that are not objects, each with its explanation.
 const OTHERS: &[(&[u8], &str)] = &[
     (
         b"cell out = 0;\n",
@@ -77,7 +77,7 @@ const OTHERS: &[(&[u8], &str)] = &[
     ),
     (
         b"4:r1:6\n",
-        "file: error: this is a fault list, not an object: it stands after `--faults`\n",
+        "file: error: this is a fault list, not an object: pass it with `--faults`\n",
     ),
     (
         b"module a.obj\n",
@@ -85,7 +85,7 @@ const OTHERS: &[(&[u8], &str)] = &[
     ),
     (
         b"step 4\n",
-        "file: error: this is a debugger script, not an object: `talft debug OBJECT <FILE` carries it out\n",
+        "file: error: this is a debugger script, not an object: `talft debug OBJECT <FILE` runs it\n",
     ),
     (
         b"\0asm\x01\0\0\0",
@@ -97,7 +97,7 @@ const OTHERS: &[(&[u8], &str)] = &[
     ),
     (
         b"hello\n",
-        "file: error: this is a text, not an object: `talft compile`, `talft asm` and `tools/cc` make objects\n",
+        "file: error: this is plain text, not an object: `talft compile`, `talft asm` and `tools/cc` make objects\n",
     ),
     (b"", "file: error: the file is empty\n"),
 ];

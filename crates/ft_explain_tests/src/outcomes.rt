@@ -1,4 +1,4 @@
-//! What is said of runs that are no plain success.
+//! Explanations of runs other than plain success.
 use crate::calls::check_said;
 use ft_worked_objects::A;
 use std::test::Fail;

@@ -1,4 +1,4 @@
-//! What is said of sources that are refused.
+//! Explanations of refused sources.
 use crate::calls::check_said;
 use ft_tests::{declared, repeated};
 use std::test::Fail;
@@ -55,7 +55,7 @@ const SOURCES: &[(&str, &str)] = &[
     ),
     (
         "var a = 3;",
-        "file:1:7: error: unexpected `=`: a variable gets its value by a statement: `var a; a = 3;`\n var a = 3;\n       ^\n",
+        "file:1:7: error: unexpected `=`: assign a variable in a statement: `var a; a = 3;`\n var a = 3;\n       ^\n",
     ),
     (
         "var a; a++;",
@@ -119,7 +119,7 @@ const SOURCES: &[(&str, &str)] = &[
 const HABITS: &[(&str, &str)] = &[
     (
         "cell a[4];",
-        "file:1:10: error: unexpected `;`: a cell begins with a value, as in `cell a = 0;` or `cell a[4] = 0;`\n cell a[4];\n          ^\n",
+        "file:1:10: error: unexpected `;`: a cell needs an initial value, as in `cell a = 0;` or `cell a[4] = 0;`\n cell a[4];\n          ^\n",
     ),
     (
         "cell out = 0; while (out = 1) { }",
@@ -131,7 +131,7 @@ const HABITS: &[(&str, &str)] = &[
     ),
     (
         "cell a = 0; }",
-        "file:1:13: error: unexpected `}`: there is no `{` that it closes\n cell a = 0; }\n             ^\n",
+        "file:1:13: error: unexpected `}`: no matching `{`\n cell a = 0; }\n             ^\n",
     ),
     (
         "cell a = 1.5;",
@@ -139,11 +139,11 @@ const HABITS: &[(&str, &str)] = &[
     ),
     (
         "cell a = 'x';",
-        "file:1:10: error: unexpected character `'`: there are no texts and no characters, only numbers\n cell a = 'x';\n          ^\n",
+        "file:1:10: error: unexpected character `'`: there are no strings or characters, only numbers\n cell a = 'x';\n          ^\n",
     ),
     (
         "var a; while (a < 3): a = 1;",
-        "file:1:21: error: unexpected character `:`: a block stands between `{` and `}`\n var a; while (a < 3): a = 1;\n                     ^\n",
+        "file:1:21: error: unexpected character `:`: a block is written between `{` and `}`\n var a; while (a < 3): a = 1;\n                     ^\n",
     ),
     (
         "var a; for (a = 0; a < 3; a = a + 1) { }",
@@ -187,7 +187,7 @@ const HABITS: &[(&str, &str)] = &[
     ),
 ];
 
-/// Sources of a text and so many copies of another, each with what is said of it.
+/// Sources of a text and a number of copies of another, each with its explanation.
 const REPEATED: &[(&str, &str, u32, &str)] = &[
     (
         "",

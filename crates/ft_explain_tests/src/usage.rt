@@ -1,4 +1,4 @@
-//! What is said of words that are no command.
+//! Explanations of words that are not a command.
 use crate::calls::check_said;
 use std::test::Fail;
 
@@ -14,7 +14,7 @@ const WORDS: &[(&str, &str)] = &[
     ),
     (
         "check a b",
-        "talft: error: unexpected argument `b` after OBJECT: a call takes one OBJECT\nusage: talft check OBJECT\n",
+        "talft: error: unexpected argument `b` after OBJECT: give only one OBJECT\nusage: talft check OBJECT\n",
     ),
     (
         "exec a --steps 3 --steps 4",
@@ -87,7 +87,7 @@ const WORDS: &[(&str, &str)] = &[
     ("check ", "talft: error: the name of the file is empty\n"),
     (
         "check a aaaaaaaaaabbbbbbbbbbccccccccccddddddddddeeeee",
-        "talft: error: unexpected argument `aaaaaaaaaabbbbbbbbbbccccccccccdddddddddd..` after OBJECT: a call takes one OBJECT\nusage: talft check OBJECT\n",
+        "talft: error: unexpected argument `aaaaaaaaaabbbbbbbbbbccccccccccdddddddddd..` after OBJECT: give only one OBJECT\nusage: talft check OBJECT\n",
     ),
     ("--version", "talft 0.9.0\n"),
     (

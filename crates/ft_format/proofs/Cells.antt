@@ -28,7 +28,7 @@ use Rattle.ft_format.proofs.Codes.{le_held, lt_held, eq_held, le_true, lt_true, 
 use Rattle.ft_format.proofs.Codes.{basic_back, base_small, type_small}
 use Rattle.ft_format.proofs.Versions.{letter_follows, are_bytes_of_name}
 
--- what is asked of a cell, but for the bytes of its name
+-- the rules of a cell, but for the bytes of its name
 pub record IsCellBut (v : Version) (types : ℕ) (c : Cell) : Type 0 where
   pub some : 0 < length c.name
   pub name_length : length c.name ≤ longest_name v
@@ -40,7 +40,7 @@ same_five : {a b c d e a' b' c' d' e' : ℕ} → a ≡ a' → b ≡ b' → c ≡
     ◌≡◌ {A = List ℕ} (a ∷ b ∷ c ∷ d ∷ e ∷ []) (a' ∷ b' ∷ c' ∷ d' ∷ e' ∷ [])
 same_five p q r s t = rw (p, q, r, s, t) refl
 
--- what a cell's record that breaks no rule stands for
+-- what a cell's record stands for, if it breaks no rule
 pub record CellAgain (h : Header) (names : List ℕ) (start : ℕ) (row : List ℕ) : Type 0 where
   pub written : cell_row (past_of row) (cell_of names start row) ≡ row
   pub cell : IsCellBut (version_of h) h.types (cell_of names start row)
@@ -82,7 +82,7 @@ cell_again h names start at (a ∷ b ∷ c ∷ []) all fit n = absurd fit.1.1.1
 cell_again h names start at (a ∷ b ∷ c ∷ d ∷ []) all fit n = absurd fit.1.1.1.1
 cell_again h names start at (a ∷ b ∷ c ∷ d ∷ e ∷ z ∷ zs) all fit n = absurd fit.1.1.1.1.1
 
--- what records of cells that break no rule stand for
+-- what records of cells stand for, if they break no rule
 pub record CellsAgain (h : Header) (names : List ℕ) (start : ℕ) (rs : List (List ℕ)) : Type 0 where
   pub written : cell_rows start (cells_of names start rs) ≡ rs
   pub cells : AllByRecursion (IsCellBut (version_of h) h.types) (cells_of names start rs)

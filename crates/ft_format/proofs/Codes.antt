@@ -57,36 +57,31 @@ pub eq_false : (n m : ℕ) → (n ≡ m → ⊥) → (n == m) ≡ false
 eq_false n m h = grind (arith, nat_tests)
 
 -- a number of so few, case by case
-pub up_to_1 : (P : ℕ → Type 0) → P 0 → P 1 → (n : ℕ) → n ≤ 1 → P n
-up_to_1 P a b zero h = a
-up_to_1 P a b (suc zero) h = b
-up_to_1 P a b (suc (suc n)) h = absurd (omega arith)
+-- R, given this of each number up to n
+abbrev pub Given : (ℕ → Type 0) → ℕ → Type 0 → Type 0
+Given P zero R = P 0 → R
+Given P (suc n) R = P 0 → Given (λ k. P (suc k)) n R
 
-pub up_to_6 : (P : ℕ → Type 0) → P 0 → P 1 → P 2 → P 3 → P 4 → P 5 → P 6 → (n : ℕ) → n ≤ 6 → P n
-up_to_6 P a b c d e f g zero h = a
-up_to_6 P a b c d e f g (suc zero) h = b
-up_to_6 P a b c d e f g (suc (suc zero)) h = c
-up_to_6 P a b c d e f g (suc (suc (suc zero))) h = d
-up_to_6 P a b c d e f g (suc (suc (suc (suc zero)))) h = e
-up_to_6 P a b c d e f g (suc (suc (suc (suc (suc zero))))) h = f
-up_to_6 P a b c d e f g (suc (suc (suc (suc (suc (suc zero)))))) h = g
-up_to_6 P a b c d e f g (suc (suc (suc (suc (suc (suc (suc n))))))) h = absurd (omega arith)
+given_more : (P : ℕ → Type 0) (n : ℕ) (R S : Type 0) → (R → S) → Given P n R → Given P n S
+given_more P zero R S f g = λ a. f (g a)
+given_more P (suc n) R S f g = λ a. given_more (λ k. P (suc k)) n R S f (g a)
 
-pub up_to_8 : (P : ℕ → Type 0) → P 0 → P 1 → P 2 → P 3 → P 4 → P 5 → P 6 → P 7 → P 8 → (n : ℕ) → n ≤ 8 → P n
-up_to_8 P a b c d e f g k l zero h = a
-up_to_8 P a b c d e f g k l (suc zero) h = b
-up_to_8 P a b c d e f g k l (suc (suc zero)) h = c
-up_to_8 P a b c d e f g k l (suc (suc (suc zero))) h = d
-up_to_8 P a b c d e f g k l (suc (suc (suc (suc zero)))) h = e
-up_to_8 P a b c d e f g k l (suc (suc (suc (suc (suc zero))))) h = f
-up_to_8 P a b c d e f g k l (suc (suc (suc (suc (suc (suc zero)))))) h = g
-up_to_8 P a b c d e f g k l (suc (suc (suc (suc (suc (suc (suc zero))))))) h = k
-up_to_8 P a b c d e f g k l (suc (suc (suc (suc (suc (suc (suc (suc zero)))))))) h = l
-up_to_8 P a b c d e f g k l (suc (suc (suc (suc (suc (suc (suc (suc (suc n))))))))) h = absurd (omega arith)
+first_or : (P : ℕ → Type 0) (n : ℕ) → P 0 → ((k : ℕ) → k ≤ n → P (suc k)) → (k : ℕ) → k ≤ suc n → P k
+first_or P n a f zero l = a
+first_or P n a f (suc k) l = f k (omega arith)
+
+only : (P : ℕ → Type 0) → P 0 → (k : ℕ) → k ≤ 0 → P k
+only P a zero l = a
+only P a (suc k) l = absurd (omega arith)
+
+pub up_to : (P : ℕ → Type 0) (n : ℕ) → Given P n ((k : ℕ) → k ≤ n → P k)
+up_to P zero = only P
+up_to P (suc n) = λ a. given_more (λ k. P (suc k)) n ((k : ℕ) → k ≤ n → P (suc k)) ((k : ℕ) → k ≤ suc n → P k)
+    (first_or P n a) (up_to (λ k. P (suc k)) n)
 
 -- colours
 pub colour_again : (at n : ℕ) → colour_broken at n ≡ None → colour_code (colour_of n) ≡ n
-colour_again at n h = up_to_1 (λ k. colour_code (colour_of k) ≡ k) refl refl n (le_held n 1 (errors.Kind at) h)
+colour_again at n h = up_to (λ k. colour_code (colour_of k) ≡ k) 1 refl refl n (le_held n 1 (errors.Kind at) h)
 
 pub colour_back : (c : Colour) → colour_of (colour_code c) ≡ c
 colour_back Green = refl
@@ -140,8 +135,8 @@ pub record BasicAgain (types refs base code_type : ℕ) : Type 0 where
 
 code_type_again : (types at refs : ℕ) → refs ≤ 8 → (base : ℕ) → base ≤ 1 → (code_type : ℕ) →
     code_type_broken types at base code_type ≡ None → BasicAgain types refs base code_type
-code_type_again types at refs few = up_to_1 (λ base. (code_type : ℕ) → code_type_broken types at base code_type ≡ None →
-    BasicAgain types refs base code_type)
+code_type_again types at refs few = up_to (λ base. (code_type : ℕ) → code_type_broken types at base code_type ≡ None →
+    BasicAgain types refs base code_type) 1
     (λ t h. record { basic = record { refs = few; base = tt }; code = refl; own = sym (eq_held t 0 (errors.Pad at) h) })
     (λ t h. record {
       basic = record { refs = few; base = lt_held t types (errors.Index at) h };

@@ -1,7 +1,7 @@
 -- Numbers of eight bytes, put by their halves.
 use Rattle.std.proofs.Common.{◌≡◌, ℕ, ◌+◌, ◌*◌, ◌<◌, ◌^◌, [], ◌∷◌, ◌++◌, refl, append_assoc, arith}
 use Rattle.std.proofs.lemmas.List.{append-nil}
-use Rattle.std.specs.Int.{w8, w32, w64, to_be_bytes, byte_at}
+use Rattle.std.specs.Int.{w8, w32, w64, byte_at}
 use Rattle.ft_types.specs.NodeRows.{joined, row_words}
 use Rattle.ft_format.specs.Layout.{bytes_of, written, code_layout}
 

@@ -36,7 +36,7 @@ abbrev pub AreNarrow : List Width → Type 0
 AreNarrow [] = Unit {0}
 AreNarrow (w ∷ ws) = IsNarrow w × AreNarrow ws
 
--- what stands before and after a place among bytes is bytes
+-- before and after a place among bytes there are bytes
 pub bytes_before : (k : ℕ) (bs : List ℕ) → AreBytes bs → AreBytes (take k bs)
 bytes_before zero bs h i = omega arith
 bytes_before (suc k) [] h i = omega arith
@@ -151,7 +151,7 @@ numbers_again (w ∷ ws) bs s h le =
     rw (number_again w bs s.0 h first, numbers_again ws rest s.1 (bytes_after (byte_len w) bs h) left)
     (take_plus (byte_len w) (size ws) bs)
 
--- so many records, one more
+-- n records, and one more
 pub rows_more : (ws : List Width) (m n : ℕ) (bs : List ℕ) → m ≡ suc n → rows ws m bs
     ≡ numbers ws (take (size ws) bs) ∷ rows ws n (drop (size ws) bs)
 unfolding rows

@@ -1,7 +1,9 @@
 pub mod Cells
 pub mod Codes
 pub mod Halves
-pub mod Instrs
+pub mod InstrsAgain
+pub mod InstrsBack
+pub mod InstrsFine
 pub mod Layouts
 pub mod Loops
 pub mod NameBytes
@@ -11,7 +13,9 @@ pub mod ReadWhole
 pub mod References
 pub mod Shapes
 pub mod SmallRows
+pub mod SpelledAgain
 pub mod SpelledBytes
+pub mod SpelledSections
 pub mod Substitutions
 pub mod Types
 pub mod Unbroken

@@ -8,7 +8,7 @@ use Rattle.ft_format.specs.Layout.{size, numbers, rows}
 use Rattle.ft_format.specs.Rules.{◌next◌}
 use Rattle.ft_format.proofs.Layouts.{rows_more, rows_none}
 
--- the rows from here on, by the first of them
+-- the rows from here, by the first of them
 first_row : (ws : List Width) (m n : ℕ) (bs row : List ℕ) → m ≡ suc n → row ≡ numbers ws (take (size ws) bs) →
     rows ws m bs ≡ row ∷ rows ws n (drop (size ws) bs)
 first_row ws m n bs row e is = rows_more ws m n bs e ∙ ap (λ r. r ∷ rows ws n (drop (size ws) bs)) (sym is)
@@ -55,7 +55,7 @@ pub given : {A : Type 0} (ws : List Width) (m : ℕ) (bs : List ℕ) (done all :
 given ws m bs done all values e none h = sym (append-nil done)
     ∙ ap (λ l. done ++ l) (sym (ap values (rows_none ws m bs e) ∙ none)) ∙ h
 
--- what another value than a row tells, of all rows
+-- what a value other than a row shows, of all rows
 pub follows : {A : Type 0} (ws : List Width) (m n : ℕ) (bs row : List ℕ) (all : A) (tells after : List (List ℕ) → A)
     → m ≡ suc n → row ≡ numbers ws (take (size ws) bs) → ((rest : List (List ℕ)) → tells (row ∷ rest) ≡ after rest)
     → tells (rows ws m bs) ≡ all → after (rows ws n (drop (size ws) bs)) ≡ all
@@ -63,7 +63,7 @@ follows ws m n bs row all tells after e is more h =
     let rest = rows ws n (drop (size ws) bs) in
     sym (ap tells (first_row ws m n bs row e is) ∙ more rest) ∙ h
 
--- the bytes after so many records of a size, one record later
+-- the bytes after n records of a size, one record later
 pub past_more : (size i : ℕ) (bytes rest : List ℕ) → rest ≡ drop (size * i) bytes → drop size rest
     ≡ drop (size * (i + 1)) bytes
 past_more size i bytes rest h =

@@ -8,7 +8,6 @@ use Rattle.ft_static.specs.declared.node.Node.{Node}
 use Rattle.ft_static.specs.declared.node.Shape.{Shape}
 use Rattle.ft_static.specs.declared.node.Shape.TheVariants.{Word, Var, Op as OpNode, Sel, Memory, Upd, Rem}
 use Rattle.ft_static.specs.NodeRules.{IsLength, MayName, IsShape, IsNode}
-use Rattle.ft_isa.specs.Operations.{op_code}
 use Rattle.ft_isa.proofs.Operations.{op_back}
 use Rattle.ft_types.specs.NodeRows.{shape_row, node_row}
 use Rattle.ft_format.specs.declared.object_error.ObjectError.TheVariants as errors
@@ -23,12 +22,12 @@ use Rattle.ft_format.specs.Fits.{Is8, Is32, FitsShape}
 use Rattle.ft_format.specs.Broken.{nodes_broken}
 use Rattle.ft_format.proofs.Layouts.{Fit, AllFit}
 use Rattle.ft_format.proofs.Unbroken.{both, each}
-use Rattle.ft_format.proofs.Codes.{le_held, lt_held, zero_again, le_true, lt_true, up_to_6, op_again, op_fine}
+use Rattle.ft_format.proofs.Codes.{le_held, lt_held, zero_again, le_true, lt_true, up_to, op_again, op_fine}
 use Rattle.ft_format.proofs.Codes.{high_back, low_back, word_back}
 use Rattle.ft_format.proofs.Versions.{few_node_kinds, has_node_kind, has_op}
 use Rattle.ft_format.proofs.References.{named_again, named_fine, named_after, named_before}
 
--- what a record that breaks no rule stands for
+-- what a record stands for, if it breaks no rule
 pub record NodeAgain (v : Version) (earlier : List Node) (row : List ℕ) : Type 0 where
   pub written : node_row (node_of row) ≡ row
   pub node : IsNode earlier (length earlier) (node_of row)
@@ -154,8 +153,8 @@ node_again v earlier at (kind ∷ op ∷ scope ∷ pad ∷ a ∷ b ∷ c ∷ [])
     let few = le_held scope 128 (errors.Count (at + 2)) r.1.1.0 in
     let no_pad = zero_again (at + 3) pad r.1.1.1.0 in
     let has : kind ≤ last_node_kind v = le_held kind (last_node_kind v) (errors.Kind at) r.0 in
-    up_to_6 (λ k. k ≤ last_node_kind v → node_op_broken v (at + 1) k op ≡ None → parts_broken earlier at k scope a b c
-    ≡ None → NodeAgain v earlier (k ∷ op ∷ scope ∷ pad ∷ a ∷ b ∷ c ∷ []))
+    up_to (λ k. k ≤ last_node_kind v → node_op_broken v (at + 1) k op ≡ None → parts_broken earlier at k scope a b c
+    ≡ None → NodeAgain v earlier (k ∷ op ∷ scope ∷ pad ∷ a ∷ b ∷ c ∷ [])) 6
     (λ le. node_0 v earlier at op scope pad a b c few no_pad fit.1.1.1.1.1.0 fit.1.1.1.1.1.1.0)
     (λ le. node_1 v earlier at op scope pad a b c few no_pad)
     (λ le. node_2 v earlier at op scope pad a b c few no_pad)

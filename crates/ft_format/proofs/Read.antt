@@ -85,7 +85,7 @@ header_again h n =
       entry = lt_held h.entry h.blocks (errors.Entry 44) r10.1;
     }
 
--- a section's records, and the bytes from the next section on
+-- a section's records, and the bytes from the next section
 pub section : (ws : List Width) (at n : ℕ) (bytes : List ℕ) → AreNarrow ws → AreBytes bytes →
     at + size ws * n ≤ length bytes
     → drop at bytes ≡ spelled ws (rows ws n (drop at bytes)) ++ drop (at + size ws * n) bytes
@@ -130,7 +130,7 @@ named_cells v types (c ∷ cs) p q = (
   named_cells v types cs p.1 q.1,
 )
 
--- the types with their rows, from the first row on
+-- the types with their rows, from the first row
 pub record TypesRead (h : Header) (nodes : List Node) (trs : List (List ℕ)) (rb qb : List ℕ) (k l : ℕ) : Type 0 where
   pub are : TypesAre h nodes 0 0 trs (map reg_type_of (rows reg_layout k rb)) (map pair_of (rows pair_layout l qb))
       (types_of 0 0 trs (map reg_type_of (rows reg_layout k rb)) (map pair_of (rows pair_layout l qb)))

@@ -34,7 +34,7 @@ use Rattle.ft_format.proofs.Unbroken.{both}
 use Rattle.ft_format.proofs.Codes.{le_held, eq_held}
 use Rattle.ft_format.proofs.References.{AreNarrowNodes}
 use Rattle.ft_format.proofs.Nodes.{nodes_again, each_node}
-use Rattle.ft_format.proofs.Instrs.{instrs_again}
+use Rattle.ft_format.proofs.InstrsAgain.{instrs_again}
 use Rattle.ft_format.proofs.SmallRows.{blocks_again, begins_at_zero, substs_again}
 use Rattle.ft_format.proofs.Cells.{cells_again, names_again}
 use Rattle.ft_format.proofs.Read.{IsHeader, header_again, section, length_cells_of, length_types_of, whole_cells}

@@ -1,4 +1,4 @@
--- Lists of so many numbers.
+-- Lists of a given length.
 use Rattle.std.proofs.Common.{◌≡◌, ℕ, List, [], ◌∷◌, length, arith}
 
 -- a list of 5 numbers

@@ -24,7 +24,7 @@ use Rattle.ft_format.proofs.Codes.{basic_back, colour_small, base_small, type_sm
 use Rattle.ft_format.proofs.References.{AreNarrowNodes, number_again, number_fine, named_again, named_fine}
 use Rattle.ft_format.proofs.Nodes.{same_seven}
 
--- what a register row that breaks no rule stands for
+-- what a register row stands for, if it breaks no rule
 pub record RegAgain (types : ℕ) (nodes : List Node) (ints least : ℕ) (row : List ℕ) : Type 0 where
   pub written : reg_row (reg_type_of row) ≡ row
   pub reg : IsRegRow types nodes ints (reg_type_of row)
@@ -184,7 +184,7 @@ queue_fine nodes ints at (q ∷ qs) k h =
       fit = ((omega (arith, h.0.address.lower), (omega (arith, h.0.value.lower), tt)), after.fit);
     }
 
--- where a block may begin at the least
+-- where a block may begin at the earliest
 abbrev pub least_after : Option ℕ → ℕ
 least_after None = 0
 least_after (Some previous) = suc previous
@@ -262,7 +262,7 @@ blocks_fine h at (b ∷ bs) p m k a t =
       fit = ((omega (arith, a.1), (omega (arith, t.0), tt)), after.fit);
     }
 
--- the same from the first block on, which begins at 0
+-- the same from the first block, which begins at 0
 pub all_blocks_fine : (h : Header) (at : ℕ) (bs : List Block) → h.types ≤ 4096 → h.instrs ≤ 65536 → BeginAtZero bs →
     AreBlocks h.instrs 0 bs → AllByRecursion (HasCodeType h.types) bs → BlocksFine h None at bs
 unfolding blocks_broken

@@ -1,4 +1,4 @@
--- What follows where no rule is broken.
+-- What follows if no rule is broken.
 use Rattle.std.proofs.Common.{◌≡◌, Bool, true, false, List, [], ◌∷◌, Option, None, Some, refl}
 use Rattle.std.specs.List.{AllByRecursion}
 use Rattle.ft_format.specs.declared.object_error.ObjectError.{ObjectError}
@@ -14,7 +14,7 @@ pub both : (a b : Option ObjectError) → (a next b) ≡ None → (a ≡ None) �
 both None b h = (refl, h)
 both (Some e) b h = absurd (cc)
 
--- rules one after the other, of which none is broken
+-- rules one after the other, none of which is broken
 abbrev pub chain : List (Option ObjectError) → Option ObjectError
 chain [] = None
 chain (r ∷ []) = r

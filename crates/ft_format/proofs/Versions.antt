@@ -28,11 +28,11 @@ pub few_ops : (v : Version) → last_op v ≤ last_op_code
 few_ops First = omega arith
 few_ops Second = omega arith
 
-pub few_node_kinds : (v : Version) → last_node_kind v ≤ 6
+pub few_node_kinds : (v : Version) → last_node_kind v ≤ last_node_kind Second
 few_node_kinds First = omega arith
 few_node_kinds Second = omega arith
 
-pub few_instr_kinds : (v : Version) → last_instr_kind v ≤ 8
+pub few_instr_kinds : (v : Version) → last_instr_kind v ≤ last_instr_kind Second
 few_instr_kinds First = omega arith
 few_instr_kinds Second = omega arith
 

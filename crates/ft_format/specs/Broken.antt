@@ -19,7 +19,7 @@ use Rattle.ft_format.specs.Layout.{numbers, rows, header_layout, cell_layout, co
 use Rattle.ft_format.specs.Rules.{must, ◌next◌, header_broken, cell_broken, node_broken, type_broken, reg_broken, queue_broken, block_broken, instr_broken, subst_broken}
 use Rattle.ft_format.specs.Values.{past_of, cells_of, node_of, regs_end_of, queue_end_of, type_ints_of, types_of, reg_type_of, pair_of, block_of, instr_of, rows_past, subst_node_of, header_of}
 
--- the number that stands first in a row
+-- the first number in a row
 abbrev pub first_of_row : List ℕ → ℕ
 first_of_row (n ∷ rest) = n
 first_of_row [] = 0
@@ -44,7 +44,7 @@ unfoldable pub type_regs_broken : ℕ → List Node → ℕ → ℕ → ℕ → 
 type_regs_broken types nodes ints least at [] = None
 type_regs_broken types nodes ints least at (row ∷ rest) = reg_broken types nodes ints least at row next type_regs_broken types nodes ints (first_of_row row + 1) (at + 12) rest
 
--- the register rows of types, from row `start` on; a row that is left belongs to none
+-- the register rows of types, from row `start`; a row that is left over belongs to none
 unfoldable pub regs_broken : Header → List Node → ℕ → ℕ → List (List ℕ) → List ℕ → Option ObjectError
 regs_broken h nodes start at [] bytes = must (start == h.regs) (errors.Order at)
 regs_broken h nodes start at (row ∷ rest) bytes =
@@ -56,7 +56,7 @@ unfoldable pub type_queue_broken : List Node → ℕ → ℕ → List (List ℕ)
 type_queue_broken nodes ints at [] = None
 type_queue_broken nodes ints at (row ∷ rest) = queue_broken nodes ints at row next type_queue_broken nodes ints (at + 8) rest
 
--- the queue rows of types, from row `start` on; a row that is left belongs to none
+-- the queue rows of types, from row `start`; a row that is left over belongs to none
 unfoldable pub queues_broken : Header → List Node → ℕ → ℕ → List (List ℕ) → List ℕ → Option ObjectError
 queues_broken h nodes start at [] bytes = must (start == h.queue) (errors.Order at)
 queues_broken h nodes start at (row ∷ rest) bytes =
@@ -68,7 +68,7 @@ unfoldable pub blocks_broken : Header → Option ℕ → ℕ → List (List ℕ)
 blocks_broken h previous at [] = None
 blocks_broken h previous at (row ∷ rest) = block_broken h previous at row next blocks_broken h (Some (first_of_row row)) (at + 8) rest
 
--- instructions, where the substitutions before took the rows up to `first`
+-- instructions, where earlier substitutions took the rows up to `first`
 unfoldable pub instrs_broken : Header → List Node → ℕ → ℕ → List (List ℕ) → Option ObjectError
 instrs_broken h nodes first at [] = None
 instrs_broken h nodes first at (row ∷ rest) = instr_broken h nodes first at row next instrs_broken h nodes (rows_past first row) (at + 16) rest
@@ -83,7 +83,7 @@ unfoldable pub subst_rows_broken : List Node → ℕ → List (List ℕ) → Opt
 subst_rows_broken nodes at [] = None
 subst_rows_broken nodes at (row ∷ rest) = subst_broken nodes at row next subst_rows_broken nodes (at + 4) rest
 
--- the substitution rows that substitutions take; a row that is left belongs to none
+-- the substitution rows that substitutions take; a row that is left over belongs to none
 abbrev pub substs_broken : Header → List Node → ℕ → ℕ → List ℕ → Option ObjectError
 substs_broken h nodes taken at bytes =
     subst_rows_broken nodes at (rows subst_layout taken bytes)
@@ -103,7 +103,7 @@ name_bytes_broken v at (b ∷ bs) = must (is_letter b) (errors.Name at) next nam
 abbrev pub name_broken : Version → List Cell → ℕ → List ℕ → Option ObjectError
 name_broken v earlier at name = name_bytes_broken v at name next must (not (list_any (λ c. bytes_eq name c.name) earlier)) (errors.Name at)
 
--- the names of cells, after those of earlier ones, up to the end; a byte that is left belongs to none
+-- the names of cells, after those of earlier ones, up to the end; a byte that is left over belongs to none
 unfoldable pub names_broken : Version → ℕ → List Cell → ℕ → List Cell → Option ObjectError
 names_broken v end earlier at [] = must (at == end) (errors.Order at)
 names_broken v end earlier at (c ∷ cs) = name_broken v earlier at c.name next names_broken v end (earlier ++ c ∷ []) (at + length c.name) cs
@@ -156,47 +156,47 @@ pub record IsSmall (h : Header) : Type 0 where
   pub substs : h.substs ≤ 1048576
   pub names : h.names ≤ 40960
 
--- the bytes from the cells on
+-- the bytes from the cells to the end
 abbrev pub cells_part : List ℕ → List ℕ
 cells_part bytes = drop 48 bytes
 
--- the bytes from the nodes on
+-- the bytes from the nodes to the end
 abbrev pub nodes_part : Header → List ℕ → List ℕ
 nodes_part h bytes = drop (nodes_at h) bytes
 
--- the bytes from the types on
+-- the bytes from the types to the end
 abbrev pub types_part : Header → List ℕ → List ℕ
 types_part h bytes = drop (types_at h) bytes
 
--- the bytes from the register rows on
+-- the bytes from the register rows to the end
 abbrev pub regs_part : Header → List ℕ → List ℕ
 regs_part h bytes = drop (regs_at h) bytes
 
--- the bytes from the queue rows on
+-- the bytes from the queue rows to the end
 abbrev pub queue_part : Header → List ℕ → List ℕ
 queue_part h bytes = drop (queue_at h) bytes
 
--- the bytes from the blocks on
+-- the bytes from the blocks to the end
 abbrev pub blocks_part : Header → List ℕ → List ℕ
 blocks_part h bytes = drop (blocks_at h) bytes
 
--- the bytes from the instructions on
+-- the bytes from the instructions to the end
 abbrev pub instrs_part : Header → List ℕ → List ℕ
 instrs_part h bytes = drop (instrs_at h) bytes
 
--- the bytes from the substitution rows on
+-- the bytes from the substitution rows to the end
 abbrev pub substs_part : Header → List ℕ → List ℕ
 substs_part h bytes = drop (substs_at h) bytes
 
--- the bytes from the name bytes on
+-- the bytes from the name bytes to the end
 abbrev pub names_part : Header → List ℕ → List ℕ
 names_part h bytes = drop (names_at h) bytes
 
--- the rows of the types, which the sections of their rows look at
+-- the rows of the types, which the sections of their rows read
 abbrev pub type_rows_of : Header → List ℕ → List (List ℕ)
 type_rows_of h bytes = rows type_layout h.types (types_part h bytes)
 
--- the rows of the instructions, which the section of substitution rows looks at
+-- the rows of the instructions, which the section of substitution rows reads
 abbrev pub instr_rows_of : Header → List ℕ → List (List ℕ)
 instr_rows_of h bytes = rows code_layout h.instrs (instrs_part h bytes)
 
@@ -266,7 +266,7 @@ tables_broken h bytes =
 abbrev pub header_at : List ℕ → Header
 header_at bytes = header_of (numbers header_layout bytes)
 
--- the version that bytes name
+-- the version that the bytes name
 abbrev pub version_at : List ℕ → Version
 version_at bytes = version_of (header_at bytes)
 

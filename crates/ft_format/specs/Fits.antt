@@ -19,7 +19,7 @@ use Rattle.ft_types.specs.declared.object.RegType.{RegType}
 use Rattle.ft_types.specs.Objects.{name_of}
 use Rattle.ft_types.specs.Spellable.{reg_row_count, queue_row_count}
 
--- a number of so many bits
+-- a number of this many bits
 abbrev pub Is8 : ℕ → Type 0
 Is8 n = n < 2 ^ 8
 
@@ -33,8 +33,7 @@ Is32 n = n < 2 ^ 32
 abbrev pub name_byte_count : List Cell → ℕ
 name_byte_count cs = sum_by (λ c. length (name_of c)) cs
 
--- each table has fewer than 2^32 rows, and fewer than 2^32 are the register rows and the queue rows of all code types
--- and the bytes of all names
+-- there are fewer than 2^32 rows in each table, register rows in all, queue rows in all, and bytes of names in all
 pub record HasCounts (o : Object) : Type 0 where
   pub cells : Is32 (length o.cells)
   pub nodes : Is32 (length o.nodes)

@@ -16,7 +16,7 @@ abbrev pub size : List Width → ℕ
 size [] = 0
 size (w ∷ ws) = byte_len w + size ws
 
--- the numbers of the record that stands first in these bytes
+-- the numbers of the first record in these bytes
 unfoldable pub numbers : List Width → List ℕ → List ℕ
 numbers [] bytes = []
 numbers (w ∷ ws) bytes = number_of w bytes ∷ numbers ws (drop (byte_len w) bytes)
@@ -27,7 +27,7 @@ written [] ns = []
 written (w ∷ ws) [] = []
 written (w ∷ ws) (n ∷ ns) = bytes_of w n ++ written ws ns
 
--- the numbers of so many records, one after the other
+-- the numbers of n records, one after the other
 unfoldable pub rows : List Width → ℕ → List ℕ → List (List ℕ)
 rows ws zero bytes = []
 rows ws (suc n) bytes = numbers ws (take (size ws) bytes) ∷ rows ws n (drop (size ws) bytes)

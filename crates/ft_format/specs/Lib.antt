@@ -1,4 +1,5 @@
 pub mod Layout
+pub mod Errors
 pub mod Versions
 pub mod Rows
 pub mod Rules

@@ -1,4 +1,4 @@
--- Where the code takes the sections to begin.
+-- Where the code expects the sections to begin.
 use Rattle.std.specs.Prelude.{◌≡◌, ℕ, List, length}
 use Rattle.ft_format.specs.declared.header.Header.{Header}
 use Rattle.ft_format.specs.declared.places.Places.{Places}
@@ -16,7 +16,7 @@ pub record ArePlaces (h : Header) (p : Places) : Type 0 where
   pub names : p.names ≡ names_at h
   pub end : p.end ≡ total h
 
--- counts within their limits, and as many bytes as they give
+-- counts within their limits, and as many bytes as these counts need
 pub record IsWhole (h : Header) (bytes : List ℕ) : Type 0 where
   pub small : IsSmall h
   pub whole : length bytes ≡ total h

@@ -1,4 +1,4 @@
--- What is put at the end of bytes.
+-- What is appended to bytes.
 use Rattle.std.specs.Prelude.{◌≡◌, ℕ, List, ◌++◌}
 
 -- the new bytes are the old ones with this piece at their end

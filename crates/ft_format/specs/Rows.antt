@@ -43,7 +43,7 @@ basic_number b = b.refs * 2 ^ 24 + base_code b.base * 2 ^ 16 + base_type b.base
 abbrev pub cell_row : ℕ → Cell → List ℕ
 cell_row past c = past ∷ c.basic.refs ∷ base_code c.basic.base ∷ base_type c.basic.base ∷ c.init ∷ []
 
--- cells whose names follow one another from a place in the name bytes on
+-- cells whose names follow one another from a place in the name bytes
 abbrev pub cell_rows : ℕ → List Cell → List (List ℕ)
 cell_rows start [] = []
 cell_rows start (c ∷ cs) = cell_row (start + length c.name) c ∷ cell_rows (start + length c.name) cs
@@ -52,7 +52,7 @@ cell_rows start (c ∷ cs) = cell_row (start + length c.name) c ∷ cell_rows (s
 abbrev pub type_row : ℕ → ℕ → CodeType → List ℕ
 type_row regs queue t = regs ∷ queue ∷ t.memory ∷ t.ints ∷ 0 ∷ 0 ∷ 0 ∷ []
 
--- types whose rows follow one another from these numbers on
+-- types whose rows follow one another from these numbers
 abbrev pub type_rows : ℕ → ℕ → List CodeType → List (List ℕ)
 type_rows regs queue [] = []
 type_rows regs queue (t ∷ ts) = type_row (regs + length t.regs) (queue + length t.queue) t ∷ type_rows (regs + length t.regs) (queue + length t.queue) ts

@@ -1,4 +1,4 @@
--- The rules of each record. A rule that is broken gives its error and its place, and the first one counts.
+-- The rules of each record. A broken rule gives its error and its place, and the first one counts.
 use Rattle.std.specs.Prelude.{ℕ, ◌+◌, ◌/◌, ◌%◌, ◌^◌, Bool, true, false, not, ◌==◌, nat_lt, nat_le, List, [], ◌∷◌, length, Option, Some, None, if◌then◌else◌, slice_get}
 use Rattle.ft_static.specs.declared.node.Node.{Node}
 use Rattle.ft_static.specs.NodeRules.{is_memory}
@@ -8,13 +8,13 @@ use Rattle.ft_format.specs.declared.header.Header.{Header}
 use Rattle.ft_format.specs.declared.version.Version.{Version}
 use Rattle.ft_format.specs.Versions.{is_magic, version_of, last_op, last_node_kind, last_instr_kind, longest_name, most_name_bytes}
 
--- nothing where the test holds, else the error
+-- nothing if the test holds, else the error
 abbrev pub must : Bool → ObjectError → Option ObjectError
 must true e = None
 must false e = Some e
 
 infixr 5 ◌next◌
--- what the first rules give, and where none of them is broken what the next ones give
+-- the result of the first rules, or that of the next ones if none of them is broken
 abbrev pub ◌next◌ : Option ObjectError → Option ObjectError → Option ObjectError
 None next rules = rules
 (Some e) next rules = Some e
@@ -23,11 +23,11 @@ None next rules = rules
 abbrev pub zero_broken : ℕ → ℕ → Option ObjectError
 zero_broken at n = must (n == 0) (errors.Pad at)
 
--- a count of at most so many
+-- a count of at most `most`
 abbrev pub count_broken : ℕ → ℕ → ℕ → Option ObjectError
 count_broken most at n = must (nat_le n most) (errors.Count at)
 
--- a count of at least 1 and at most so many
+-- a count of at least 1 and at most `most`
 abbrev pub some_broken : ℕ → ℕ → ℕ → Option ObjectError
 some_broken most at n = must (nat_le 1 n) (errors.Count at) next count_broken most at n
 
@@ -58,7 +58,7 @@ op_broken v at n = must (nat_le n (last_op v)) (errors.Kind at)
 abbrev pub register_broken : ℕ → ℕ → Option ObjectError
 register_broken at n = must (nat_lt n 64) (errors.Index at)
 
--- the code type of a basic type: zero for `int`, one of so many types for `code`
+-- the code type of a basic type: zero for `int`, an existing one for `code`
 abbrev pub code_type_broken : ℕ → ℕ → ℕ → ℕ → Option ObjectError
 code_type_broken types at base n = if base == 0 then zero_broken at n else must (nat_lt n types) (errors.Index at)
 
@@ -78,12 +78,12 @@ cell_broken h start at (past ∷ refs ∷ base ∷ code_type ∷ init ∷ []) =
     next basic_broken h.types (at + 4) refs base code_type
 cell_broken h start at _ = None
 
--- whether a node that is there is of the sort: an integer, or a memory
+-- whether a node exists and is of the sort: an integer, or a memory
 abbrev pub is_of_sort : Bool → Option Node → Bool
 is_of_sort memory None = false
 is_of_sort memory (Some n) = if memory then is_memory n.shape else not (is_memory n.shape)
 
--- whether a node that is there has at most this scope
+-- whether a node exists and has at most this scope
 abbrev pub is_within : ℕ → Option Node → Bool
 is_within scope None = false
 is_within scope (Some n) = nat_le n.scope scope
@@ -169,7 +169,7 @@ type_broken h nodes regs queue at (regs_end ∷ queue_end ∷ memory ∷ ints �
     next zero_broken (at + 13) pad2
 type_broken h nodes regs queue at _ = None
 
--- register row, 12 bytes, of a type of so many variables, where its rows before leave registers from `least` on
+-- register row, 12 bytes, of a type with this many variables, where its earlier rows leave registers from `least`
 abbrev pub reg_broken : ℕ → List Node → ℕ → ℕ → ℕ → List ℕ → Option ObjectError
 reg_broken types nodes ints least at (reg ∷ colour ∷ pad ∷ refs ∷ base ∷ code_type ∷ expr ∷ []) =
     register_broken at reg
@@ -180,7 +180,7 @@ reg_broken types nodes ints least at (reg ∷ colour ∷ pad ∷ refs ∷ base �
     next named_broken nodes ints false (at + 8) expr
 reg_broken types nodes ints least at _ = None
 
--- queue row, 8 bytes, of a type of so many variables
+-- queue row, 8 bytes, of a type with this many variables
 abbrev pub queue_broken : List Node → ℕ → ℕ → List ℕ → Option ObjectError
 queue_broken nodes ints at (address ∷ value ∷ []) =
     named_broken nodes ints false at address
@@ -204,7 +204,7 @@ block_broken h previous at _ = None
 abbrev pub no_word_broken : ℕ → ℕ → ℕ → Option ObjectError
 no_word_broken at high low = zero_broken at high next zero_broken at low
 
--- the substitution of a blue jump or branch, where the ones before took the rows up to `first`
+-- the substitution of a blue jump or branch, where earlier ones took the rows up to `first`
 abbrev pub substitution_broken : Header → List Node → ℕ → ℕ → ℕ → ℕ → ℕ → Option ObjectError
 substitution_broken h nodes first at x past memory =
     must (x == first) (errors.Order at)
@@ -282,7 +282,7 @@ halt_broken at a b c x high low =
     next zero_broken (at + 4) x
     next no_word_broken (at + 8) high low
 
--- v, 8 bytes in two halves, that is the length of a run from cell x on
+-- v, 8 bytes in two halves, that is the length of a run from cell x
 abbrev pub run_broken : ℕ → ℕ → ℕ → ℕ → ℕ → Option ObjectError
 run_broken cells at x high low =
     must (high == 0) (errors.Count at)
@@ -310,7 +310,7 @@ fields_broken h nodes first at kind a b c x high low =
     else (if kind == 7 then halt_broken at a b c x high low
     else index_broken h.cells at a b c x high low))))))
 
--- instruction, 16 bytes, where the substitutions before took the rows up to `first`
+-- instruction, 16 bytes, where earlier substitutions took the rows up to `first`
 abbrev pub instr_broken : Header → List Node → ℕ → ℕ → List ℕ → Option ObjectError
 instr_broken h nodes first at (kind ∷ a ∷ b ∷ c ∷ x ∷ high ∷ low ∷ []) =
     must (nat_le kind (last_instr_kind (version_of h))) (errors.Kind at)

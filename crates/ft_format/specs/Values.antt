@@ -1,4 +1,4 @@
--- The part of an object that the numbers of a record stand for, where they break no rule.
+-- The part of an object that the numbers of a record stand for, if they break no rule.
 use Rattle.std.specs.Prelude.{ℕ, ◌-◌, ◌/◌, ◌%◌, ◌^◌, ◌==◌, List, [], ◌∷◌, take, drop, Option, Some, None, if◌then◌else◌}
 use Rattle.std.proofs.Common.{refl}
 use borrow.Author.Tests.{ltb-true}
@@ -24,11 +24,11 @@ use Rattle.ft_types.specs.declared.object.RegType.{RegType}
 use Rattle.ft_types.specs.NodeRows.{joined}
 use Rattle.ft_format.specs.declared.header.Header.{Header}
 
--- register 0, which stands where no register is
+-- register 0, the default
 abbrev pub first_register : Reg
 first_register = record { number = 0; in_range = ltb-true 0 64 refl }
 
--- a register, or register 0 where there is none
+-- a register, or register 0 if there is none
 abbrev pub or_first : Option Reg → Reg
 or_first None = first_register
 or_first (Some r) = r
@@ -131,7 +131,7 @@ abbrev pub block_of : List ℕ → Block
 block_of (start ∷ code_type ∷ []) = record { start = start; code_type = code_type }
 block_of _ = record { start = 0; code_type = 0 }
 
--- the substitution that a jump or branch carries, where it is blue
+-- the substitution that a jump or branch carries, if it is blue
 abbrev pub carried : ℕ → ℕ → ℕ → ℕ → Option Subst
 carried colour x high low = if colour == 0 then None else Some (record { first = x; past = high; memory = low })
 

@@ -14,7 +14,7 @@ number Second = 2
 abbrev pub magic : Version → ℕ
 magic v = 0x54414c4654000000 + number v
 
--- whether a magic number is that of a version
+-- whether a magic number belongs to a version
 abbrev pub is_magic : ℕ → Bool
 is_magic n = (n == magic First) || (n == magic Second)
 
@@ -37,17 +37,17 @@ abbrev pub last_instr_kind : Version → ℕ
 last_instr_kind First = 7
 last_instr_kind Second = 8
 
--- how many bytes a name has at most
+-- the maximum bytes of a name
 abbrev pub longest_name : Version → ℕ
 longest_name First = 32
 longest_name Second = 40
 
--- how many bytes all names have at most
+-- the maximum bytes of all names
 abbrev pub most_name_bytes : Version → ℕ
 most_name_bytes First = 32768
 most_name_bytes Second = 40960
 
--- whether a byte may stand in a name after its first
+-- whether a byte is allowed in a name after its first
 abbrev pub may_follow : Version → ℕ → Bool
 may_follow First b = is_letter b || is_digit b
 may_follow Second b = is_name_byte b

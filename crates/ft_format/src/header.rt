@@ -71,7 +71,7 @@ impl Header {
         }
     }
 
-    /// Puts the record's bytes at the end. Where memory runs out, some of them may stand there.
+    /// Appends the record's bytes. If memory runs out, some of them may be there.
     #[tactic(auto, unfolding(crate::specs::Layout::written))]
     pub fn write(self, out: &mut Vec<u8>) -> Result<(), NoMemory>
         ensures { OnOk result (Puts out.old.items out.new.items (written header_layout (header_numbers self))) }

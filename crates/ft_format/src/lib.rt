@@ -4,8 +4,8 @@
 //! rules in their order. `specs/Versions.antt` has what differs between the two versions of the format.
 //! `specs/Format.antt` says which bytes spell which object. The crate promises that these agree
 //! (`src/laws.rt`): bytes break no rule exactly when they spell an object, they spell at most one, an
-//! object has one spelling per version, and what version 1 spells, version 2 spells but for one byte. It
-//! also has the records as the numbers that are in them, to be read and written.
+//! object has at most one spelling per version, and what version 1 spells, version 2 spells with one byte
+//! changed. It also has each record as a struct of numbers, for reading and writing.
 #![tactic(auto)]
 
 mod header;

@@ -1,4 +1,4 @@
-//! Big-endian numbers at the front of bytes, and at the end of those that are written.
+//! Big-endian numbers, read from the front of bytes and appended to others.
 ghost use Rattle.std.specs.Prelude.{◌≡◌, ◌≤◌, ◌+◌, ◌++◌, ◌∷◌, [], length, drop, OnOk};
 ghost use Rattle.std.specs.Int.{w8, w16, w32, w64};
 ghost use Rattle.ft_format.specs.Puts.{Puts};
@@ -62,7 +62,7 @@ pub(crate) fn read_u64(bytes: &[u8]) -> (u64, &[u8])
     (number, rest)
 }
 
-/// Puts bytes at the end. It is compiled where it is called, since there the number of bytes is known.
+/// Appends bytes. It is compiled inline, since the number of bytes is known at each call.
 #[inline(always)]
 pub fn put(out: &mut Vec<u8>, bytes: &[u8]) -> Result<(), NoMemory>
     ensures { OnOk result (Puts out.old.items out.new.items (bytes.now)) }
@@ -71,7 +71,7 @@ pub fn put(out: &mut Vec<u8>, bytes: &[u8]) -> Result<(), NoMemory>
     Ok(())
 }
 
-/// Puts a number of four bytes at the end.
+/// Appends a number of four bytes.
 #[tactic(auto, unfolding(crate::specs::Layout::bytes_of))]
 pub(crate) fn put_u32(out: &mut Vec<u8>, n: u32) -> Result<(), NoMemory>
     ensures { OnOk result (Puts out.old.items out.new.items (bytes_of w32 n)) }
@@ -81,7 +81,7 @@ pub(crate) fn put_u32(out: &mut Vec<u8>, n: u32) -> Result<(), NoMemory>
     put(out, &bytes)
 }
 
-/// Puts a number of eight bytes at the end.
+/// Appends a number of eight bytes.
 #[inline(always)]
 #[tactic(auto, unfolding(crate::specs::Layout::bytes_of))]
 pub(crate) fn put_u64(out: &mut Vec<u8>, n: u64) -> Result<(), NoMemory>
@@ -100,7 +100,7 @@ pub(crate) fn code_words(a: u8, b: u8, c: u8, d: u8, x: u32, y: u32, z: u32) -> 
     row_words(a, b, c, d, x, y, z)
 }
 
-/// Puts two numbers of eight bytes at the end.
+/// Appends two numbers of eight bytes.
 #[inline(always)]
 pub(crate) fn put_words(out: &mut Vec<u8>, words: (u64, u64)) -> Result<(), NoMemory>
     ensures { OnOk result (Puts out.old.items out.new.items (bytes_of w64 words.0 ++ bytes_of w64 words.1)) }
@@ -109,7 +109,7 @@ pub(crate) fn put_words(out: &mut Vec<u8>, words: (u64, u64)) -> Result<(), NoMe
     put_u64(out, words.1)
 }
 
-/// Puts two numbers of four bytes at the end, as one of eight bytes.
+/// Appends two numbers of four bytes, as one of eight bytes.
 #[inline(always)]
 pub fn put_pair(out: &mut Vec<u8>, first: u32, second: u32) -> Result<(), NoMemory>
     ensures { OnOk result (Puts out.old.items out.new.items (bytes_of w32 first ++ bytes_of w32 second)) }

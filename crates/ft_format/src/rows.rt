@@ -1,4 +1,4 @@
-//! Records as the numbers that stand in them.
+//! Records as structs of their numbers.
 
 pub(crate) mod cell_row;
 pub(crate) mod code_row;

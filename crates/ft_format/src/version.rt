@@ -53,7 +53,7 @@ impl Version {
         }
     }
 
-    /// How many bytes a name has at most.
+    /// The maximum bytes of a name.
     pub fn longest_name(self) -> u8
         ensures { result ≡ longest_name self }
     {
@@ -63,7 +63,7 @@ impl Version {
         }
     }
 
-    /// How many bytes all names have at most.
+    /// The maximum bytes of all names.
     pub fn most_name_bytes(self) -> u32
         ensures { result ≡ most_name_bytes self }
     {

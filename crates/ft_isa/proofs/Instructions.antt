@@ -6,7 +6,7 @@ use Rattle.ft_isa.specs.declared.instr.Instr.{Instr}
 use Rattle.ft_isa.specs.declared.instr.Instr.TheVariants.{St, JmpG, JmpB, BzG, BzB, Halt}
 use Rattle.ft_isa.specs.Instructions.{is_fixed, is_leading, written, is_register, is_one_of}
 
--- an instruction stands fixed, or is a store, or writes a register
+-- an instruction is fixed, or is a store, or writes a register
 pub data Kind : Instr → Type 0 where
   fixed : {i : Instr} → is_fixed i ≡ true → is_leading i ≡ false → Kind i
   store : (colour : Colour) (rd rs : Reg) → Kind (St colour rd rs)

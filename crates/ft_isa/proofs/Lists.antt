@@ -1,4 +1,4 @@
--- What stands at a place of a list: in its parts, after a push, after a function, and what all places share.
+-- What is at a place of a list: in its parts, after a push, after a function, and what all places share.
 use Rattle.std.proofs.Common.{◌≡◌, ◌⊎◌, inl, inr, ℕ, zero, suc, ◌+◌, ◌-◌, ◌<◌, ◌≤◌, Bool, true, false, cond, List, []}
 use Rattle.std.proofs.Common.{◌∷◌, ◌++◌, length, map, take, drop, slice_get, slice_range, Some, None, refl, ap, subst}
 use Rattle.std.proofs.Common.{◌∙◌, arith}
@@ -50,7 +50,7 @@ there_mapped f (y ∷ xs) (suc k) x e = there_mapped f xs k x e
 
 -- PARTS
 
--- a list from the place of an element on
+-- a list from the place of an element
 pub drop_there : {X : Type 0} (xs : List X) (k : ℕ) (x : X) → slice_get xs k ≡ Some x → drop k xs ≡ x ∷ drop (suc k) xs
 drop_there [] k x e = cc
 drop_there (y ∷ xs) zero x e = let same : y ≡ x = cc in ap (λ z. z ∷ xs) same
@@ -67,20 +67,20 @@ take_there [] k x e = cc
 take_there (y ∷ xs) zero x e = (let same : y ≡ x = cc in ap (λ z. z ∷ []) same)
 take_there (y ∷ xs) (suc k) x e = ap (λ z. y ∷ z) (take_there xs k x e)
 
--- what is at a place of the first so many
+-- what is at a place among the first n
 pub get_taken : {X : Type 0} (n : ℕ) (xs : List X) (k : ℕ) → k < n → slice_get (take n xs) k ≡ slice_get xs k
 get_taken zero xs k lt = absurd (omega arith)
 get_taken (suc n) [] k lt = refl
 get_taken (suc n) (x ∷ xs) zero lt = refl
 get_taken (suc n) (x ∷ xs) (suc k) lt = get_taken n xs k (omega arith)
 
--- what is at a place after so many
+-- what is at a place after n
 pub get_dropped : {X : Type 0} (n : ℕ) (xs : List X) (k : ℕ) → slice_get (drop n xs) k ≡ slice_get xs (n + k)
 get_dropped zero xs k = let e : 0 + k ≡ k = omega arith in rw e refl
 get_dropped (suc n) [] k = refl
 get_dropped (suc n) (x ∷ xs) k = let e : suc n + k ≡ suc (n + k) = omega arith in rw e (get_dropped n xs k)
 
--- a range that ends where it starts, or before
+-- a range that ends at its start, or before
 pub range_past : {X : Type 0} (xs : List X) (i j : ℕ) → j ≤ i → slice_range xs i j ≡ []
 range_past xs i j le = let n : j - i ≡ 0 = omega arith in rw n refl
 

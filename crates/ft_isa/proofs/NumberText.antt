@@ -33,7 +33,7 @@ number_complete : (xs : List ℕ) (n : ℕ) → IsNumberText xs n →
 number_complete xs n h = ap (λ ys. option_and_then whole_number (state_after next_number None ys)) h.1
     ∙ ap (option_and_then whole_number) (reads_decimal n h.0)
 
--- the reader of number texts tells what it read
+-- the reader of number texts records what it read
 pub number_reader : IsReader next_number whole_number None number_told IsNumberRead IsNumberText
 number_reader = record {
   begins = refl;

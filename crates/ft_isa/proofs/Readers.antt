@@ -1,4 +1,4 @@
--- Readers that go byte by byte: what holds of any whose states tell what was read.
+-- Readers that go byte by byte: what holds of any reader whose states record what was read.
 use Rattle.std.proofs.Common.{◌≡◌, ℕ, ◌+◌, ◌<◌, ◌≤◌, List, [], ◌∷◌, ◌++◌, length, take, drop, get_or, Option, Some}
 use Rattle.std.proofs.Common.{None, refl, sym, ap, ◌∙◌, subst, inl, inr, arith, append_assoc}
 use Rattle.std.specs.Option.{option_and_then}
@@ -39,7 +39,7 @@ state_after-more next s t u xs i below e f =
     ap (state_after next s) (take_more xs i 0 below) ∙ state_after-on next s t (take i xs) (get_or xs i 0 ∷ []) e
     ∙ state_after-byte next t u (get_or xs i 0) [] f
 
--- a reader inside another goes as it does alone
+-- a reader inside another goes as it does by itself
 pub state_after-inside : {S T : Type 0} (next : S → ℕ → Option S) (outer : T → ℕ → Option T) (f : S → T) →
     ((s t : S) (b : ℕ) → next s b ≡ Some t → outer (f s) b ≡ Some (f t)) → (s t : S) (xs : List ℕ) →
     state_after next s xs ≡ Some t → state_after outer (f s) xs ≡ Some (f t)
@@ -54,7 +54,7 @@ state_after-inside {S} {T} next outer f h s t (x ∷ xs) e =
     ] in
     go refl e
 
--- the states of a reader tell what was read, begin some text, and end as the text's value
+-- the states of a reader record what was read, begin some text, and end as the text's value
 pub record IsReader {S V : Type 0} (next : S → ℕ → Option S) (whole : S → Option V) (start : S) (told : S →
     List ℕ) (Good : S → Type 0) (Tells : List ℕ → V → Type 0) : Type 0 where
   pub begins : told start ≡ []
@@ -83,7 +83,7 @@ split_front xs zs i n below within =
 
 module _ {S V : Type 0} (next : S → ℕ → Option S) (whole : S → Option V) (start : S) (told : S → List ℕ) (Good : S →
     Type 0) (Tells : List ℕ → V → Type 0) (reader : IsReader next whole start told Good Tells) where
-  -- a state tells what was read on the way to it
+  -- a state records what was read on the way to it
   pub told_after : (s t : S) (xs : List ℕ) → Good s → state_after next s xs ≡ Some t → (told t ≡ told s ++ xs) × Good t
   told_after s t [] g e =
       let same : s ≡ t = cc in
@@ -101,7 +101,7 @@ module _ {S V : Type 0} (next : S → ℕ → Option S) (whole : S → Option V)
       ] in
       go refl e
 
-  -- what the state after a text tells is the text
+  -- what the state after a text records is the text
   pub told_whole : (s : S) (xs : List ℕ) → state_after next start xs ≡ Some s → (told s ≡ xs) × Good s
   told_whole s xs e =
       let all = told_after start s xs reader.good e in

@@ -34,7 +34,7 @@ abbrev pub IsSiteRead : SiteRead → Type 0
 IsSiteRead (sites.Whole site) = IsSite site
 IsSiteRead _ = Unit {0}
 
--- a state tells one byte more than these bytes
+-- a state records one byte more than these bytes
 abbrev pub GoesOn : List ℕ → ℕ → SiteRead → Type 0
 GoesOn told b after = (site_told after ≡ told ++ b ∷ []) × IsSiteRead after
 
@@ -67,7 +67,7 @@ register_read number b after g e =
     subst (λ (s : SiteRead). GoesOn (codes "r" ++ number_told number) b s) made.1.1
     (ap (λ ds. 114 ∷ ds) (go refl made.1.0), tt)
 
--- what is told after one more byte of a site
+-- what is recorded after one more byte of a site
 pub site_step : (s t : SiteRead) (b : ℕ) → IsSiteRead s → next_site s b ≡ Some t → GoesOn (site_told s) b t
 site_step sites.Empty t b g e =
     of_letter (GoesOn []) b 100 (sites.Whole D) t _ (refl, tt)
@@ -108,7 +108,7 @@ no_colon (sites.Whole PcB) = refl
 no_colon (sites.Whole (QAddr place)) = refl
 no_colon (sites.Whole (QVal place)) = refl
 
--- a byte by which a site goes on is no colon
+-- a byte that continues a site is not a colon
 pub site_byte : (s t : SiteRead) (b : ℕ) → next_site s b ≡ Some t → eqb b 58 ≡ false
 site_byte s t b e = ne_eqb b 58 (λ f. let none = no_colon s in
     let some = subst (λ (x : ℕ). next_site s x ≡ Some t) f e in cc)
@@ -193,7 +193,7 @@ is_whole sites.Qa site e = absurd cc
 is_whole sites.Qv site e = absurd cc
 is_whole sites.R site e = absurd cc
 
--- a site that was read whole is told by its text
+-- a site that was read completely is recorded by its text
 site_ends : (s : SiteRead) (site : Site) → IsSiteRead s → whole_site s ≡ Some site → IsSiteText (site_told s) site
 site_ends s site g e =
     let whole : s ≡ sites.Whole site = is_whole s site e in

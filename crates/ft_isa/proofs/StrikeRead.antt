@@ -31,11 +31,11 @@ IsStrikeRead (AtStep number) = IsNumberRead number
 IsStrikeRead (AtSite step site) = IsWord step × IsSiteRead site
 IsStrikeRead (AtValue step site value) = IsWord step × IsSite site × IsNumberRead value
 
--- a state tells one byte more than these bytes
+-- a state records one byte more than these bytes
 abbrev GoesOn : List ℕ → ℕ → StrikeRead → Type 0
 GoesOn told b after = (strike_told after ≡ told ++ b ∷ []) × IsStrikeRead after
 
--- a digit is no colon
+-- a digit is not a colon
 digit_byte : (number : Option ℕ) (b n : ℕ) → with_digit number b ≡ Some n → eqb b 58 ≡ false
 digit_byte number b n e = let digit = taken_digit number b n e in ne_eqb b 58 (λ f. omega (arith, digit.1))
 
@@ -62,13 +62,13 @@ value_inside step site m n b e =
     let made = of_map {A = ℕ} Some (with_digit m b) n e in
     ap (option_map (λ more. AtValue step site (Some more))) made.1.0 ∙ ap (λ x. Some (AtValue step site x)) made.1.1
 
--- pieces around a site that goes on
+-- pieces around a site that continues
 joined : (step told rest site value : List ℕ) → told ++ rest ≡ site → step ++ codes ":" ++ told
     ++ (rest ++ codes ":" ++ value) ≡ step ++ codes ":" ++ site ++ codes ":" ++ value
 joined step told rest site value e = sym (ap (λ ds. step ++ codes ":" ++ ds ++ codes ":" ++ value) (sym e)
     ∙ simp append_assoc)
 
--- what is told after one more byte of a strike
+-- what is recorded after one more byte of a strike
 strike_step : (s t : StrikeRead) (b : ℕ) → IsStrikeRead s → next_strike s b ≡ Some t → GoesOn (strike_told s) b t
 strike_step (AtStep number) t b g e =
     elim (of_branch (eqb b 58) (option_map (λ step. AtSite step sites.Empty) number)
@@ -117,7 +117,7 @@ strike_step (AtValue step site value) t b g e =
       (g.0, g.1, more.1),
     )
 
--- a strike that was read whole is told by its text
+-- a strike that was read completely is recorded by its text
 strike_ends : (s : StrikeRead) (strike : Strike) → IsStrikeRead s → whole_strike s ≡ Some strike →
     IsStrikeText (strike_told s) strike
 strike_ends (AtStep number) strike g e = absurd cc
@@ -194,7 +194,7 @@ strike_complete text strike h =
     ap (λ ds. option_and_then whole_strike (state_after next_strike (AtStep None) ds)) h.1
     ∙ ap (option_and_then whole_strike) read
 
--- the reader of strikes tells what it read
+-- the reader of strikes records what it read
 pub strike_reader : IsReader next_strike whole_strike (AtStep None) strike_told IsStrikeRead IsStrikeText
 strike_reader = record {
   begins = refl;

@@ -31,11 +31,11 @@ abbrev pub IsAnswerRead : AnswerRead → Type 0
 IsAnswerRead (answers.Number word) = IsWord word
 IsAnswerRead _ = Unit {0}
 
--- a state tells one byte more than these bytes
+-- a state records one byte more than these bytes
 abbrev GoesOn : List ℕ → ℕ → AnswerRead → Type 0
 GoesOn told b after = (answer_told after ≡ told ++ b ∷ []) × IsAnswerRead after
 
--- what is told after one more byte of a wild answer
+-- what is recorded after one more byte of a wild answer
 answer_step : (s t : AnswerRead) (b : ℕ) → IsAnswerRead s → next_answer s b ≡ Some t → GoesOn (answer_told s) b t
 answer_step answers.Empty t b g e =
     of_letter (GoesOn []) b 115 answers.S t _ (refl, tt) (λ f.
@@ -50,7 +50,7 @@ answer_step answers.Sto t b g e = of_letter (GoesOn (codes "sto")) b 112 answers
     absurd cc) e
 answer_step answers.Stop t b g e = absurd cc
 
--- no wild answer goes on by a comma
+-- a comma does not continue a wild answer
 no_comma : (s : AnswerRead) → next_answer s 44 ≡ None
 no_comma answers.Empty = refl
 no_comma (answers.Number word) = refl
@@ -59,7 +59,7 @@ no_comma answers.St = refl
 no_comma answers.Sto = refl
 no_comma answers.Stop = refl
 
--- a wild answer that was read whole is told by its text
+-- a wild answer that was read completely is recorded by its text
 answer_ends : (s : AnswerRead) (answer : Wild) → IsAnswerRead s → whole_answer s ≡ Some answer →
     (answer_told s ≡ answer_text answer) × IsAnswer answer
 answer_ends answers.Empty answer g e = absurd cc
@@ -73,7 +73,7 @@ answer_ends answers.Stop answer g e =
     let same : wilds.Stop ≡ answer = cc in
     subst (λ (w : Wild). (codes "stop" ≡ answer_text w) × IsAnswer w) same (refl, tt)
 
--- what was read of a wild answer goes on to the text of some answer
+-- what was read of a wild answer continues to the text of some answer
 answer_goes_on : (s : AnswerRead) → IsAnswerRead s → (answer : Wild)
     × ((rest : List ℕ) × (IsAnswer answer × (answer_told s ++ rest ≡ answer_text answer)))
 answer_goes_on answers.Empty g = (wilds.Stop, (codes "stop", (tt, refl)))
@@ -101,7 +101,7 @@ number_inside (Some word) n b e =
     let made = of_map {A = ℕ} Some (with_digit (Some word) b) n e in
     ap (option_map answers.Number) made.1.0 ∙ ap (λ x. Some (number_state x)) made.1.1
 
--- the state of a wild answer that was read whole
+-- the state of a wild answer that was read completely
 abbrev answer_state : Wild → AnswerRead
 answer_state (wilds.Word word) = answers.Number word
 answer_state wilds.Stop = answers.Stop
@@ -170,7 +170,7 @@ are_answers done answer room all here =
     let longer = length_push done answer in
     (omega arith, omega arith, all_push done answer all here)
 
--- what is told after one more byte of wild answers
+-- what is recorded after one more byte of wild answers
 wild_step : (s t : WildRead) (b : ℕ) → IsWildRead s → next_wild s b ≡ Some t → (wild_told t ≡ wild_told s ++ b ∷ [])
     × IsWildRead t
 wild_step s t b g e =
@@ -206,7 +206,7 @@ wild_step s t b g e =
           )
     ]
 
--- wild answers that were read whole are told by their text
+-- wild answers that were read completely are recorded by their text
 wild_ends : (s : WildRead) (list : List Wild) → IsWildRead s → whole_wild s ≡ Some list → IsWildText (wild_told s) list
 wild_ends s list g e =
     let made = of_map (λ answer. s.done ++ answer ∷ []) (whole_answer s.part) list e in
@@ -217,7 +217,7 @@ wild_ends s list g e =
           ∙ sym (wild_text_push s.done made.0),
     )
 
--- what was read of wild answers goes on to the text of some
+-- what was read of wild answers continues to the text of some
 wild_goes_on : (s : WildRead) → IsWildRead s → IsViable IsWildText (wild_told s)
 wild_goes_on s g =
     let last = answer_goes_on s.part g.2 in (
@@ -242,7 +242,7 @@ no_room done part b comma full =
     ∙ ap (λ c. if c then option_map (λ answer. wild_at (done ++ answer ∷ []) answers.Empty) (whole_answer part)
     else None) (le-ltb (length done + 1) 4096 full)
 
--- a comma after an answer, where there is room for one more
+-- a comma after an answer, if there is room for one more
 pub next_at_comma : (done : List Wild) (part : AnswerRead) (b : ℕ) → b ≡ 44 → length done + 1 < 4096 →
     next_wild (wild_at done part) b ≡ option_map (λ answer. wild_at (done ++ answer ∷ []) answers.Empty)
     (whole_answer part)
@@ -253,7 +253,7 @@ next_at_comma done part b comma room =
     ∙ ap (λ c. if c then option_map (λ answer. wild_at (done ++ answer ∷ []) answers.Empty) (whole_answer part)
     else None) (lt-ltb (length done + 1) 4096 room)
 
--- a byte that is no comma
+-- a byte that is not a comma
 pub next_in_part : (done : List Wild) (part : AnswerRead) (b : ℕ) → (b ≡ 44 → ⊥) → next_wild (wild_at done part) b
     ≡ option_map (λ s. wild_at done s) (next_answer part b)
 next_in_part done part b other =
@@ -261,7 +261,7 @@ next_in_part done part b other =
     then option_map (λ answer. wild_at (done ++ answer ∷ []) answers.Empty) (whole_answer part) else None)
     else option_map (λ s. wild_at done s) (next_answer part b)) (ne_eqb b 44 other)
 
--- an answer is read after others as it is alone
+-- an answer is read after others as it is by itself
 answer_inside : (done : List Wild) (s t : AnswerRead) (b : ℕ) → next_answer s b ≡ Some t → next_wild (wild_at done s) b
     ≡ Some (wild_at done t)
 answer_inside done s t b e =
@@ -305,7 +305,7 @@ wild_complete text (answer ∷ rest) h =
     ap (λ ds. option_and_then whole_wild (state_after next_wild (wild_at [] answers.Empty) ds)) h.1
     ∙ reads_rest [] answer rest h.0.2.0 h.0.2.1 (omega (arith, h.0.1))
 
--- the reader of wild answers tells what it read
+-- the reader of wild answers records what it read
 pub wild_reader : IsReader next_wild whole_wild (wild_at [] answers.Empty) wild_told IsWildRead IsWildText
 wild_reader = record {
   begins = refl;

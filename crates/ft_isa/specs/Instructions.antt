@@ -1,5 +1,5 @@
--- What each instruction is: whether it stands fixed, its colour, the registers that it reads and writes, and the
--- stores. Whoever asks this of an instruction asks here.
+-- What each instruction is: whether it is fixed, its colour, the registers that it reads and writes, and the stores.
+-- Other crates use these definitions.
 use Rattle.std.specs.Prelude.{ℕ, Bool, true, false, ◌||◌, ◌==◌, nat_lt, Option, Some, None}
 use Rattle.ft_isa.specs.declared.colour.Colour.{Colour}
 use Rattle.ft_isa.specs.declared.colour.Colour.TheVariants.{Green, Blue}
@@ -9,7 +9,7 @@ use Rattle.ft_isa.specs.declared.instr.Instr.TheVariants.{OpReg, OpWord, Mov, Ld
 
 -- LEADING AND TRAILING
 
--- whether an instruction stands fixed: a jump, a branch or `halt`
+-- whether an instruction is fixed: a jump, a branch or `halt`
 abbrev pub is_fixed : Instr → Bool
 is_fixed (JmpG rd) = true
 is_fixed (JmpB rd subst) = true
@@ -22,8 +22,8 @@ abbrev pub is_green : Colour → Bool
 is_green Green = true
 is_green Blue = false
 
--- whether an instruction is leading: a move, a load, a store or an operation with a word where its colour is green, and
--- an operation on two registers or an index where rs is below r32
+-- whether an instruction is leading: a move, a load, a store or an operation with a word if its colour is green, and an
+-- operation on two registers or an index if rs is below r32
 abbrev pub is_leading : Instr → Bool
 is_leading (OpReg op rd rs rt) = nat_lt rs.number 32
 is_leading (OpWord op rd rs value) = is_green value.colour
@@ -40,7 +40,7 @@ abbrev pub number_of : Option Reg → Option ℕ
 number_of None = None
 number_of (Some r) = Some r.number
 
--- the register that an instruction writes, if it writes one
+-- the register that an instruction writes, if any
 abbrev pub written : Instr → Option ℕ
 written (OpReg op rd rs rt) = Some rd.number
 written (OpWord op rd rs value) = Some rd.number
@@ -49,7 +49,7 @@ written (Ld colour rd rs) = Some rd.number
 written (Idx rd rs first m) = Some rd.number
 written i = None
 
--- the first register that an instruction reads, if it reads one
+-- the first register that an instruction reads, if any
 abbrev pub first_read : Instr → Option ℕ
 first_read (OpReg op rd rs rt) = Some rs.number
 first_read (OpWord op rd rs value) = Some rs.number
@@ -62,7 +62,7 @@ first_read (BzB rz rd subst) = Some rz.number
 first_read (Idx rd rs first m) = Some rs.number
 first_read i = None
 
--- the second one, if it reads two
+-- the second one, if any
 abbrev pub second_read : Instr → Option ℕ
 second_read (OpReg op rd rs rt) = Some rt.number
 second_read (St colour rd rs) = Some rs.number
@@ -75,7 +75,7 @@ abbrev pub is_register : Option ℕ → ℕ → Bool
 is_register None r = false
 is_register (Some q) r = q == r
 
--- whether one of two registers, as far as they are given, is register r
+-- whether one of two registers, if they are given, is register r
 abbrev pub is_one_of : Option ℕ → Option ℕ → ℕ → Bool
 is_one_of (Some p) (Some q) r = (p == r) || (q == r)
 is_one_of p None r = is_register p r

@@ -33,7 +33,7 @@ site_text (QVal place) = codes "qv" ++ decimal place
 abbrev pub IsSiteText : List ℕ → Site → Type 0
 IsSiteText text site = IsSite site × (text ≡ site_text site)
 
--- a strike has a text where its numbers are words and its site's place is one of the queue
+-- a strike has a text if its numbers are words and its site's place is one of the queue
 abbrev pub IsStrike : Strike → Type 0
 IsStrike strike = IsWord strike.step × IsSite strike.site × IsWord strike.value
 
@@ -45,7 +45,7 @@ strike_text strike = decimal strike.step ++ codes ":" ++ site_text strike.site +
 abbrev pub IsStrikeText : List ℕ → Strike → Type 0
 IsStrikeText text strike = IsStrike strike × (text ≡ strike_text strike)
 
--- a wild answer has a text where its number is a word
+-- a wild answer has a text if its number is a word
 abbrev pub IsAnswer : Wild → Type 0
 IsAnswer (Word word) = IsWord word
 IsAnswer Stop = Unit {0}
@@ -65,7 +65,7 @@ abbrev pub wild_text : List Wild → List ℕ
 wild_text [] = []
 wild_text (answer ∷ answers) = answer_text answer ++ more_answers_text answers
 
--- one to 4,096 answers have a text where each has one
+-- one to 4,096 answers have a text if each has one
 abbrev pub AreAnswers : List Wild → Type 0
 AreAnswers answers = (0 < length answers) × (length answers ≤ 4096) × AllByRecursion IsAnswer answers
 
@@ -73,22 +73,22 @@ AreAnswers answers = (0 < length answers) × (length answers ≤ 4096) × AllByR
 abbrev pub IsWildText : List ℕ → List Wild → Type 0
 IsWildText text answers = AreAnswers answers × (text ≡ wild_text answers)
 
--- the bytes begin some text of a kind, where a value's text is as told
+-- the bytes are a prefix of some text of this kind
 abbrev pub IsViable : {V : Type 0} → (List ℕ → V → Type 0) → List ℕ → Type 0
 IsViable {V} Tells front = (value : V) × ((rest : List ℕ) × Tells (front ++ rest) value)
 
--- the longest prefix of the text that begins some text of a kind is this long
+-- the longest prefix of the text that is a prefix of some text of this kind has this length
 pub record IsLongestViable {V : Type 0} (Tells : List ℕ → V → Type 0) (text : List ℕ) (at : ℕ) : Type 0 where
   pub within : at ≤ length text
   pub viable : IsViable Tells (take at text)
   pub longest : (n : ℕ) → n ≤ length text → IsViable Tells (take n text) → n ≤ at
 
--- the text is of no value, and is refused where it stops beginning a text
+-- the text spells no value, and is refused at the first byte after which no text is possible
 pub record IsRefusedAt {V : Type 0} (Tells : List ℕ → V → Type 0) (text : List ℕ) (at : ℕ) : Type 0 where
   pub none : (value : V) → ¬ (Tells text value)
   pub place : IsLongestViable Tells text at
 
--- a refusal of the text of wild answers is at its place; out of memory says nothing
+-- a refusal of the text of wild answers is at its place; out of memory claims nothing
 abbrev pub IsWildError : List ℕ → WildError → Type 0
 IsWildError text (Form at) = IsRefusedAt IsWildText text at
 IsWildError text NoMemory = Unit {0}

@@ -1,4 +1,5 @@
--- How far the text of a strike or of wild answers has been read, and what the next byte makes of it: private to the readers.
+-- How far the text of a strike or of wild answers has been read, and how the next byte continues it: private to the
+-- readers.
 use Rattle.std.specs.Prelude.{ℕ, ◌+◌, ◌-◌, ◌*◌, ◌^◌, Bool, ◌&&◌, not, List, [], ◌∷◌, ◌++◌, length, Option, Some, None, option_map, option_and_then, nat_lt, nat_le, ◌==◌, if◌then◌else◌}
 use Rattle.ft_isa.specs.Registers.{reg_of}
 use Rattle.ft_isa.specs.declared.plan.Site.{Site}
@@ -13,7 +14,7 @@ use Rattle.ft_isa.specs.declared.strike_text.StrikeRead.TheVariants.{AtStep, AtS
 use Rattle.ft_isa.specs.declared.wild_text.AnswerRead.{AnswerRead}
 use Rattle.ft_isa.specs.declared.wild_text.AnswerRead.TheVariants as answers
 
--- the state after some bytes, where each has a next state
+-- the state after some bytes, if each has a next state
 abbrev pub state_after : {S : Type 0} → (S → ℕ → Option S) → S → List ℕ → Option S
 state_after next state [] = Some state
 state_after next state (byte ∷ bytes) = option_and_then (λ after. state_after next after bytes) (next state byte)
@@ -22,7 +23,7 @@ state_after next state (byte ∷ bytes) = option_and_then (λ after. state_after
 abbrev pub is_digit : ℕ → Bool
 is_digit byte = nat_le 48 byte && nat_le byte 57
 
--- a number and one more digit, where it makes a number text of a word
+-- a number and one more digit, if that is the number text of a word
 abbrev pub with_digit : Option ℕ → ℕ → Option ℕ
 with_digit None byte = if is_digit byte then Some (byte - 48) else None
 with_digit (Some n) byte = if is_digit byte && not (n == 0) && nat_lt (n * 10 + (byte - 48)) (2 ^ 64) then Some (n * 10 + (byte - 48)) else None
@@ -51,7 +52,7 @@ next_site (sites.Whole PcB) byte = None
 next_site (sites.Whole (QAddr place)) byte = None
 next_site (sites.Whole (QVal place)) byte = None
 
--- the site that was read whole
+-- the site that was read completely
 abbrev pub whole_site : SiteRead → Option Site
 whole_site (sites.Whole site) = Some site
 whole_site _ = None
@@ -62,7 +63,7 @@ next_strike (AtStep number) byte = if byte == 58 then option_map (λ step. AtSit
 next_strike (AtSite step site) byte = if byte == 58 then option_map (λ whole. AtValue step whole None) (whole_site site) else option_map (AtSite step) (next_site site byte)
 next_strike (AtValue step site value) byte = option_map (λ more. AtValue step site (Some more)) (with_digit value byte)
 
--- the strike that was read whole
+-- the strike that was read completely
 abbrev pub whole_strike : StrikeRead → Option Strike
 whole_strike (AtValue step site (Some value)) = Some (record { step = step; site = site; value = value })
 whole_strike _ = None
@@ -76,7 +77,7 @@ next_answer answers.St byte = if byte == 111 then Some answers.Sto else None
 next_answer answers.Sto byte = if byte == 112 then Some answers.Stop else None
 next_answer answers.Stop byte = None
 
--- the wild answer that was read whole
+-- the wild answer that was read completely
 abbrev pub whole_answer : AnswerRead → Option Wild
 whole_answer (answers.Number word) = Some (wilds.Word word)
 whole_answer answers.Stop = Some wilds.Stop
@@ -91,6 +92,6 @@ pub record WildRead : Type 0 where
 abbrev pub next_wild : WildRead → ℕ → Option WildRead
 next_wild read byte = if byte == 44 then (if nat_lt (length read.done + 1) 4096 then option_map (λ answer. record { done = read.done ++ answer ∷ []; part = answers.Empty }) (whole_answer read.part) else None) else option_map (λ part. record { done = read.done; part = part }) (next_answer read.part byte)
 
--- the wild answers that were read whole
+-- the wild answers that were read completely
 abbrev pub whole_wild : WildRead → Option (List Wild)
 whole_wild read = option_map (λ answer. read.done ++ answer ∷ []) (whole_answer read.part)

@@ -11,7 +11,7 @@ IsWord n = n < 2 ^ 64
 abbrev pub word_of_test : Bool → ℕ
 word_of_test b = if b then 1 else 0
 
--- what an operation gives of two words
+-- the result of an operation on two words
 unfoldable pub apply : Op → ℕ → ℕ → ℕ
 apply Add a b = (a + b) % 2 ^ 64
 apply Sub a b = (a + (2 ^ 64 - b)) % 2 ^ 64
@@ -32,7 +32,7 @@ code_address i = 1 + i
 abbrev pub cell_address : ℕ → ℕ
 cell_address k = 1048576 + k
 
--- the address of the cell of a run that a word names: the first one's place plus the word modulo the length
+-- the address of the array cell that a word selects: the first cell's place plus the word modulo the length
 abbrev pub cell_in_run : ℕ → ℕ → ℕ → ℕ
 cell_in_run first m w = cell_address (first + w % m)
 

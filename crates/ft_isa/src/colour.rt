@@ -1,4 +1,5 @@
 //! The colours of the two computations.
+ghost use Rattle.std.specs.Prelude.{◌≡◌};
 
 /// The colour of a computation: green leads, and blue repeats it (Perry, Mackey, Reis, Ligatti,
 /// August, Walker, "Fault-tolerant Typed Assembly Language", PLDI 2007).
@@ -13,4 +14,18 @@ pub enum Colour {
 pub struct Coloured {
     pub colour: Colour,
     pub word: u64,
+}
+
+impl Colour {
+    ghost use Rattle.ft_isa.specs.Instructions.{is_green};
+
+    /// Whether it is green.
+    pub fn is_green(self) -> bool
+        ensures { result ≡ is_green self }
+    {
+        match self {
+            Colour::Green => true,
+            Colour::Blue => false,
+        }
+    }
 }

@@ -4,7 +4,7 @@ ghost use Rattle.std.specs.Str.{bytes_eq};
 ghost use Rattle.ft_isa.specs.Words.{apply};
 
 /// An operation on two words.
-#[derive(Clone, Copy, Debug, PartialEq, Eq, Hash)]
+#[derive(Clone, Copy, Debug, PartialEq, Eq, Hash, PartialOrd, Ord)]
 pub enum Op {
     /// The sum modulo 2^64.
     Add,
@@ -12,9 +12,9 @@ pub enum Op {
     Sub,
     /// The product modulo 2^64.
     Mul,
-    /// 1 where the first word is less than the second, as unsigned numbers, and 0 otherwise.
+    /// 1 if the first word is less than the second, as unsigned numbers, and 0 otherwise.
     Ltu,
-    /// 1 where the words are equal, and 0 otherwise.
+    /// 1 if the words are equal, and 0 otherwise.
     Eq,
     /// The bits that both words have.
     And,
@@ -22,9 +22,9 @@ pub enum Op {
     Or,
     /// The bits that exactly one of the words has.
     Xor,
-    /// The first word times 2 to the second, modulo 2^64: 0 where the second is 64 or more.
+    /// The first word times 2 to the second, modulo 2^64: 0 if the second is 64 or more.
     Shl,
-    /// The first word divided by 2 to the second, rounded down: 0 where the second is 64 or more.
+    /// The first word divided by 2 to the second, rounded down: 0 if the second is 64 or more.
     Shr,
 }
 
@@ -49,7 +49,7 @@ impl Op {
         }
     }
 
-    /// The operation of a code, where any above 8 is `shr`.
+    /// The operation of a code; any code above 8 is `shr`.
     #[inline(always)]
     pub fn of_code(code: u32) -> Op
         ensures { result ≡ op_of code }
@@ -86,7 +86,7 @@ impl Op {
         }
     }
 
-    /// The operation of a word; `None` where the word is no operation's.
+    /// The operation of a word; `None` if the word is not an operation's.
     #[tactic(auto, unfolding(crate::specs::Operations::op_in))]
     pub fn of_word(word: &[u8]) -> Option<Op>
         ensures { result ≡ op_in word.now }
@@ -132,7 +132,7 @@ fn is_same(a: &[u8], b: &[u8]) -> bool
     a == b
 }
 
-/// What the operation gives of two words.
+/// The result of the operation on two words.
 #[tactic(auto, unfolding(crate::specs::Words::apply))]
 pub fn apply(op: Op, a: u64, b: u64) -> u64
     ensures { result ≡ apply op a b }

@@ -14,13 +14,13 @@ pub struct Output {
 /// The address of the first cell; the others follow one by one.
 pub const FIRST_CELL: u64 = 1_048_576;
 
-/// The most bytes that a line has beside its name: a space, 20 digits and a line feed.
+/// The maximum bytes of a line besides its name: a space, 20 digits and a line feed.
 pub const VALUE_ROOM: usize = 22;
 
-/// The most bytes that an output's line takes where the name has at most 40 bytes.
+/// The maximum bytes of an output's line if the name has at most 40 bytes.
 pub const LINE_ROOM: usize = 62;
 
-/// Puts a piece into a buffer so that it ends at a place, and tells where it begins.
+/// Puts a piece into a buffer so that it ends at a place, and returns where it begins.
 #[inline(always)]
 fn put_before(buf: &mut [u8], end: usize, piece: &[u8]) -> usize
     requires room { length piece.now ≤ end }
@@ -34,8 +34,8 @@ fn put_before(buf: &mut [u8], end: usize, piece: &[u8]) -> usize
     start
 }
 
-/// Writes an output's line into a buffer, up to its end, and tells where the line begins. Digits are found from the last to the
-/// first, and this one is written where it stays.
+/// Writes an output's line into a buffer, up to its end, and returns where the line begins. Digits are found from the
+/// last to the first, so each is written where it stays.
 #[inline(always)]
 pub fn write_line(buf: &mut [u8], name: &[u8], value: u64) -> usize
     requires { length name.now + VALUE_ROOM ≤ length buf.old }

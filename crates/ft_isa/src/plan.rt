@@ -1,4 +1,4 @@
-//! What befalls a run: at most one strike, and the answers to wild loads.
+//! What happens to a run: at most one strike, and the answers to wild loads.
 use crate::reg::Reg;
 
 /// A place that a fault may strike. Queue places count from the oldest entry as 0; a plan's are 0
@@ -36,7 +36,7 @@ pub enum Wild {
     Stop,
 }
 
-/// What befalls a run: a strike or none, and the answers to its wild loads in turn.
+/// What happens to a run: a strike or none, and the answers to its wild loads in turn.
 #[derive(Clone, Copy)]
 pub struct Plan<'w> {
     pub strike: Option<Strike>,

@@ -7,7 +7,7 @@ use crate::number_text::with_digit;
 use crate::plan::Site;
 use crate::reg::Reg;
 
-/// What was read of a site: its first letters, or all of it. A register's number may still go on.
+/// What was read of a site: its first letters, or all of it. A register's number may still continue.
 #[derive(Clone, Copy)]
 pub(crate) enum SiteRead {
     Empty,
@@ -20,7 +20,7 @@ pub(crate) enum SiteRead {
     Whole(Site),
 }
 
-/// A register's number and one more digit; `None` where no register's number begins so.
+/// A register's number and one more digit; `None` if no register's number begins like this.
 fn with_register_digit(number: Option<u8>, byte: u8) -> Option<SiteRead>
     ensures { result ≡ with_register_digit number byte }
 {
@@ -30,7 +30,7 @@ fn with_register_digit(number: Option<u8>, byte: u8) -> Option<SiteRead>
 }
 
 impl SiteRead {
-    /// What one more byte makes of the site; `None` where no site's text begins so.
+    /// The site after one more byte; `None` if no site's text begins like this.
     pub(crate) fn next(self, byte: u8) -> Option<SiteRead>
         ensures { result ≡ next_site self byte }
     {
@@ -52,7 +52,7 @@ impl SiteRead {
         }
     }
 
-    /// The site, where its text was read whole.
+    /// The site, if its text was read completely.
     pub(crate) fn whole(self) -> Option<Site>
         ensures { result ≡ whole_site self }
     {
@@ -63,8 +63,8 @@ impl SiteRead {
     }
 }
 
-/// Reads the text of a site: `r0` to `r63`, `d`, `pcg`, `pcb`, `qa0` to `qa7` or `qv0` to `qv7`; `None`
-/// exactly when the text is that of no site.
+/// Reads the text of a site: `r0` to `r63`, `d`, `pcg`, `pcb`, `qa0` to `qa7` or `qv0` to `qv7`; `None` exactly if the
+/// text is not a site.
 pub fn read_site(text: &[u8]) -> Option<Site>
     ensures some { IfSome result (IsSiteText text.now) }
     ensures exact { (site : Site) → IsSiteText text.now site → result ≡ Some site }

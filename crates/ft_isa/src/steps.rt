@@ -22,7 +22,7 @@ impl<L: Ledger> Model for Steps<L> {
 }
 
 impl<L: Ledger> Steps<L> {
-    /// A counter of 0 over a ledger of at least one part.
+    /// A counter of 0, in a ledger of at least one part.
     pub fn new(blank: Blank) -> Steps<L>
         requires name { blank.name ≡ L.name }
         requires parts { blank.parts ≡ L.parts }
@@ -40,7 +40,7 @@ impl<L: Ledger> Steps<L> {
         self.book.add(&mut self.share, 1);
     }
 
-    /// Counts so many steps.
+    /// Counts `number` steps.
     pub fn count(&mut self, number: u64)
         ensures { self.new ≡ self.old + number }
     {

@@ -8,11 +8,11 @@ use crate::plan::{Site, Strike};
 use crate::site_text::SiteRead;
 use thiserror::Error;
 
-/// The text is no text of a strike.
+/// The text is not a strike.
 #[derive(Clone, Copy, Debug, PartialEq, Eq, Error)]
 #[error("no strike at byte {at}")]
 pub struct Form {
-    /// The length of the longest prefix of the text that begins the text of some strike.
+    /// The length of the longest prefix of the text that is a prefix of some strike's text.
     pub at: usize,
 }
 
@@ -32,7 +32,7 @@ enum StrikeRead {
 }
 
 impl StrikeRead {
-    /// What one more byte makes of the strike; `None` where no strike's text begins so.
+    /// The strike after one more byte; `None` if no strike's text begins like this.
     fn next(self, byte: u8) -> Option<StrikeRead>
         ensures { result ≡ next_strike self byte }
     {
@@ -67,7 +67,7 @@ impl StrikeRead {
         }
     }
 
-    /// The strike, where its text was read whole.
+    /// The strike, if its text was read completely.
     fn whole(self) -> Option<Strike>
         ensures { result ≡ whole_strike self }
     {

@@ -1,10 +1,10 @@
 use crate::{Form, Op, Reg, Site, Strike, Wild, WildError, apply, read_strike, read_wild};
 use std::test::Fail;
 
-/// The word of the highest bit alone.
+/// The word of only the highest bit.
 const TOP: u64 = 0x8000_0000_0000_0000;
 
-/// Operations on two words, and the words that they give.
+/// Operations on two words, and their results.
 const RESULTS: [(Op, u64, u64, u64); 35] = [
     (Op::Add, u64::MAX, 2, 1),
     (Op::Sub, 1, 2, u64::MAX),

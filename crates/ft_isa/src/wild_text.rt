@@ -8,19 +8,19 @@ use crate::plan::Wild;
 use std::alloc::Global;
 use thiserror::Error;
 
-/// Why a text gives no wild answers.
+/// Why a text spells no wild answers.
 #[derive(Clone, Copy, Debug, PartialEq, Eq, Error)]
 pub enum WildError {
-    /// The text is no text of wild answers. `at` is the length of the longest prefix of it that
-    /// begins some text of wild answers.
+    /// The text is not one of wild answers. `at` is the length of its longest prefix that is a prefix of some text of
+    /// wild answers.
     #[error("no wild answers at byte {at}")]
     Form { at: usize },
-    /// There was no memory left.
+    /// Memory ran out.
     #[error("out of memory")]
     NoMemory,
 }
 
-/// The most answers that a text may give.
+/// The maximum number of answers in a text.
 const WILD_LIMIT: usize = 4_096;
 
 /// What was read of a wild answer.
@@ -35,7 +35,7 @@ enum AnswerRead {
 }
 
 impl AnswerRead {
-    /// What one more byte makes of the answer; `None` where no answer's text begins so.
+    /// The answer after one more byte; `None` if no answer's text begins like this.
     fn next(self, byte: u8) -> Option<AnswerRead>
         ensures { result ≡ next_answer self byte }
     {
@@ -56,7 +56,7 @@ impl AnswerRead {
         }
     }
 
-    /// The answer, where its text was read whole.
+    /// The answer, if its text was read completely.
     fn whole(self) -> Option<Wild>
         ensures { result ≡ whole_answer self }
     {

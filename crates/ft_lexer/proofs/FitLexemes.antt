@@ -38,13 +38,13 @@ pub record IsFit (l : Lexeme) : Type 0 where
   pub name_fits : l.kind ≡ kinds.Name → IsNameText l.text
   pub number_fits : l.kind ≡ kinds.Number → numeral 0 l.text < 2 ^ 64
 
--- a scan of which all tokens are so
+-- a scan all tokens of which fit
 data AreFit : Scan → Type 0 where
   over_fits : AreFit over
   wrong_fits : {e : LexError} → AreFit (wrong e)
   token_fits : {l : Lexeme} {rest : Scan} → IsFit l → AreFit rest → AreFit (token l rest)
 
--- the first token of such a scan is so, and the rest is such a scan
+-- the first token of such a scan fits, and the rest is such a scan
 token_parts : (l : Lexeme) (rest : Scan) → AreFit (token l rest) → IsFit l × AreFit rest
 token_parts l rest (token_fits a b) = (a, b)
 
@@ -132,7 +132,7 @@ sign_kind_plain b =
     (if_plain (b == 124) kinds.Or fourteen tt
     (if_plain (b == 94) kinds.Xor None tt tt))))))))))))))
 
--- the kind of a sign that stands twice is neither
+-- the kind of a sign that comes twice is neither
 pair_kind_plain : (b : ℕ) → IsPlainSign (pair_kind b)
 unfolding pair_kind
 pair_kind_plain b =
@@ -150,7 +150,7 @@ MayEnd (name start t) = (is_word t ≡ true) × (length t ≤ 32)
 MayEnd (number start t) = Unit {0}
 MayEnd (once k start b) = IsPlain k
 
--- a number that is told is a word
+-- a number that is returned is a word
 number_token_fits : (b : Bool) (start : ℕ) (t : List ℕ) (rest : Scan) → nat_lt (numeral 0 t) (2 ^ 64) ≡ b →
     AreFit rest → AreFit (number_token b start t rest)
 number_token_fits true start t rest e h = token_fits (record {
@@ -239,7 +239,7 @@ scan_fits m at (b ∷ bs) h =
     (λ n k. scan_fits n (at + 1) bs k)
     (begins_fits at b (λ n. scan_from n (at + 1) bs) (λ n k. scan_fits n (at + 1) bs k))
 
--- these lexemes are so
+-- these lexemes fit
 abbrev pub AllFit : List Lexeme → Type 0
 AllFit [] = Unit {0}
 AllFit (l ∷ ls) = IsFit l × AllFit ls

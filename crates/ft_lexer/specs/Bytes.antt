@@ -1,4 +1,4 @@
--- What bytes are, which words are reserved, and which bytes are tokens alone.
+-- Kinds of bytes, reserved words, and the bytes that are tokens by themselves.
 use Rattle.std.specs.Prelude.{ℕ, ◌==◌, ◌&&◌, ◌||◌, Bool, List, nat_le, if◌then◌else◌, Option, Some, None, codes}
 use Rattle.std.specs.Str.{bytes_eq}
 use Rattle.ft_lexer.specs.declared.kind.Kind.{Kind}
@@ -12,11 +12,11 @@ is_blank b = b == 32 || b == 9 || b == 13 || b == 10
 abbrev pub is_digit : ℕ → Bool
 is_digit b = nat_le 48 b && nat_le b 57
 
--- `a` to `z`, `A` to `Z` and `_`, with which names begin
+-- bytes that may begin a name: `a` to `z`, `A` to `Z` and `_`
 abbrev pub is_letter : ℕ → Bool
 is_letter b = (nat_le 97 b && nat_le b 122) || (nat_le 65 b && nat_le b 90) || b == 95
 
--- with which names go on
+-- bytes that may follow in a name
 abbrev pub is_name_byte : ℕ → Bool
 is_name_byte b = is_letter b || is_digit b
 
@@ -30,7 +30,7 @@ word_kind t =
     else (if bytes_eq t (codes "else") then kinds.Else
     else kinds.Name))))
 
--- the kind of the token that is this byte twice
+-- the kind of the token that consists of this byte twice
 unfoldable pub pair_kind : ℕ → Option Kind
 pair_kind b =
     if b == 61 then Some kinds.EqEq
@@ -38,7 +38,7 @@ pair_kind b =
     else (if b == 62 then Some kinds.Shr
     else None))
 
--- the kind of the token that is this byte alone
+-- the kind of the token that consists of this byte
 unfoldable pub sign_kind : ℕ → Option Kind
 sign_kind b =
     if b == 59 then Some kinds.Semi

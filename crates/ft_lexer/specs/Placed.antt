@@ -1,4 +1,4 @@
--- Where the tokens of a text stand.
+-- Where the tokens of a text are.
 use Rattle.std.specs.Prelude.{◌≡◌, ℕ, ◌+◌, ◌<◌, ◌≤◌, List, length, take, drop}
 use Rattle.ft_lexer.specs.Scan.{Scan, over, wrong, token}
 

@@ -17,13 +17,14 @@ pub record Lexeme : Type 0 where
 abbrev pub lexeme : Token → Lexeme
 lexeme t = record { kind = t.kind; text = t.text.now; at = t.at }
 
--- what is told of a text from some place on: nothing more, the first error, or a token and what is told after it
+-- the scan of a text from some place: the end, the first error, or a token and the scan after it
 pub data Scan : Type 0 where
   over : Scan
   wrong : LexError → Scan
   token : Lexeme → Scan → Scan
 
--- what the bytes so far have begun, where it began and its bytes: a gap, a comment, a name, a number, or a byte that makes a token of this kind with another like it
+-- what the bytes so far have begun, where it began and its bytes: a gap, a comment, a name, a number, or a byte that
+-- makes a token of this kind with another like it
 pub data Mode : Type 0 where
   gap : Mode
   comment : Mode
@@ -49,7 +50,7 @@ ends (name start t) rest = token (record { kind = word_kind t; text = t; at = st
 ends (number start t) rest = number_token (nat_lt (numeral 0 t) (2 ^ 64)) start t rest
 ends (once k start b) rest = sign_at (sign_kind b) start b rest
 
--- a byte that may stand twice, or stands alone
+-- a byte that may come twice, or is a token by itself
 abbrev pub sign_from : Option Kind → ℕ → ℕ → (Mode → Scan) → Scan
 sign_from (Some k) at b after = after (once k at b)
 sign_from None at b after = sign_at (sign_kind b) at b (after gap)
@@ -69,7 +70,7 @@ in_name false long at more end = end
 in_name true false at more end = more
 in_name true true at more end = wrong (lex_errors.Byte at)
 
--- the byte b goes on with what has begun, or ends it and begins something else
+-- the byte b continues what has begun, or ends it and begins something else
 abbrev pub reads : Mode → ℕ → ℕ → (Mode → Scan) → Scan → Scan
 reads gap at b after other = other
 reads comment at b after other = if b == 10 then after gap else after comment
@@ -77,7 +78,7 @@ reads (name start t) at b after other = in_name (is_name_byte b) (nat_le 32 (len
 reads (number start t) at b after other = if is_digit b then after (number start (t ++ b ∷ [])) else ends (number start t) other
 reads (once k start first) at b after other = if b == first then token (record { kind = k; text = first ∷ b ∷ []; at = start }) (after gap) else ends (once k start first) other
 
--- the scan of these bytes, the first of them at this place
+-- the scan of these bytes, which begin at this place
 abbrev pub scan_from : Mode → ℕ → List ℕ → Scan
 scan_from m at [] = ends m over
 scan_from m at (b ∷ bs) = reads m at b (λ n. scan_from n (at + 1) bs) (begins at b (λ n. scan_from n (at + 1) bs))
@@ -86,7 +87,7 @@ scan_from m at (b ∷ bs) = reads m at b (λ n. scan_from n (at + 1) bs) (begins
 abbrev pub scan : List ℕ → Scan
 scan text = scan_from gap 0 text
 
--- what a call told, before what is told after it
+-- what a call returned, before the scan after it
 abbrev pub told : Option (Result Token LexError) → Scan → Scan
 told None rest = over
 told (Some (Err e)) rest = wrong e
@@ -103,7 +104,7 @@ all_of over = Ok []
 all_of (wrong e) = Err e
 all_of (token t rest) = with_token t (all_of rest)
 
--- how many tokens and errors a scan tells
+-- how many tokens and errors a scan has
 abbrev pub size : Scan → ℕ
 size over = 0
 size (wrong e) = 1

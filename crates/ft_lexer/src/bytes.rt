@@ -19,14 +19,14 @@ pub fn is_digit(b: u8) -> bool
     b'0' <= b && b <= b'9'
 }
 
-/// Whether a name can begin with the byte.
+/// Whether the byte may begin a name.
 pub fn is_letter(b: u8) -> bool
     ensures { result ≡ is_letter b }
 {
     b'a' <= b && b <= b'z' || b'A' <= b && b <= b'Z' || b == b'_'
 }
 
-/// Whether a name can go on with the byte.
+/// Whether the byte may follow in a name.
 pub fn is_name_byte(b: u8) -> bool
     ensures { result ≡ is_name_byte b }
 {
@@ -54,7 +54,7 @@ pub fn word_kind(text: &[u8]) -> Kind
     }
 }
 
-/// The kind of the token that is this byte twice.
+/// The kind of the token that consists of this byte twice.
 #[tactic(auto, unfolding(crate::specs::Bytes::pair_kind))]
 pub fn pair_kind(b: u8) -> Option<Kind>
     ensures value { result ≡ pair_kind b }
@@ -71,7 +71,7 @@ pub fn pair_kind(b: u8) -> Option<Kind>
     }
 }
 
-/// The kind of the token that is this one byte.
+/// The kind of the token that consists of this byte.
 #[tactic(auto, unfolding(crate::specs::Bytes::sign_kind))]
 pub fn sign_kind(b: u8) -> Option<Kind>
     ensures { result ≡ sign_kind b }

@@ -3,7 +3,7 @@
 /// The kind of a token.
 #[derive(Clone, Copy, Debug, PartialEq, Eq)]
 pub enum Kind {
-    /// A letter or `_`, and the letters, digits and `_` after it, where they are no reserved word.
+    /// A letter or `_`, and the letters, digits and `_` after it, if they are not a reserved word.
     Name,
     /// A run of digits that spell a number below 2^64.
     Number,

@@ -1,4 +1,4 @@
-//! Why a text is cut into no tokens.
+//! Why a text cannot be cut into tokens.
 use thiserror::Error;
 
 /// The first error of a text.
@@ -7,7 +7,7 @@ pub enum LexError {
     /// The byte at `at`, counted from 0, begins no token, or is the 33rd of a name.
     #[error("no token at byte {at}")]
     Byte { at: usize },
-    /// The digits from byte `at` on spell 2^64 or more.
+    /// The digits from byte `at` spell 2^64 or more.
     #[error("too large a number at byte {at}")]
     Number { at: usize },
 }

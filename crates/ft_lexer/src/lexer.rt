@@ -10,9 +10,9 @@ use crate::lex_error::LexError;
 use crate::runs::{NAME_LIMIT, fits, name_len, number_len};
 use crate::token::Token;
 
-/// The rest of a source text, of which the tokens are still to be told.
+/// The rest of a source text, whose tokens are still to be returned.
 ///
-/// A lexer takes no memory, and its tokens are slices of the text.
+/// A lexer allocates nothing, and its tokens are slices of the text.
 #[derive(Drop)]
 pub struct Lexer<'a> {
     rest: &'a [u8],
@@ -30,7 +30,7 @@ impl<'a> Lexer<'a> {
         Lexer { rest: text, at: 0 }
     }
 
-    /// Passes a comment, but for its line feed.
+    /// Passes a comment, except for its line feed.
     fn pass_comment(&mut self)
         ensures same { scan_from comment self.old.at self.old.rest.now ≡ left self.new }
         ensures shorter { length self.new.rest.now ≤ length self.old.rest.now }
@@ -112,7 +112,7 @@ impl<'a> Lexer<'a> {
         })
     }
 
-    /// Whether the next byte stands twice.
+    /// Whether the next byte comes twice.
     fn is_twice(&self) -> bool
         ensures { result ≡ is_twice self.now.rest.now }
     {
@@ -179,7 +179,7 @@ impl<'a> Lexer<'a> {
         }
     }
 
-    /// The next token, or the error of the text; `None` at the end and, for ever, after either.
+    /// The next token, or the error of the text; `None` at the end and always after either.
     pub fn next(&mut self) -> Option<Result<Token<'a>, LexError>>
         ensures tells { left self.old ≡ told result (left self.new) }
         ensures end { IfNone result (left self.new ≡ over) }

@@ -4,22 +4,22 @@ use Rattle.std.specs.Ordering.{nat_cmp, ordering_then, is_eq}
 use Rattle.std.specs.declared.cmp.Ordering.{Ordering}
 use Rattle.std.specs.declared.cmp.Ordering.TheVariants.{Less, Equal, Greater}
 
--- a test with `true` where another one passes
+-- a test that is also `true` if another one passes
 pub cond_is_or : (b x : Bool) → cond b true x ≡ (b || x)
 cond_is_or true x = refl
 cond_is_or false x = refl
 
--- two comparisons one after the other are equal where both are
+-- two comparisons one after the other are equal if both are
 first_of_two : (o p : Ordering) → is_eq (ordering_then o p) ≡ (is_eq o && is_eq p)
 first_of_two Less p = refl
 first_of_two Equal p = refl
 first_of_two Greater p = refl
 
--- numbers compare as equal where they are the same
+-- numbers compare as equal if they are the same
 same_number : (a b : ℕ) → is_eq (nat_cmp a b) ≡ (a == b)
 same_number a b = grind arith
 
--- two places are the same where the modules and the numbers are
+-- two places are the same if the modules and the numbers are
 pub same_place : (a b m n : ℕ) → is_eq (ordering_then (nat_cmp a m) (nat_cmp b n)) ≡ ((a == m) && (b == n))
 same_place a b m n = first_of_two (nat_cmp a m) (nat_cmp b n) ∙ ap (λ x. x && is_eq (nat_cmp b n)) (same_number a m)
     ∙ ap (λ x. (a == m) && x) (same_number b n)

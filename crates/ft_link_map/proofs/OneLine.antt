@@ -29,7 +29,7 @@ form_of (Export name block) = 2
 form_of (Import name block) = 3
 form_of Bad = 0
 
--- the first byte tells the form
+-- the first byte shows the form
 form_is : (l : MapLine) (line : List ℕ) → IsWritten l line → form_of_text line ≡ form_of l
 form_is (Module file) line h = ap form_of_text h.1
 form_is (Export name block) line h = ap form_of_text h.2
@@ -52,7 +52,7 @@ same_form line l k e h i = absurd (omega arith)
 one_written : (line : List ℕ) (l k : MapLine) → IsWritten l line → IsWritten k line → l ≡ k
 one_written line l k h i = same_form line l k (sym (form_is l line h) ∙ form_is k line i) h i
 
--- a line is what is written, or nothing is written so
+-- a line is what is written, or nothing is written like this
 told : (line : List ℕ) (l : MapLine) → Says line l →
     IsWritten l line ⊎ ((l ≡ Bad) × ((k : MapLine) → ¬ (IsWritten k line)))
 told line Bad h = inr (refl, h)

@@ -26,12 +26,12 @@ none_by p (x ∷ xs) h = ((or_parts _ _ h).0, none_by p xs (or_parts _ _ h).1)
 none_passes : {X : Type 0} (p : X → Bool) (xs : List X) → list_any p xs ≡ false → All (λ x. p x ≡ false) xs
 none_passes p xs h = All-from_recursion (λ x. p x ≡ false) xs (none_by p xs h)
 
--- where no export has a name, each export's name is another
+-- if no export has a name, each export's name is another
 other_names : (asks : List Ask) (a : Ask) → has_name asks a.name ≡ false → All (λ (x : Ask). HaveTwoNames x a) asks
 other_names asks a h = λ k d lt e. true≢false (sym ((bytes_eq-Decides _ _).1 e)
     ∙ none_passes (λ (x : Ask). bytes_eq x.name a.name) asks h k d lt)
 
--- where none names a block, each names another one
+-- if none names a block, each names another one
 other_blocks : (asks : List Ask) (a : Ask) → has_block asks a.module a.block ≡ false →
     All (λ (x : Ask). NameTwoBlocks x a) asks
 other_blocks asks a h = λ k d lt e. true≢false (sym (and_from _ _ (eq-eqb _ _ e.same_module) (eq-eqb _ _ e.same_block))
@@ -47,7 +47,7 @@ back a b h e = h (record { same_module = sym e.same_module; same_block = sym e.s
 abbrev IsBy : ℕ → Ask → Type 0
 IsBy count a = a.line ≤ count
 
--- what holds of the map of so many lines
+-- what holds of the map of the lines so far
 record IsFair (m : LinkMap) (count : ℕ) : Type 0 where
   few_files : length m.files ≤ 64
   export_modules : All (IsOfModules (length m.files)) m.exports
@@ -69,7 +69,7 @@ of_more n k le asks h = λ i d lt. omega (arith, le, h i d lt)
 by_more : (n k : ℕ) → n ≤ k → (asks : List Ask) → All (IsBy n) asks → All (IsBy k) asks
 by_more n k le asks h = λ i d lt. omega (arith, le, h i d lt)
 
--- those among the first stand above the next line
+-- those among the first come above the next line
 above : (n : ℕ) (asks : List Ask) (a : Ask) → All (IsBy n) asks → a.line ≡ suc n → All (λ (x : Ask). IsAbove x a) asks
 above n asks a h e = λ i d lt. omega (arith, e, h i d lt)
 
@@ -177,7 +177,7 @@ ended : (b : Bool) (n : ℕ) → (if b then None else Some n) ≡ None → b ≡
 ended true n h = refl
 ended false n h = absurd cc
 
--- the map of all lines is sound, where nothing is refused
+-- the map of all lines is sound, if nothing is refused
 sound_after : (ls : List MapLine) (m : LinkMap) (count : ℕ) → IsFair m count → first_bad m count ls ≡ None →
     first_twice m count ls ≡ None → IsSound (with_lines m count ls)
 sound_after [] m count h good new =
@@ -215,7 +215,7 @@ fair_none = record {
   sides_apart = λ k d lt. absurd (omega (arith, lt));
 }
 
--- where the answer is a map, nothing is refused
+-- if the answer is a map, nothing is refused
 by_answers : (bad twice : Option ℕ) (m n : LinkMap) → answered bad twice m ≡ Is n → (bad ≡ None) × (twice ≡ None)
     × (m ≡ n)
 by_answers (Some k) twice m n e = absurd cc

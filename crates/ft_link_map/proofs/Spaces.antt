@@ -7,7 +7,7 @@ use Rattle.ft_text.proofs.FirstWords.{HasNoSpace}
 use Rattle.ft_types.specs.Spellable.{is_letter}
 use Rattle.ft_link_map.specs.MapLines.{is_word_byte, begins_name, is_block_name}
 
--- letters, low lines and digits are no spaces
+-- letters, underscores and digits are not spaces
 word_bytes_free : (bytes : List ℕ) → list_all is_word_byte bytes ≡ true → AllByRecursion (λ byte. byte ≢ 32) bytes
 word_bytes_free [] h = tt
 word_bytes_free (x ∷ xs) h = (
@@ -15,7 +15,7 @@ word_bytes_free (x ∷ xs) h = (
   word_bytes_free xs (and_parts _ _ h).1,
 )
 
--- the bytes of a name are no spaces
+-- the bytes of a name are not spaces
 begun_free : (name : List ℕ) → begins_name name ≡ true → AllByRecursion (λ byte. byte ≢ 32) name
 begun_free [] h = absurd (true≢false (sym h))
 begun_free (x ∷ xs) h = (

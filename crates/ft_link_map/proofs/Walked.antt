@@ -19,17 +19,17 @@ abbrev sooner : Option ℕ → Option ℕ → Option ℕ
 sooner (Some number) later = Some number
 sooner None later = later
 
--- what is answered from a map of so many lines, where these are left
+-- the answer from the map of the lines so far, if these are left
 abbrev answer_from : LinkMap → Option ℕ → ℕ → List MapLine → Answer
 answer_from m twice count ls = answered (first_bad m count ls) (sooner twice (first_twice m count ls))
     (with_lines m count ls)
 
--- whatever these lines say, those that are left say some of it, which the answer comes from
+-- whatever these lines say, those that are left say some of it, from which the answer comes
 abbrev pub Leads : List (List ℕ) → LinkMap → Option ℕ → ℕ → List (List ℕ) → Type 0
 Leads all m twice count left = (said : List MapLine) → AllZip Says all said → (rest : List MapLine)
     × AllZip Says left rest × (answer_of said ≡ answer_from m twice count rest)
 
--- the first line that repeats, where the next one does or does not
+-- the first line that repeats, if the next one does or does not
 abbrev next_twice : Option ℕ → Bool → ℕ → Option ℕ
 next_twice (Some first) again number = Some first
 next_twice None again number = if again then Some number else None
@@ -41,7 +41,7 @@ sooner_step (Some n) again number later = refl
 sooner_step None true number later = refl
 sooner_step None false number later = refl
 
--- the answer of a line that may stand there, before others, is that of the others
+-- the answer to a line that is allowed there, before others, is that to the others
 answer_step : (m : LinkMap) (twice : Option ℕ) (count : ℕ) (l : MapLine) (ls : List MapLine) → may_stand m l ≡ true →
     answer_from m twice count (l ∷ ls) ≡ answer_from (with_line m (suc count) l)
     (next_twice twice (repeats m l) (suc count)) (suc count) ls
@@ -74,7 +74,7 @@ leads_on all m twice count left line after l h e says may = λ said are.
     step_by all m twice count line after l said x.0 says may (subst (λ (ts : List (List ℕ)). AllZip Says ts x.0) e x.1)
     x.2
 
--- what is left begins with a line that may not stand there
+-- what is left begins with a line that is not allowed there
 stop_by : (m : LinkMap) (twice : Option ℕ) (count : ℕ) (line : List ℕ) (after : List (List ℕ)) (l : MapLine)
     (said rest : List MapLine) → Says line l → may_stand m l ≡ false → AllZip Says (line ∷ after) rest → answer_of said
     ≡ answer_from m twice count rest → answer_of said ≡ Line (suc count)
@@ -86,7 +86,7 @@ stop_by m twice count line after l said (k ∷ ks) says may h e =
     e ∙ ap (λ o. answered o (sooner twice (first_twice m count (k ∷ ks))) (with_lines m count (k ∷ ks)))
     (cond-false (may_stand m k) (first_bad next (suc count) ks) (Some (suc count)) not_here)
 
--- a line that may stand there was taken
+-- a line that is allowed there was accepted
 taken : (all : List (List ℕ)) (d : Draft) (m : LinkMap) (twice r : Option ℕ) (count : ℕ) (left : List (List ℕ))
     (line : List ℕ) (after : List (List ℕ)) (l : MapLine) → Leads all m twice count left → left ≡ line ∷ after →
     Says line l
@@ -125,7 +125,7 @@ takes_more all d m twice r count left line after l Again h e says takes is first
     ∙ ap (λ b. next_twice twice b (count + 1)) (sym takes.1))
 takes_more all d m twice r count left line after l Stuck h e says takes is first = absurd (is refl)
 
--- a line that may not stand there
+-- a line that is not allowed there
 leads_nowhere : (all : List (List ℕ)) (m : LinkMap) (twice : Option ℕ) (count : ℕ) (left : List (List ℕ))
     (line : List ℕ) (after : List (List ℕ)) (l : MapLine) → Leads all m twice count left → left ≡ line ∷ after →
     Says line l → may_stand m l ≡ false

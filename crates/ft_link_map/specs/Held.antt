@@ -30,27 +30,27 @@ pub record Holds (d : Draft) (m : maps.LinkMap) : Type 0 where
   pub exported : (a b : ℕ) → knows_block d.exported a b ≡ has_block m.exports a b
   pub imported : (a b : ℕ) → knows_block d.imported a b ≡ has_block m.imports a b
 
--- what is told of the last module
+-- what is known of the last module
 abbrev pub TellsModule : Option ℕ → maps.LinkMap → Type 0
 TellsModule None m = nat_lt 0 (length m.files) ≡ false
 TellsModule (Some number) m = (nat_lt 0 (length m.files) ≡ true) × (number ≡ last_module m)
 
--- the turn of a line that may stand there
+-- the turn of a line that is allowed there
 abbrev pub turn_of : Bool → Turn
 turn_of again = if again then Again else On
 
--- a line was taken; or it may not stand there
+-- a line was accepted; or it is not allowed there
 abbrev pub Takes : Turn → Draft → maps.LinkMap → ℕ → MapLine → Type 0
 Takes On d m number line = (may_stand m line ≡ true) × (repeats m line ≡ false) × Holds d (with_line m number line)
 Takes Again d m number line = (may_stand m line ≡ true) × (repeats m line ≡ true) × Holds d (with_line m number line)
 Takes Stuck d m number line = may_stand m line ≡ false
 
--- the map at the end, where it has a module
+-- the map at the end, if it has a module
 abbrev pub Ends : Option maps.LinkMap → maps.LinkMap → Type 0
 Ends None m = nat_lt 0 (length m.files) ≡ false
 Ends (Some map) m = (nat_lt 0 (length m.files) ≡ true) × (map ≡ m)
 
--- the first line that repeats, where the next line makes this turn
+-- the first line that repeats, if the next line makes this turn
 abbrev pub first_of : Option ℕ → Turn → ℕ → Option ℕ
 first_of (Some first) turn number = Some first
 first_of None On number = None

@@ -1,4 +1,4 @@
--- The map that lines write, and the lines that are refused.
+-- The map that lines describe, and the lines that are refused.
 use Rattle.std.specs.Prelude.{◌≡◌, ℕ, suc, ◌-◌, Bool, false, ◌&&◌, ◌||◌, ◌==◌, nat_lt, if◌then◌else◌, List, [], ◌∷◌, ◌++◌, length, Option, Some, None, Result, Ok, Err}
 use Rattle.std.specs.List.{list_any}
 use Rattle.std.specs.Str.{bytes_eq}
@@ -29,22 +29,22 @@ with_line m number (Export name block) = record { files = m.files; exports = m.e
 with_line m number (Import name block) = record { files = m.files; exports = m.exports; imports = m.imports ++ asked m number name block ∷ [] }
 with_line m number Bad = m
 
--- the map with more lines, after so many
+-- the map with more lines, after `count` lines
 abbrev pub with_lines : maps.LinkMap → ℕ → List MapLine → maps.LinkMap
 with_lines m count [] = m
 with_lines m count (l ∷ ls) = with_lines (with_line m (suc count) l) (suc count) ls
 
--- LINES THAT MAY NOT STAND THERE
+-- LINES THAT ARE NOT ALLOWED THERE
 
--- whether a line may stand after those of a map: there are 64 modules at most, an export or import is of a module, and a
--- bad line may stand nowhere
+-- whether a line is allowed after those of a map: there are at most 64 modules, an export or import follows a module,
+-- and a bad line is allowed nowhere
 abbrev pub may_stand : maps.LinkMap → MapLine → Bool
 may_stand m (Module file) = nat_lt (length m.files) 64
 may_stand m (Export name block) = nat_lt 0 (length m.files)
 may_stand m (Import name block) = nat_lt 0 (length m.files)
 may_stand m Bad = false
 
--- the number of the first line that may not stand there; where there is no module, the line after the last is missing
+-- the number of the first line that is not allowed there; if there is no module, the line after the last is missing
 abbrev pub first_bad : maps.LinkMap → ℕ → List MapLine → Option ℕ
 first_bad m count [] = if nat_lt 0 (length m.files) then None else Some (suc count)
 first_bad m count (l ∷ ls) = if may_stand m l then first_bad (with_line m (suc count) l) (suc count) ls else Some (suc count)
@@ -79,13 +79,13 @@ pub data Answer : Type 0 where
   Line : ℕ → Answer
   Twice : ℕ → Answer
 
--- a line that may not stand there is refused before one that repeats
+-- a line that is not allowed there is refused before one that repeats
 abbrev pub answered : Option ℕ → Option ℕ → maps.LinkMap → Answer
 answered (Some number) twice m = Line number
 answered None (Some number) m = Twice number
 answered None None m = Is m
 
--- what is answered for these lines
+-- the answer to these lines
 abbrev pub answer_of : List MapLine → Answer
 answer_of said = answered (first_bad no_lines 0 said) (first_twice no_lines 0 said) (with_lines no_lines 0 said)
 
@@ -95,7 +95,7 @@ IsRefusal (errors.Line line) answer = answer ≡ Line line
 IsRefusal (errors.Twice line) answer = answer ≡ Twice line
 IsRefusal errors.NoMemory answer = Unit {0}
 
--- what is given is the answer, unless memory ran out
+-- the result is the answer, unless memory ran out
 abbrev pub Gives : Result maps.LinkMap MapError → Answer → Type 0
 Gives (Ok map) answer = answer ≡ Is map
 Gives (Err error) answer = IsRefusal error answer

@@ -15,7 +15,7 @@ pub data MapLine : Type 0 where
   -- any other line
   Bad : MapLine
 
--- a byte that may stand in a file's name: it is printed, and no space
+-- a byte of a file's name: printable, and not a space
 abbrev pub is_file_byte : ℕ → Bool
 is_file_byte byte = nat_le 33 byte && nat_le byte 126
 
@@ -23,11 +23,11 @@ is_file_byte byte = nat_le 33 byte && nat_le byte 126
 abbrev pub is_file : List ℕ → Bool
 is_file file = nat_lt 0 (length file) && nat_le (length file) 255 && list_all is_file_byte file
 
--- a letter of ASCII, a low line or a digit
+-- an ASCII letter, an underscore or a digit
 abbrev pub is_word_byte : ℕ → Bool
 is_word_byte byte = is_letter byte || is_digit byte
 
--- a letter or a low line, and then letters, digits and low lines
+-- a letter or an underscore, and then letters, digits and underscores
 abbrev pub begins_name : List ℕ → Bool
 begins_name [] = false
 begins_name (byte ∷ bytes) = is_letter byte && list_all is_word_byte bytes
@@ -36,14 +36,14 @@ begins_name (byte ∷ bytes) = is_letter byte && list_all is_word_byte bytes
 abbrev pub is_block_name : List ℕ → Bool
 is_block_name name = begins_name name && nat_le (length name) 32
 
--- the line is what is written: the word, and what it takes, with one space between them
+-- the line as it is written: the word, and what it takes, with one space between them
 abbrev pub IsWritten : MapLine → List ℕ → Type 0
 IsWritten (Module file) line = (is_file file ≡ true) × (line ≡ codes "module " ++ file)
 IsWritten (Export name block) line = (is_block_name name ≡ true) × (block < 2 ^ 32) × (line ≡ codes "export " ++ name ++ codes " " ++ decimal block)
 IsWritten (Import name block) line = (is_block_name name ≡ true) × (block < 2 ^ 32) × (line ≡ codes "import " ++ name ++ codes " " ++ decimal block)
 IsWritten Bad line = ⊥
 
--- the line says this: it is so written, or nothing is written so and it is a bad line
+-- the line says this: it is written like this, or it is a bad line and nothing is written like this
 abbrev pub Says : List ℕ → MapLine → Type 0
 Says line Bad = (other : MapLine) → ¬ (IsWritten other line)
 Says line said = IsWritten said line

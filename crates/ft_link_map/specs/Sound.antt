@@ -4,11 +4,11 @@ use Rattle.std.specs.List.{AllPairs}
 use Rattle.ft_link_map.specs.declared.link_map.Ask.{Ask}
 use Rattle.ft_link_map.specs.declared.link_map.LinkMap.{LinkMap}
 
--- the module of an export or import is one of so many
+-- the module of an export or import is one of this many
 abbrev pub IsOfModules : ℕ → Ask → Type 0
 IsOfModules modules a = a.module < modules
 
--- the first stands on a line before the second
+-- the first is on a line before the second
 abbrev pub IsAbove : Ask → Ask → Type 0
 IsAbove a b = a.line < b.line
 
@@ -29,8 +29,8 @@ pub record NameOneBlock (a b : Ask) : Type 0 where
 abbrev pub NameTwoBlocks : Ask → Ask → Type 0
 NameTwoBlocks a b = ¬ (NameOneBlock a b)
 
--- a map that modules can be linked by: 1 to 64 files, and each export and import names one of them; lines rise, and no
--- line is twice there; no name is exported twice; no block is named by two imports or by an import and an export
+-- a map by which modules can be linked: 1 to 64 files, and each export and import names one of them; line numbers
+-- increase strictly; no name is exported twice; no block is named by two imports or by an import and an export
 pub record IsSound (linkage : LinkMap) : Type 0 where
   pub some_files : 1 ≤ length linkage.files
   pub few_files : length linkage.files ≤ 64

@@ -22,7 +22,7 @@ impl Blocks {
         }
     }
 
-    /// Whether a block is there.
+    /// Whether a block is in the set.
     #[tactic(auto, unfolding(crate::specs::Held::knows_block))]
     pub(crate) fn has(&self, module: u32, block: u32) -> bool
         ensures { result ≡ knows_block self.now «module» block }
@@ -30,7 +30,7 @@ impl Blocks {
         self.places.contains(&(module, block))
     }
 
-    /// Notes a block; tells whether it was there before.
+    /// Notes a block; returns whether it was there before.
     #[tactic(auto, unfolding(crate::specs::Held::knows_block))]
     pub(crate) fn note(&mut self, module: u32, block: u32) -> Result<bool, AllocError>
         ensures told { IfOk result (λ known. known ≡ knows_block self.old «module» block) }

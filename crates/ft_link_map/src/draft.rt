@@ -13,17 +13,17 @@ use crate::names::Names;
 use ft_types::Table;
 use std::alloc::{AllocError, Global};
 
-/// The most modules of a map.
+/// The maximum number of modules of a map.
 const MODULE_LIMIT: usize = 64;
 
-/// What a line makes of the lines so far.
+/// What a line does to the lines so far.
 #[derive(Clone, Copy)]
 pub(crate) enum Turn {
     /// They go on.
     On,
     /// They go on, and it repeats what one of them says.
     Again,
-    /// It may not stand there.
+    /// It is not allowed there.
     Stuck,
 }
 
@@ -39,7 +39,7 @@ pub(crate) struct Draft<'t> {
     imported: Blocks,
 }
 
-/// The turn of a line that may stand there.
+/// The turn of a line that is allowed there.
 fn turn_of(again: bool) -> Turn
     ensures { result ≡ turn_of again }
 {
@@ -54,7 +54,7 @@ fn copy_text(alloc: Global, text: &[u8]) -> Result<Table<u8>, AllocError>
     Ok(Table::from_vec(copy))
 }
 
-/// Adds an export or import at the end of others.
+/// Appends an export or import.
 fn push_ask(
     alloc: Global,
     asks: &mut Vec<Ask>,
@@ -90,7 +90,7 @@ impl<'t> Draft<'t> {
         }
     }
 
-    /// The number of the last module; `None` where there is none.
+    /// The number of the last module; `None` if there is none.
     fn last_module(&self) -> Option<u32>
         requires { length self.now.files.items ≤ 64 }
         ensures { (m : maps.LinkMap) → Holds self.now m → TellsModule result m }
@@ -155,7 +155,7 @@ impl<'t> Draft<'t> {
         Ok(turn_of(exported || known))
     }
 
-    /// Takes one line more, which has this number.
+    /// Adds one more line, which has this number.
     pub(crate) fn take(
         &mut self,
         alloc: Global,
@@ -173,7 +173,7 @@ impl<'t> Draft<'t> {
         }
     }
 
-    /// The map; `None` where it has no module.
+    /// The map; `None` if it has no module.
     pub(crate) fn finish(self) -> Option<LinkMap>
         ensures { (m : maps.LinkMap) → Holds self.entry m → Ends result m }
     {

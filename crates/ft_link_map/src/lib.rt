@@ -1,9 +1,9 @@
 //! Link maps: the modules that are linked, and what they export and import.
 //!
-//! The crate promises that a text is read as the map that its lines write, or refused for the first line
-//! that may not stand where it is, else for the first that repeats; and that a map that was read is sound.
-//! Its definitions: `specs/MapLines.antt` says what a line says, `MapAnswers.antt` what is answered for
-//! lines, and `Sound.antt` what a sound map is.
+//! The crate promises that a text is read as the map that its lines describe, or refused at the first
+//! misplaced line, else at the first repeated one; and that a map that was read is sound.
+//! `specs/MapLines.antt` defines lines, `MapAnswers.antt` their map or refusal, and `Sound.antt` what a
+//! sound map is.
 #![tactic(auto)]
 
 mod blocks;

@@ -1,8 +1,8 @@
 //! Link maps: the modules by their files, and what they export and import.
 use ft_types::Table;
 
-/// An export or an import: a module and a block of it, each by its number from 0 on, the name that the
-/// block is given (1 to 32 bytes), and the line of the map, counted from 1.
+/// An export or an import: a module and a block of it, each by its number from 0, the name that the block is given (1
+/// to 32 bytes), and the line of the map, counted from 1.
 #[derive(Drop)]
 pub struct Ask {
     pub module: u32,

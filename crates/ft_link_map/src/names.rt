@@ -23,7 +23,7 @@ impl<'t> Names<'t> {
         }
     }
 
-    /// Notes a name; tells whether it was there before.
+    /// Notes a name; returns whether it was there before.
     #[tactic(auto, unfolding(crate::specs::Held::knows_name))]
     pub(crate) fn note(&mut self, name: &'t [u8]) -> Result<bool, AllocError>
         ensures told { IfOk result (λ known. known ≡ knows_name self.old name.now) }

@@ -12,7 +12,7 @@ use crate::map_error::MapError;
 use ft_text::read_line;
 use std::alloc::Global;
 
-/// The first line that repeats, where the next line makes this turn.
+/// The first line that repeats, if the next line makes this turn.
 fn first_of(twice: Option<u32>, turn: Turn, number: u32) -> Option<u32>
     ensures { result ≡ first_of twice turn number }
 {
@@ -51,13 +51,13 @@ fn read_lines(alloc: Global, text: &[u8]) -> Result<LinkMap, MapError>
     }
 }
 
-/// Reads a link map: a text of lines, each `module FILE`, `export NAME B` or `import NAME B`, with a line
-/// feed at its end; the last line may lack it. FILE is 1 to 255 bytes from `!` to `~`, NAME is 1 to 32
-/// bytes, a letter or `_` and then letters, digits or `_`, and B is a number text below 2^32. `Line` comes
-/// for the first line that may not stand where it is; else `Twice` for the first that repeats.
+/// Reads a link map: a text of lines, each `module FILE`, `export NAME B` or `import NAME B`, with a line feed at its
+/// end; the last line may lack it. FILE is 1 to 255 bytes from `!` to `~`, NAME is 1 to 32 bytes, a letter or `_` and
+/// then letters, digits or `_`, and B is a number text below 2^32. `Line` is returned for the first line that is not
+/// allowed where it is; else `Twice` for the first that repeats.
 pub fn read_map(alloc: Global, text: &[u8]) -> Result<LinkMap, MapError>
     requires { length text.now ≤ 65536 }
-    // The lines say something, and what is given is the answer for it, unless memory runs out.
+    // The lines say something, and the result is the answer to it, unless memory runs out.
     ensures said { (said : List MapLine) × AreSaid text.now said × Gives result (answer_of said) }
     ensures exact { (said : List MapLine) → AreSaid text.now said → Gives result (answer_of said) }
     ensures sound { IfOk result IsSound }

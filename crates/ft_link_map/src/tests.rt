@@ -3,7 +3,7 @@ use crate::{MapError, read_map};
 use std::alloc::{AllocError, Global};
 use std::test::Fail;
 
-/// What a text is refused for, if it is.
+/// Why a text is refused, if it is.
 fn refusal(alloc: Global, text: &str) -> Result<Option<MapError>, Fail> {
     if text.len() > 65_536 {
         return Err(Fail::new(format_args!("too long")));
@@ -14,7 +14,7 @@ fn refusal(alloc: Global, text: &str) -> Result<Option<MapError>, Fail> {
     }
 }
 
-/// Texts, and what they are refused for.
+/// Texts, and why they are refused.
 const TEXTS: &[(&str, Option<MapError>)] = &[
     ("", Some(MapError::Line { line: 1 })),
     ("\n", Some(MapError::Line { line: 1 })),
@@ -69,7 +69,7 @@ fn texts_are_judged(rt: HostRuntime) -> Result<(), Fail> {
     Ok(())
 }
 
-/// A text of these pieces: the first, so many times the second, and the third.
+/// A text of these pieces: the first, `count` times the second, and the third.
 fn long_text(
     alloc: Global,
     first: &str,
@@ -85,7 +85,7 @@ fn long_text(
     Ok(text)
 }
 
-/// Pieces of long texts, and what these are refused for.
+/// Pieces of long texts, and why these are refused.
 const LONG: &[(&str, u32, &str, &str, Option<MapError>)] = &[
     ("module ", 255, "m", "\n", None),
     ("module ", 256, "m", "\n", Some(MapError::Line { line: 1 })),

@@ -20,7 +20,7 @@ use Rattle.ft_linker.specs.Numbers.{AreCompared, HasRow, HasPair}
 
 module _ (cs : List ℕ) (o : Object) (k : ℕ) (x : Object) (l : ℕ) (one : AreNodes o.nodes) (other : AreNodes x.nodes)
     (h : AreCompared cs o k x l) where
-  -- nodes of integers have one number exactly where they stand for one integer
+  -- nodes of integers have the same number exactly if they stand for the same integer
   pub integers_compared : (sc sd n m : ℕ) → IsNodeIn o.nodes sc false n → IsNodeIn x.nodes sd false m →
       number_in cs (k + n) ≡ number_in cs (l + m) ↔ SameInteger o x n m
   integers_compared sc sd n m p q =
@@ -39,11 +39,11 @@ module _ (cs : List ℕ) (o : Object) (k : ℕ) (x : Object) (l : ℕ) (one : Ar
             ∙ sym (memory_in x.nodes sd m other q)),
       )
 
--- a test that fails, and what is not so
+-- a test that fails, and what does not hold
 pub refuted : {P : Type 0} → (P → ⊥) → IsTrue false ↔ P
 refuted h = (λ e. absurd (true≢false (sym e)), λ p. absurd (h p))
 
--- what fails where a part of it fails
+-- what fails if a part of it fails
 pub without : {P Q : Type 0} → IsTrue false ↔ Q → (P → Q) → IsTrue false ↔ P
 without t f = (λ e. absurd (true≢false (sym e)), λ p. t.1 (f p))
 

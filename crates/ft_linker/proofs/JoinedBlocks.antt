@@ -22,7 +22,7 @@ use Rattle.ft_modules.specs.SameTrees.{like_types}
 use Rattle.ft_modules.proofs.Deciding.{is_like, like_is, map_parts}
 use Rattle.ft_tolerance.proofs.Lists.{found_there}
 use Rattle.ft_types.specs.declared.object.Block.{Block as Placed}
-use Rattle.ft_modules.proofs.Placing.{type_there}
+use Rattle.ft_modules.proofs.Landings.{type_there}
 use Rattle.ft_modules.proofs.Elements.{all_of}
 use Rattle.ft_linker.proofs.Walks.{range_one}
 use Rattle.ft_modules.proofs.Addresses.{same_tests}
@@ -176,7 +176,7 @@ export_never exports name n le = found_never (λ (z : Ask). same_name z.name nam
 
 -- REFUSALS IN ORDER
 
--- what an error says stays where something comes after
+-- what an error says stays if something comes after
 pub refusal_first : (x y : Option LinkRefusal) (e : LinkError) → IsRefusalOf x e → IsRefusalOf (option_or x y) e
 refusal_first x y (Cells m) h = ap (λ z. option_or z y) h
 refusal_first x y (Rows m) h = ap (λ z. option_or z y) h
@@ -188,7 +188,7 @@ refusal_first x y (Missing l) h = ap (λ z. option_or z y) h
 refusal_first x y (Types l) h = ap (λ z. option_or z y) h
 refusal_first x y NoMemory h = tt
 
--- and where nothing comes before
+-- and if nothing comes before
 pub refusal_after : (x y : Option LinkRefusal) (e : LinkError) → x ≡ None → IsRefusalOf y e →
     IsRefusalOf (option_or x y) e
 refusal_after x y e n h = subst (λ z. IsRefusalOf (option_or z y) e) (sym n) h

@@ -25,7 +25,7 @@ use Rattle.ft_linker.specs.declared.joins.Join.{Join}
 use Rattle.ft_linker.specs.Changes.{Holds}
 use Rattle.ft_linker.specs.declared.changes.Changes.{Changes}
 use Rattle.ft_linker.specs.Joins.{HasBoth, address_in, code_type_in, is_from, link_as}
-use Rattle.ft_modules.proofs.Placing.{start_there, type_there}
+use Rattle.ft_modules.proofs.Landings.{start_there, type_there}
 
 -- JOINS
 
@@ -77,7 +77,7 @@ joined_some js ks i a u e longer =
 
 module _ (modules : List Object) (starts : List Before) (can : CanBeLaid modules) (are : starts
     ≡ laid start_part nothing_before modules) where
-  -- what stands before a module
+  -- the totals before a module
   pub before_there : (m b : ℕ) → HasBlock modules m b → slice_get starts m
       ≡ Some (before_module nothing_before modules m)
   before_there m b h = ap (λ z. slice_get z m) are

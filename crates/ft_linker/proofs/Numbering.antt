@@ -1,5 +1,5 @@
 -- One more node is numbered.
-use Rattle.std.proofs.Common.{◌≡◌, ℕ, ◌+◌, ◌<◌, ◌≤◌, Bool, true, false, cond, if◌then◌else◌, List, [], ◌∷◌, ◌++◌}
+use Rattle.std.proofs.Common.{◌≡◌, ℕ, ◌+◌, ◌<◌, ◌≤◌, Bool, true, false, cond, List, [], ◌∷◌, ◌++◌}
 use Rattle.std.proofs.Common.{length, slice_get, Option, Some, None, refl, sym, ap, ◌∙◌, subst, arith, length-append}
 use Rattle.std.specs.Prelude.{unwrap_or}
 use Rattle.std.proofs.lemmas.Bool.{cases_lt}
@@ -9,43 +9,12 @@ use Rattle.std.proofs.lemmas.Option.{slice_get_within, slice_get-get_or}
 use Rattle.ft_static.specs.NodeRules.{AreNodes}
 use Rattle.ft_static.specs.declared.node.Node.{Node}
 use Rattle.ft_static.specs.declared.node.Shape.{Shape}
-use Rattle.ft_static.specs.declared.node.Shape.TheVariants as shape
 use Rattle.ft_static.specs.NodeTree.{HasPartsBelow}
-use Rattle.ft_static.proofs.NodeTrees.{parts_below}
+use Rattle.ft_static.proofs.NodeParts.{renamed_alike}
+use Rattle.ft_static.proofs.NodeTrees.{each_part, parts_below}
 use Rattle.ft_modules.specs.TreeKeys.{AreTreeNumbers, number_in, key_of}
 use Rattle.ft_modules.proofs.Keys.{keys_same}
-use Rattle.ft_linker.specs.declared.key.Key.{Key}
-use Rattle.ft_linker.specs.declared.key.Key.TheVariants as key
-use Rattle.ft_linker.specs.Keys.{key_as}
 use Rattle.ft_linker.specs.Numbers.{AreKnown, AreNumbered}
-use Rattle.ft_isa.specs.Operations.{op_of}
-use Rattle.ft_isa.proofs.Operations.{op_back}
-
--- KEYS
-
--- the shape of a key
-shape_as : Key → Shape
-shape_as (key.Word w) = shape.Word w
-shape_as (key.Var i) = shape.Var i
-shape_as (key.Op o a b) = shape.Op (op_of o) a b
-shape_as (key.Sel m a) = shape.Sel m a
-shape_as key.Memory = shape.Memory
-shape_as (key.Upd m a v) = shape.Upd m a v
-shape_as (key.Rem a m) = shape.Rem a m
-
-shape_again : (s : Shape) → shape_as (key_as s) ≡ s
-unfolding shape_as
-shape_again (shape.Word w) = refl
-shape_again (shape.Var i) = refl
-shape_again (shape.Op o a b) = ap (λ p. shape.Op p a b) (op_back o)
-shape_again (shape.Sel m a) = refl
-shape_again shape.Memory = refl
-shape_again (shape.Upd m a v) = refl
-shape_again (shape.Rem a m) = refl
-
--- shapes with one key are equal
-one_shape : (s t : Shape) → key_as s ≡ key_as t → s ≡ t
-one_shape s t e = sym (shape_again s) ∙ ap shape_as e ∙ shape_again t
 
 -- PARTS
 
@@ -56,36 +25,28 @@ number_more cs c i lt = get_or_append_left cs (c ∷ []) 0 i lt
 number_last : (cs : List ℕ) (c : ℕ) → number_in (cs ++ c ∷ []) (length cs) ≡ c
 number_last cs c = get_or_push cs c 0 (length cs) refl
 
--- so a key stays of which the parts are earlier
+-- so a key stays if its parts are earlier
 key_more : (cs : List ℕ) (c n : ℕ) (s : Shape) → HasPartsBelow n s → n ≤ length cs → key_of (cs ++ c ∷ []) s
     ≡ key_of cs s
-key_more cs c n (shape.Word w) h le = refl
-key_more cs c n (shape.Var i) h le = refl
-key_more cs c n (shape.Op o a b) h le = λ i. shape.Op o (number_more cs c a (omega (arith, h.0, le)) i)
-    (number_more cs c b (omega (arith, h.1, le)) i)
-key_more cs c n (shape.Sel m a) h le = λ i. shape.Sel (number_more cs c m (omega (arith, h.0, le)) i)
-    (number_more cs c a (omega (arith, h.1, le)) i)
-key_more cs c n shape.Memory h le = refl
-key_more cs c n (shape.Upd m a v) h le = λ i. shape.Upd (number_more cs c m (omega (arith, h.0, le)) i)
-    (number_more cs c a (omega (arith, h.1, le)) i) (number_more cs c v (omega (arith, h.2, le)) i)
-key_more cs c n (shape.Rem a m) h le = λ i. shape.Rem (number_more cs c a (omega (arith, h, le)) i) m
+key_more cs c n s h le = renamed_alike (number_in (cs ++ c ∷ [])) (number_in cs) s
+    (each_part (λ b i. i < n) _ (λ b i lt. number_more cs c i (omega (arith, lt, le))) s h)
 
 -- ONE MORE
 
 some_one : (a b : ℕ) → Some a ≡ Some b → a ≡ b
 some_one a b e = cc
 
-module _ (nodes : List Node) (cs : List ℕ) (n c : ℕ) (y : Node) (known next : Key → Option ℕ) (test : Key → Bool)
+module _ (nodes : List Node) (cs : List ℕ) (n c : ℕ) (y : Node) (known next : Shape → Option ℕ) (test : Shape → Bool)
     (are : AreNodes nodes) (h : AreKnown nodes cs n known) (there : slice_get nodes n ≡ Some y)
-    (is : c ≡ unwrap_or (known (key_as (key_of cs y.shape))) n)
-    (put : (q : Key) → next q ≡ cond (test q) (Some c) (known q))
-    (only : (q : Key) → test q ≡ true → q ≡ key_as (key_of cs y.shape))
-    (own : test (key_as (key_of cs y.shape)) ≡ true) where
+    (is : c ≡ unwrap_or (known (key_of cs y.shape)) n)
+    (put : (q : Shape) → next q ≡ cond (test q) (Some c) (known q))
+    (only : (q : Shape) → test q ≡ true → q ≡ key_of cs y.shape)
+    (own : test (key_of cs y.shape) ≡ true) where
   abbrev ds : List ℕ
   ds = cs ++ c ∷ []
 
-  abbrev last_key : Key
-  last_key = key_as (key_of cs y.shape)
+  abbrev last_key : Shape
+  last_key = key_of cs y.shape
 
   -- the parts of node i, up to n
   parts : (i : ℕ) (z : Node) → slice_get nodes i ≡ Some z → HasPartsBelow i z.shape
@@ -104,7 +65,7 @@ module _ (nodes : List Node) (cs : List ℕ) (n c : ℕ) (y : Node) (known next 
   number_new = subst (λ (k : ℕ). number_in ds k ≡ c) h.count (number_last cs c)
 
   -- what is next known of a key whose number was known, or that is the new one
-  known_by : (b : Bool) (q : Key) (d : ℕ) → test q ≡ b → known q ≡ Some d → next q ≡ Some d
+  known_by : (b : Bool) (q : Shape) (d : ℕ) → test q ≡ b → known q ≡ Some d → next q ≡ Some d
   known_by true q d t e =
       let same : last_key ≡ q = sym (only q t) in
       let old : known last_key ≡ Some d = ap known same ∙ e in
@@ -115,12 +76,12 @@ module _ (nodes : List Node) (cs : List ℕ) (n c : ℕ) (y : Node) (known next 
   known_new : next last_key ≡ Some c
   known_new = put last_key ∙ ap (λ b. cond b (Some c) (known last_key)) own
 
-  each_next : (i : ℕ) (z : Node) → i < n + 1 → slice_get nodes i ≡ Some z → next (key_as (key_of ds z.shape))
+  each_next : (i : ℕ) (z : Node) → i < n + 1 → slice_get nodes i ≡ Some z → next (key_of ds z.shape)
       ≡ Some (number_in ds i)
   each_next i z lt e = elim (cases_lt i n) [
     | inl below ↦
-        ap (λ k. next (key_as k)) (key_same i z (omega (arith, below)) e)
-        ∙ known_by (test (key_as (key_of cs z.shape))) (key_as (key_of cs z.shape)) (number_in cs i) refl
+        ap next (key_same i z (omega (arith, below)) e)
+        ∙ known_by (test (key_of cs z.shape)) (key_of cs z.shape) (number_in cs i) refl
         (h.each i z below e)
         ∙ ap Some (sym (number_same i below))
     | inr above ↦
@@ -128,54 +89,54 @@ module _ (nodes : List Node) (cs : List ℕ) (n c : ℕ) (y : Node) (known next 
         let found : slice_get nodes n ≡ Some z = subst (λ (k : ℕ). slice_get nodes k ≡ Some z) here e in
         let node : Some y ≡ Some z = sym there ∙ found in
         let same : y ≡ z = cc in
-        ap (λ k. next (key_as k)) (key_same i z (omega (arith, here)) e)
-        ∙ ap (λ (w : Node). next (key_as (key_of cs w.shape))) (sym same)
+        ap next (key_same i z (omega (arith, here)) e)
+        ∙ ap (λ (w : Node). next (key_of cs w.shape)) (sym same)
         ∙ known_new ∙ ap Some (sym number_new ∙ ap (number_in ds) (sym here))
   ]
 
   -- the first node of a key
-  First : Key → ℕ → Type 0
-  First k d = (z : Node) × (d < n + 1) × (slice_get nodes d ≡ Some z) × (key_as (key_of ds z.shape) ≡ k)
+  First : Shape → ℕ → Type 0
+  First k d = (z : Node) × (d < n + 1) × (slice_get nodes d ≡ Some z) × (key_of ds z.shape ≡ k)
 
-  first_old : (k : Key) (d : ℕ) → known k ≡ Some d → First k d
+  first_old : (k : Shape) (d : ℕ) → known k ≡ Some d → First k d
   unfolding First
   first_old k d e =
       let f = h.first k d e in
-      (f.0, omega (arith, f.1), f.2, ap key_as (key_same d f.0 (omega (arith, f.1)) f.2) ∙ f.3)
+      (f.0, omega (arith, f.1), f.2, key_same d f.0 (omega (arith, f.1)) f.2 ∙ f.3)
 
   first_new : (u : Option ℕ) → known last_key ≡ u → First last_key (unwrap_or u n)
   unfolding First
-  first_new None e = (y, omega arith, there, ap key_as (key_same n y (omega arith) there))
+  first_new None e = (y, omega arith, there, key_same n y (omega arith) there)
   first_new (Some d) e = first_old last_key d e
 
-  first_by : (b : Bool) (k : Key) (d : ℕ) → test k ≡ b → next k ≡ Some d → First k d
+  first_by : (b : Bool) (k : Shape) (d : ℕ) → test k ≡ b → next k ≡ Some d → First k d
   first_by true k d t e =
       let one : c ≡ d = some_one c d (sym (put k ∙ ap (λ b. cond b (Some c) (known k)) t) ∙ e) in
       let at : unwrap_or (known last_key) n ≡ d = sym is ∙ one in
-      subst (λ (j : ℕ). First k j) at (subst (λ (q : Key). First q (unwrap_or (known last_key) n)) (sym (only k t))
+      subst (λ (j : ℕ). First k j) at (subst (λ (q : Shape). First q (unwrap_or (known last_key) n)) (sym (only k t))
       (first_new (known last_key) refl))
   first_by false k d t e = first_old k d (sym (put k ∙ ap (λ b. cond b (Some c) (known k)) t) ∙ e)
 
-  first_next : (k : Key) (d : ℕ) → next k ≡ Some d → First k d
+  first_next : (k : Shape) (d : ℕ) → next k ≡ Some d → First k d
   first_next k d e = first_by (test k) k d refl e
 
-  -- numbers are equal exactly where keys are
+  -- numbers are equal exactly if keys are
   numbers_of_keys : (i j : ℕ) (u z : Node) → i < n + 1 → j < n + 1 → slice_get nodes i ≡ Some u → slice_get nodes j
       ≡ Some z → number_in ds i ≡ number_in ds j → key_of ds u.shape ≡ key_of ds z.shape
   unfolding First
   numbers_of_keys i j u z li lj e f same =
-      let a = first_next (key_as (key_of ds u.shape)) (number_in ds i) (each_next i u li e) in
-      let b = first_next (key_as (key_of ds z.shape)) (number_in ds j) (each_next j z lj f) in
+      let a = first_next (key_of ds u.shape) (number_in ds i) (each_next i u li e) in
+      let b = first_next (key_of ds z.shape) (number_in ds j) (each_next j z lj f) in
       let there_b : slice_get nodes (number_in ds i)
       ≡ Some b.0 = subst (λ (k : ℕ). slice_get nodes k ≡ Some b.0) (sym same) b.2 in
       let one : Some a.0 ≡ Some b.0 = sym a.2 ∙ there_b in
       let node : a.0 ≡ b.0 = cc in
-      one_shape _ _ (sym a.3 ∙ ap (λ (w : Node). key_as (key_of ds w.shape)) node ∙ b.3)
+      sym a.3 ∙ ap (λ (w : Node). key_of ds w.shape) node ∙ b.3
 
   keys_of_numbers : (i j : ℕ) (u z : Node) → i < n + 1 → j < n + 1 → slice_get nodes i ≡ Some u → slice_get nodes j
       ≡ Some z → key_of ds u.shape ≡ key_of ds z.shape → number_in ds i ≡ number_in ds j
   keys_of_numbers i j u z li lj e f same =
-      some_one _ _ (sym (each_next i u li e) ∙ ap (λ k. next (key_as k)) same ∙ each_next j z lj f)
+      some_one _ _ (sym (each_next i u li e) ∙ ap next same ∙ each_next j z lj f)
 
   -- the numbers so far, in the longer list
   trees_old : AreTreeNumbers nodes ds n
@@ -204,7 +165,8 @@ module _ (nodes : List Node) (cs : List ℕ) (n c : ℕ) (y : Node) (known next 
   }
 
 -- no node is numbered yet
-pub known_none : (nodes : List Node) (cs : List ℕ) (known : Key → Option ℕ) → cs ≡ [] → ((q : Key) → known q ≡ None) →
+pub known_none : (nodes : List Node) (cs : List ℕ) (known : Shape → Option ℕ) → cs ≡ [] →
+    ((q : Shape) → known q ≡ None) →
     AreKnown nodes cs 0 known
 known_none nodes cs known e h = record {
   count = ap length e;
@@ -214,15 +176,16 @@ known_none nodes cs known e h = record {
 }
 
 -- the number of nodes is the length of their list
-pub all_known : (nodes : List Node) (cs : List ℕ) (n : ℕ) (known : Key → Option ℕ) → AreKnown nodes cs n known → n
+pub all_known : (nodes : List Node) (cs : List ℕ) (n : ℕ) (known : Shape → Option ℕ) → AreKnown nodes cs n known → n
     ≡ length nodes → AreNumbered nodes cs
 all_known nodes cs n known h e = record { count = h.count ∙ e; trees = subst (AreTreeNumbers nodes cs) e h.trees }
 
--- one more node, with a longer list that is told by an equation
-pub known_next : (nodes : List Node) (cs ds : List ℕ) (n c : ℕ) (y : Node) (known next : Key → Option ℕ) (test : Key →
-    Bool) (k : Key) → AreNodes nodes → AreKnown nodes cs n known → slice_get nodes n ≡ Some y → k
-    ≡ key_as (key_of cs y.shape) → c ≡ unwrap_or (known k) n → ((q : Key) → next q ≡ cond (test q) (Some c) (known q)) →
-    ((q : Key) → test q ≡ true → q ≡ k) → test k ≡ true → ds ≡ cs ++ c ∷ [] → AreKnown nodes ds (n + 1) next
+-- one more node, with a longer list given by an equation
+pub known_next : (nodes : List Node) (cs ds : List ℕ) (n c : ℕ) (y : Node) (known next : Shape →
+    Option ℕ) (test : Shape →
+    Bool) (k : Shape) → AreNodes nodes → AreKnown nodes cs n known → slice_get nodes n ≡ Some y → k
+    ≡ key_of cs y.shape → c ≡ unwrap_or (known k) n → ((q : Shape) → next q ≡ cond (test q) (Some c) (known q)) →
+    ((q : Shape) → test q ≡ true → q ≡ k) → test k ≡ true → ds ≡ cs ++ c ∷ [] → AreKnown nodes ds (n + 1) next
 known_next nodes cs ds n c y known next test k are h there e is put only own longer =
     subst (λ (z : List ℕ). AreKnown nodes z (n + 1) next) (sym longer)
     (known_more nodes cs n c y known next test are h there (is ∙ ap (λ q. unwrap_or (known q) n) e) put (λ q t. only q t

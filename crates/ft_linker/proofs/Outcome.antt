@@ -1,4 +1,4 @@
--- What linking comes to: the refusal by its parts, and what is so of the linked object.
+-- How linking ends: the refusal by its parts, and what holds of the linked object.
 use Rattle.std.proofs.Common.{◌≡◌, ℕ, zero, suc, ◌≤◌, List, [], ◌∷◌, length, map, slice_get, Option, Some, None, refl}
 use Rattle.std.proofs.Common.{sym, ap, ◌∙◌, subst, arith}
 use Rattle.std.specs.Prelude.{All}
@@ -27,19 +27,19 @@ later_refusal linkage ms = option_or (option_map NoBlock
     (lower_line (first_without ms linkage.exports) (first_without ms linkage.imports)))
     (imports_refusal ms linkage.exports linkage.imports)
 
--- modules that were added are refused for these alone
+-- modules that were added are refused only for these
 pub refusal_is : (linkage : LinkMap) (ms : List Object) → AreAdded ms → 1 ≤ length ms → refusal_of linkage ms
     ≡ later_refusal linkage ms
 refusal_is linkage [] h some = absurd (omega (arith, some))
 refusal_is linkage (f ∷ fs) h some = ap (λ z. option_or z (later_refusal linkage (f ∷ fs))) h.unrefused
 
--- linkable where nothing is refused
+-- linkable if nothing is refused
 linkable_when : (linkage : LinkMap) (f : Object) (fs : List Object) → AreAdded (f ∷ fs) → refusal_of linkage (f ∷ fs)
     ≡ None → AreLinkable linkage f fs
 linkable_when linkage f fs h e = (linkable_exactly linkage f fs (λ m o there.
     (all_there IsSpellable (f ∷ fs) m o h.spelled there, all_there IsAccepted (f ∷ fs) m o h.accepted there))).1 e
 
--- both blocks of a join are there
+-- both blocks of a join exist
 both_there : (ms : List Object) (j : Join) → IsJoined ms (link_as j) → HasBoth ms j
 both_there ms j h = record { from = h.from; to = h.to }
 

@@ -1,4 +1,4 @@
--- What a module that is spelled has can be raised, where its numbers fit behind what stands before it.
+-- A spelled module's parts can be raised, if its numbers fit after those before it.
 use Rattle.std.proofs.Common.{◌≡◌, ℕ, zero, suc, ◌+◌, ◌<◌, ◌≤◌, ◌^◌, ◌==◌, List, [], ◌∷◌, length, slice_get, Option}
 use Rattle.std.proofs.Common.{Some, None, refl, ap, ◌∙◌, subst, arith, eqb-true}
 use Rattle.std.specs.Option.{option_map}
@@ -16,7 +16,7 @@ use Rattle.ft_isa.proofs.Lists.{all_there}
 use Rattle.ft_static.specs.NodeRules.{MayName, IsShape}
 use Rattle.ft_static.specs.declared.node.Node.{Node}
 use Rattle.ft_static.specs.declared.node.Shape.{Shape}
-use Rattle.ft_static.specs.declared.node.Shape.TheVariants as shape
+use Rattle.ft_static.proofs.NodeTrees.{each_part, parts_named}
 use Rattle.ft_types.specs.declared.object.Object.{Object}
 use Rattle.ft_types.specs.declared.object.Block.{Block}
 use Rattle.ft_types.specs.Objects.{code_type_of}
@@ -38,23 +38,8 @@ named_low nodes n scope b k m h le fit = let l = h.lower in omega (arith, l, le,
 
 shape_raises : (nodes : List Node) (n scope k : ℕ) (y : Shape) → IsShape nodes n scope y → n ≤ length nodes →
     k + length nodes ≤ 1048576 → CanRaiseShape k y
-shape_raises nodes n scope k (shape.Word w) h le fit = tt
-shape_raises nodes n scope k (shape.Var i) h le fit = tt
-shape_raises nodes n scope k (shape.Op o a b) h le fit = (
-  named_low nodes n scope _ k a h.0 le fit,
-  named_low nodes n scope _ k b h.1 le fit,
-)
-shape_raises nodes n scope k (shape.Sel m a) h le fit = (
-  named_low nodes n scope _ k m h.0 le fit,
-  named_low nodes n scope _ k a h.1 le fit,
-)
-shape_raises nodes n scope k shape.Memory h le fit = tt
-shape_raises nodes n scope k (shape.Upd m a v) h le fit = (
-  named_low nodes n scope _ k m h.0 le fit,
-  named_low nodes n scope _ k a h.1 le fit,
-  named_low nodes n scope _ k v h.2 le fit,
-)
-shape_raises nodes n scope k (shape.Rem a m) h le fit = named_low nodes n scope _ k a h.0 le fit
+shape_raises nodes n scope k y h le fit = each_part _ _ (λ b m p. named_low nodes n scope b k m p le fit) y
+    (parts_named nodes n scope y h)
 
 pub nodes_raise : (o : Object) (k : Before) → IsSpellable o → Fits k o → Each (CanRaiseNode k.nodes) o.nodes
 nodes_raise o k s f = λ n y e. shape_raises o.nodes n y.scope k.nodes y.shape (s.nodes.each n y e).shape (let l =

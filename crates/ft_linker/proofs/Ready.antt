@@ -19,7 +19,7 @@ use Rattle.ft_modules.specs.Linked.{before_module, laid, nodes_part, nothing_bef
 use Rattle.ft_modules.proofs.Elements.{all_of}
 use Rattle.ft_modules.proofs.Laying.{laid_length}
 use Rattle.ft_modules.proofs.LaidNodes.{laid_nodes, laid_tree}
-use Rattle.ft_modules.proofs.Placing.{typed_moves}
+use Rattle.ft_modules.proofs.ModuleInstrs.{typed_moves}
 use Rattle.ft_modules.proofs.SpelledLinked.{instr_in_block}
 use Rattle.ft_linker.specs.Tables.{AreLaid, CanBeLaid, HasTypedMoves}
 use Rattle.ft_linker.specs.declared.laying.Laid.{Laid}

@@ -81,7 +81,7 @@ module_fits modules m o few e =
       substs = omega (arith, s, fs);
     }
 
--- nothing stands before the first module
+-- before the first module, all totals are 0
 pub before_first : (modules : List Object) → nothing_before ≡ before_module nothing_before modules 0
 unfolding before_module
 before_first [] = refl
@@ -91,7 +91,7 @@ pub taken : (modules : List Object) (m : ℕ) (l : Laid) → length modules ≤ 
     AreLaid modules l
 taken modules m l le h = subst (λ (z : List Object). AreLaid z l) (take_all m modules le) h
 
--- what stands before module m, in the table of starts
+-- the totals before module m, in the table of starts
 pub start_of_module : (k : Before) (modules : List Object) (m : ℕ) → m < length modules →
     slice_get (laid start_part k modules) m ≡ Some (before_module k modules m)
 unfolding laid before_module

@@ -25,7 +25,7 @@ code_type_in modules m b = (before_module nothing_before modules m).types + type
 abbrev pub number_in : List Object → ℕ → ℕ → ℕ
 number_in modules m b = (before_module nothing_before modules m).blocks + b
 
--- both blocks of a join are there
+-- both blocks of a join exist
 pub record HasBoth (modules : List Object) (j : Join) : Type 0 where
   pub from : HasBlock modules j.module_of j.block
   pub to : HasBlock modules j.to_module j.to_block
@@ -34,7 +34,7 @@ pub record HasBoth (modules : List Object) (j : Join) : Type 0 where
 abbrev pub is_from : ℕ → Link → Bool
 is_from entry l = (l.module_of == 0) && (l.block == entry)
 
--- these modules are laid so, and the numbers of all nodes are these
+-- these modules are laid like this, and the numbers of all nodes are these
 pub record AreReady (modules : List Object) (l : Laid) (numbers : List ℕ) : Type 0 where
   pub can : CanBeLaid modules
   pub tables : AreLaid modules l

@@ -1,4 +1,4 @@
--- Modules that are added, and what is linked of them.
+-- Modules that are added, and the object that they link to.
 use Rattle.std.specs.Prelude.{◌≡◌, ℕ, List, [], ◌∷◌, length, Option, None, All}
 use Rattle.ft_isa.specs.declared.plan.Strike.{Strike}
 use Rattle.ft_isa.specs.declared.plan.Wild.{Wild}
@@ -40,7 +40,8 @@ pub record AreAdded (modules : List Object) : Type 0 where
   pub unrefused : turns_refusal modules ≡ None
   pub few : AreFew modules
 
--- this is linked of the modules; it obeys the rules, is accepted, and runs as they do, with one fault masked or detected
+-- this is the object that the map makes of the modules; it obeys the rules, is accepted, and runs as they do, with one
+-- fault masked or detected
 pub record IsLinked (linkage : LinkMap) (modules : List Object) (o : Object) : Type 0 where
   pub first : Object
   pub others : List Object

@@ -3,27 +3,24 @@ use Rattle.std.specs.Prelude.{◌≡◌, ◌↔◌, ℕ, ◌+◌, ◌<◌, ◌�
 use Rattle.ft_static.specs.NodeTree.{tree_at}
 use Rattle.ft_static.specs.declared.node.Node.{Node}
 use Rattle.ft_static.specs.declared.node.Shape.{Shape}
-use Rattle.ft_static.specs.declared.node.Shape.TheVariants as shape
 use Rattle.ft_types.specs.declared.object.Object.{Object}
 use Rattle.ft_types.specs.declared.object.RegType.{RegType}
 use Rattle.ft_types.specs.Spellable.{IsNodeIn}
 use Rattle.ft_modules.specs.TreeKeys.{AreTreeNumbers, number_in, key_of}
-use Rattle.ft_linker.specs.declared.key.Key.{Key}
-use Rattle.ft_linker.specs.Keys.{key_as}
 
 -- these are the numbers of all nodes
 pub record AreNumbered (nodes : List Node) (cs : List ℕ) : Type 0 where
   pub count : length cs ≡ length nodes
   pub trees : AreTreeNumbers nodes cs (length nodes)
 
--- the numbers of the first n nodes, with what is known of each key: the first node that has it
-pub record AreKnown (nodes : List Node) (cs : List ℕ) (n : ℕ) (known : Key → Option ℕ) : Type 0 where
+-- the numbers of the first n nodes, and of each key the first node that has it
+pub record AreKnown (nodes : List Node) (cs : List ℕ) (n : ℕ) (known : Shape → Option ℕ) : Type 0 where
   pub count : length cs ≡ n
   pub trees : AreTreeNumbers nodes cs n
-  pub each : (i : ℕ) (y : Node) → i < n → slice_get nodes i ≡ Some y → known (key_as (key_of cs y.shape)) ≡ Some (number_in cs i)
-  pub first : (k : Key) (c : ℕ) → known k ≡ Some c → (y : Node) × (c < n) × (slice_get nodes c ≡ Some y) × (key_as (key_of cs y.shape) ≡ k)
+  pub each : (i : ℕ) (y : Node) → i < n → slice_get nodes i ≡ Some y → known (key_of cs y.shape) ≡ Some (number_in cs i)
+  pub first : (k : Shape) (c : ℕ) → known k ≡ Some c → (y : Node) × (c < n) × (slice_get nodes c ≡ Some y) × (key_of cs y.shape ≡ k)
 
--- nodes of two objects, numbered from k and from l on: two have one number exactly where they stand for one tree
+-- nodes of two objects, numbered from k and from l: two have the same number exactly if they stand for the same tree
 pub record AreCompared (cs : List ℕ) (o : Object) (k : ℕ) (x : Object) (l : ℕ) : Type 0 where
   pub from : k + length o.nodes ≤ length cs
   pub to : l + length x.nodes ≤ length cs

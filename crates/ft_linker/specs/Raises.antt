@@ -1,13 +1,13 @@
--- What can be raised: parts of a module of which the numbers stay within their types behind what stands before it.
+-- What can be raised: parts of a module whose numbers stay within their types after they are raised.
 use Rattle.std.specs.Prelude.{◌≡◌, ℕ, zero, suc, ◌+◌, ◌<◌, ◌^◌, List, Some, slice_get}
 use Rattle.ft_isa.specs.declared.basic.Base.{Base}
 use Rattle.ft_isa.specs.declared.basic.Base.TheVariants.{Int, Code}
 use Rattle.ft_isa.specs.declared.instr.Subst.{Subst}
 use Rattle.ft_isa.specs.declared.instr.Instr.{Instr}
 use Rattle.ft_isa.specs.declared.instr.Instr.TheVariants.{Mov, JmpB, BzB}
+use Rattle.ft_static.specs.NodeParts.{EachPart}
 use Rattle.ft_static.specs.declared.node.Node.{Node}
 use Rattle.ft_static.specs.declared.node.Shape.{Shape}
-use Rattle.ft_static.specs.declared.node.Shape.TheVariants as shape
 use Rattle.ft_types.specs.declared.object.Block.{Block}
 use Rattle.ft_types.specs.declared.object.CodeType.{CodeType}
 use Rattle.ft_types.specs.declared.object.RegType.{RegType}
@@ -17,15 +17,9 @@ use Rattle.ft_modules.specs.declared.before.Before.{Before}
 abbrev pub Each : {X : Type 0} → (X → Type 0) → List X → Type 0
 Each {X} P xs = (n : ℕ) (x : X) → slice_get xs n ≡ Some x → P x
 
--- a shape of which the parts can be so many nodes further
+-- a shape whose parts can be raised by this many nodes
 abbrev pub CanRaiseShape : ℕ → Shape → Type 0
-CanRaiseShape k (shape.Word w) = Unit {0}
-CanRaiseShape k (shape.Var i) = Unit {0}
-CanRaiseShape k (shape.Op op a b) = (k + a < 2 ^ 32) × (k + b < 2 ^ 32)
-CanRaiseShape k (shape.Sel m a) = (k + m < 2 ^ 32) × (k + a < 2 ^ 32)
-CanRaiseShape k shape.Memory = Unit {0}
-CanRaiseShape k (shape.Upd m a v) = (k + m < 2 ^ 32) × (k + a < 2 ^ 32) × (k + v < 2 ^ 32)
-CanRaiseShape k (shape.Rem a m) = k + a < 2 ^ 32
+CanRaiseShape k y = EachPart (λ s m. k + m < 2 ^ 32) y
 
 abbrev pub CanRaiseNode : ℕ → Node → Type 0
 CanRaiseNode k y = CanRaiseShape k y.shape

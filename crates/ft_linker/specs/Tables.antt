@@ -12,7 +12,7 @@ use Rattle.ft_modules.specs.declared.before.Before.{Before}
 use Rattle.ft_modules.specs.Linked.{laid, nothing_before, nodes_part, types_part, blocks_part, instrs_part, substs_part}
 use Rattle.ft_linker.specs.declared.laying.Laid.{Laid}
 
--- a module behind what stands before it: the numbers of all are within their limits
+-- a module after those before it: the numbers of all are within their limits
 pub record Fits (k : Before) (o : Object) : Type 0 where
   pub nodes : k.nodes + length o.nodes ≤ 1048576
   pub types : k.types + length o.types ≤ 4096
@@ -30,7 +30,7 @@ pub record CanBeLaid (modules : List Object) : Type 0 where
   pub typed : All HasTypedMoves modules
   pub few : AreFew modules
 
--- what stands before a module, as a table with one row for it
+-- the totals before a module, as a table with one row for it
 abbrev pub start_part : Before → Object → List Before
 start_part k o = k ∷ []
 
@@ -43,7 +43,7 @@ pub record AreLaid (modules : List Object) (l : Laid) : Type 0 where
   pub instrs : l.instrs.items ≡ laid instrs_part nothing_before modules
   pub substs : l.substs.items ≡ laid substs_part nothing_before modules
 
--- the tables with one more module behind those before it
+-- the tables with one more module after those before it
 pub record AddsModule (old new : Laid) (k : Before) (o : Object) : Type 0 where
   pub starts : new.starts.items ≡ old.starts.items ++ start_part k o
   pub nodes : new.nodes.items ≡ old.nodes.items ++ nodes_part k o

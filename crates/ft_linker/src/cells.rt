@@ -4,9 +4,9 @@ ghost use Rattle.std.specs.List.{list_all};
 ghost use Rattle.ft_modules.specs.Links.{same_name};
 ghost use Rattle.ft_modules.specs.LinkRefusals.{has_plain_rows, is_int, is_plain_cell, is_plain_row, same_cell, same_cells};
 
-use crate::basic_types::same_basic;
 use ft_isa::Base;
 use ft_types::{Cell, CodeType, RegType, Table};
+use ft_typing::same_basic;
 
 /// Whether two names are equal.
 pub fn same_name(a: &Table<u8>, b: &Table<u8>) -> bool

@@ -7,14 +7,14 @@ use ft_isa::{Base, Basic, Coloured, Instr};
 use std::alloc::{AllocError, Global};
 use std::collections::BTreeMap;
 
-/// Where a code address is sent: to the first instruction of a block of this code type.
+/// Where a code address is redirected: to the first instruction of a block of this code type.
 #[derive(Clone, Copy, Debug, PartialEq, Eq, Drop)]
 pub struct Target {
     pub address: u64,
     pub code_type: u16,
 }
 
-/// Code addresses that are sent to others.
+/// Code addresses that are redirected to others.
 #[derive(Drop)]
 pub struct Changes {
     targets: BTreeMap<u64, Target>,
@@ -32,7 +32,7 @@ impl Changes {
         }
     }
 
-    /// Sends an address to another, in the place of where it was sent before.
+    /// Redirects an address to another, replacing an earlier change of it.
     pub fn send(&mut self, from: u64, target: Target) -> Result<(), AllocError>
         ensures { OnOk result ((c : Change) (cs : List Change) → c.from ≡ from → target_of c ≡ target → Holds self.old cs → Holds self.new (c ∷ cs)) }
     {
@@ -40,14 +40,14 @@ impl Changes {
         Ok(())
     }
 
-    /// Where an address is sent.
+    /// Where an address is redirected.
     fn at(&self, address: u64) -> Option<Target>
         ensures { (cs : List Change) → Holds self.now cs → result ≡ option_map target_of (change_at cs address) }
     {
         self.targets.get(&address).copied()
     }
 
-    /// An instruction, where its move is changed if its address is sent to another.
+    /// An instruction, with its move changed if its address is redirected.
     fn change_instr(&self, instr: Instr) -> Instr
         ensures { (cs : List Change) → Holds self.now cs → result ≡ changed_instr cs instr }
     {

@@ -14,7 +14,7 @@ use crate::link_error::LinkError;
 use ft_link_map::LinkMap;
 use ft_types::{Cell, Object, Table};
 
-/// The cells that an object which is added to these must have.
+/// The cells that an object added to these must have.
 fn first_cells<'a>(objects: &'a [Object], object: &'a Object) -> &'a Table<Cell>
     ensures { result.now ≡ cells_of objects.now object.now }
 {

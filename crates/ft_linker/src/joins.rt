@@ -16,7 +16,7 @@ use ft_modules::Before;
 use ft_types::{Block, Object};
 use std::alloc::{AllocError, Global};
 
-/// An imported block and the exported block that stands for it, each by its module and its number in it.
+/// An imported block and the exported block that replaces it, each by its module and its number in it.
 #[derive(Clone, Copy)]
 pub struct Join {
     pub module_of: u32,
@@ -27,7 +27,7 @@ pub struct Join {
 
 ghost use Rattle.ft_linker.specs.Joins.{HasBoth, address_in, code_type_in, is_from, link_as, number_in};
 
-/// Adds an import, joined with the export of its name, where there is one.
+/// Adds an import, joined with the export of its name, if there is one.
 fn push_join(joins: &mut Vec<Join>, linkage: &LinkMap, import: &Ask) -> Result<(), AllocError>
     ensures { OnOk result (map link_as joins.new.items ≡ map link_as joins.old.items ++ cons_option (link_by import.now (export_of linkage.now.exports import.now.name)) []) }
 {
@@ -45,7 +45,7 @@ fn push_join(joins: &mut Vec<Join>, linkage: &LinkMap, import: &Ask) -> Result<(
     }
 }
 
-/// The imports of a map, each with the export of its name where there is one.
+/// The imports of a map, each with the export of its name if there is one.
 pub fn joined(alloc: Global, linkage: &LinkMap) -> Result<Vec<Join>, AllocError>
     ensures { IfOk result (λ v. map link_as v.items ≡ links linkage.now) }
 {
@@ -57,7 +57,7 @@ pub fn joined(alloc: Global, linkage: &LinkMap) -> Result<Vec<Join>, AllocError>
     Ok(joins)
 }
 
-/// What stands before module `m`.
+/// The totals before module `m`.
 pub fn start_of(starts: &[Before], m: u32) -> Before
     requires { m < length starts.now }
     ensures { slice_get starts.now m ≡ Some result }
@@ -112,7 +112,7 @@ fn number(objects: &[Object], starts: &[Before], m: u32, b: u32) -> u32
     at
 }
 
-/// What joins change.
+/// The changes that joins make.
 pub fn changes_of(
     alloc: Global,
     objects: &[Object],

@@ -10,8 +10,7 @@ use ft_static::Node;
 use ft_types::{Block, CodeType, Object};
 use std::alloc::{AllocError, Global};
 
-/// The tables of modules laid one after the other, with their numbers raised, and what stands before
-/// each module.
+/// The tables of modules laid one after the other, with their numbers raised, and the totals before each module.
 #[derive(Drop)]
 pub struct Laid {
     pub starts: Vec<Before>,
@@ -22,7 +21,7 @@ pub struct Laid {
     pub substs: Vec<u32>,
 }
 
-/// Nothing stands before the first module.
+/// Before the first module, all totals are 0.
 const NOTHING: Before = Before {
     nodes: 0,
     types: 0,
@@ -49,7 +48,7 @@ impl Laid {
         }
     }
 
-    /// Lays a module behind those before it.
+    /// Lays a module after those before it.
     fn add(&mut self, alloc: Global, k: Before, object: &Object) -> Result<(), AllocError>
         requires spelled { IsSpellable object.now }
         requires typed { HasTypedMoves object.now }
@@ -68,7 +67,7 @@ impl Laid {
 
 ghost use Rattle.ft_linker.specs.Tables.{AreLaid, CanBeLaid, Fits};
 
-/// What stands before the next module.
+/// The totals before the next module.
 fn after(k: Before, object: &Object) -> Before
     requires { Fits k object.now }
     ensures { result ≡ after_module k object.now }
@@ -82,7 +81,7 @@ fn after(k: Before, object: &Object) -> Before
     }
 }
 
-/// The tables of modules, in their order.
+/// Concatenates the modules' tables and raises their numbers.
 pub fn lay(alloc: Global, objects: &[Object]) -> Result<Laid, AllocError>
     requires { CanBeLaid objects.now }
     ensures { IfOk result (λ l. AreLaid objects.now l) }

@@ -1,21 +1,19 @@
 //! The linker.
 //!
 //! The crate promises that a `Linker` is the list of the objects that were added, that `add` refuses a
-//! module exactly as `ft_modules` defines it, and that `finish` gives exactly what a sound map links of the
-//! modules, or exactly the refusal (`specs/Linking.antt`). What is linked obeys the rules of the format, is
-//! accepted, runs as the modules do, and tolerates one fault. No tree is walked: trees of expressions are compared
-//! by numbers (`specs/Numbers.antt`).
+//! module exactly as `ft_modules` defines it, and that `finish` returns exactly the object that a sound map
+//! makes of the modules, or exactly the refusal (`specs/Linking.antt`). The linked object obeys the rules
+//! of the format, is accepted, runs as the modules do, and tolerates one fault. No tree is walked: trees of
+//! expressions are compared by numbers (`specs/Numbers.antt`).
 #![tactic(auto)]
 
 mod assembling;
-mod basic_types;
 mod blocks;
 mod cells;
 mod changes;
 mod checks;
 mod imports;
 mod joins;
-mod key;
 mod laying;
 mod lines;
 mod link_error;

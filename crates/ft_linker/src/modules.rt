@@ -53,7 +53,7 @@ impl Modules {
         }
     }
 
-    /// Adds an object. Where it is refused or memory runs out, the objects are as before.
+    /// Adds an object. If it is refused or memory runs out, the objects are unchanged.
     pub fn add(&mut self, object: Object) -> Result<(), LinkError>
         requires spelled { IsSpellable object }
         requires accepted { IsAccepted object }
@@ -76,7 +76,7 @@ impl Modules {
         Ok(())
     }
 
-    /// Links the objects as a sound map of as many modules says.
+    /// Links the objects as a sound map with that many modules says.
     pub fn link(&self, linkage: &LinkMap) -> Result<Object, LinkError>
         requires sound { IsSound linkage.now }
         requires modules { length self.now ≡ length linkage.now.files }

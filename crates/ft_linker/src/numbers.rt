@@ -2,14 +2,13 @@
 ghost use Rattle.std.specs.Prelude.{◌≡◌, ◌<◌, Some, IfOk, cond, length, unwrap_or};
 ghost use Rattle.ft_static.specs.NodeRules.{AreNodes};
 ghost use Rattle.ft_modules.specs.TreeKeys.{key_of, number_in};
-ghost use Rattle.ft_linker.specs.Keys.{key_as, look};
+ghost use Rattle.ft_linker.specs.Keys.{look};
 ghost use Rattle.ft_static.specs.NodeTree.{HasPartsBelow};
+ghost use Rattle.ft_static.specs.declared.node.Shape.{Shape as Key};
+ghost use Rattle.ft_static.specs.contracts.node.ShapeOrd.TheImpl as key_order;
 ghost use Rattle.ft_linker.specs.Numbers.{AreNumbered};
-ghost use Rattle.ft_linker.specs.declared.key.Key.{Key as Known};
-ghost use Rattle.ft_linker.specs.contracts.key.KeyOrd.TheImpl as key_order;
 ghost use Rattle.std.specs.BTreeMap.{is_at};
 
-use crate::key::Key;
 use ft_static::{Node, Shape};
 use std::alloc::{AllocError, Global};
 use std::collections::BTreeMap;
@@ -22,38 +21,46 @@ fn number(numbers: &[u32], n: u32) -> u32
     numbers[n as usize]
 }
 
-/// The key of a shape of which the parts have numbers.
-fn key_of(numbers: &[u32], shape: Shape) -> Key
+/// The key of a shape: the shape with the numbers of its parts' trees in the place of the parts.
+fn key_of(numbers: &[u32], shape: Shape) -> Shape
     requires { HasPartsBelow (length numbers.now) shape }
-    ensures { result ≡ key_as (key_of numbers.now shape) }
+    ensures { result ≡ key_of numbers.now shape }
 {
     match shape {
-        Shape::Word(word) => Key::Word(word),
-        Shape::Var(i) => Key::Var(i),
-        Shape::Op { op, a, b } => Key::Op(op.code(), number(numbers, a), number(numbers, b)),
-        Shape::Sel { memory, at } => Key::Sel(number(numbers, memory), number(numbers, at)),
-        Shape::Memory => Key::Memory,
-        Shape::Upd { memory, at, value } => Key::Upd(
-            number(numbers, memory),
-            number(numbers, at),
-            number(numbers, value),
-        ),
-        Shape::Rem { a, length } => Key::Rem(number(numbers, a), length),
+        Shape::Op { op, a, b } => Shape::Op {
+            op,
+            a: number(numbers, a),
+            b: number(numbers, b),
+        },
+        Shape::Sel { memory, at } => Shape::Sel {
+            memory: number(numbers, memory),
+            at: number(numbers, at),
+        },
+        Shape::Upd { memory, at, value } => Shape::Upd {
+            memory: number(numbers, memory),
+            at: number(numbers, at),
+            value: number(numbers, value),
+        },
+        Shape::Rem { a, length } => Shape::Rem {
+            a: number(numbers, a),
+            length,
+        },
+        other => other,
     }
 }
 
-/// The number that is known of a key, or else this one, which is known of it from then on.
+/// The known number of a key, or else this one, which is known from then on.
 #[tactic(auto, unfolding(crate::specs::Keys::look))]
-fn number_key(known: &mut BTreeMap<Key, u32>, key: Key, next: u32) -> Result<u32, AllocError>
+fn number_key(known: &mut BTreeMap<Shape, u32>, key: Shape, next: u32) -> Result<u32, AllocError>
     ensures number { IfOk result (λ c. c ≡ unwrap_or (look known.old key) next) }
-    ensures known { IfOk result (λ c. (q : Known) → look known.new q ≡ cond (is_at ((key_order.ghosts).cmp key) q) (Some c) (look known.old q)) }
+    ensures known { IfOk result (λ c. (q : Key) → look known.new q ≡ cond (is_at ((key_order.ghosts).cmp key) q) (Some c) (look known.old q)) }
 {
     let number = known.get(&key).copied().unwrap_or(next);
     known.insert(key, number)?;
     Ok(number)
 }
 
-/// Numbers of nodes, in their order: two nodes have one number exactly when they stand for one tree.
+/// Numbers of nodes, in their order: two nodes have the same number exactly if they stand for the same tree.
 pub fn number_trees(alloc: Global, nodes: &[Node]) -> Result<Vec<u32>, AllocError>
     requires { AreNodes nodes.now }
     ensures { IfOk result (λ v. AreNumbered nodes.now v.items) }

@@ -29,9 +29,7 @@ pub fn raise_node(k: u32, node: Node) -> Node
             value: k + value,
         },
         Shape::Rem { a, length } => Shape::Rem { a: k + a, length },
-        Shape::Word(word) => Shape::Word(word),
-        Shape::Var(i) => Shape::Var(i),
-        Shape::Memory => Shape::Memory,
+        other => other,
     };
     Node {
         scope: node.scope,

@@ -1,4 +1,4 @@
-//! The parts of a module that are lists of rows, laid behind those before.
+//! The parts of a module that are lists of rows, laid after those before.
 ghost use Rattle.std.specs.Prelude.{◌≡◌, ◌<◌, ◌+◌, ◌^◌, ◌++◌, IfOk, OnOk, map, ℕ};
 ghost use Rattle.ft_modules.specs.Linked.{raised_block, raised_instr, raised_node, raised_pair, raised_row, raised_type};
 ghost use Rattle.ft_linker.specs.Raises.{CanRaise, CanRaiseBlock, CanRaiseNode, CanRaisePair, CanRaiseRow, CanRaiseType, Each};

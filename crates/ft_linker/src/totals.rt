@@ -5,7 +5,7 @@ ghost use Rattle.ft_types.specs.declared.object.Object.{Object as Module};
 
 use ft_types::{CodeType, Object};
 
-/// How many things of each kind modules have in all.
+/// How many rows of each kind modules have in all.
 #[derive(Clone, Copy)]
 pub struct Totals {
     pub nodes: u32,

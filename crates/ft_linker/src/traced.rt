@@ -1,7 +1,8 @@
 //! Entered registers.
 ghost use Rattle.std.specs.Prelude.{◌≡◌};
 ghost use Rattle.std.specs.FinMap as finite;
-ghost use Rattle.ft_modules.specs.CodeWalk.{Entered, are_free, code_claimed, entered_after, entered_with, is_entered, is_free, is_free_target, is_traced};
+ghost use Rattle.ft_isa.specs.Instructions.{number_of};
+ghost use Rattle.ft_modules.specs.CodeWalk.{Entered, are_free, both_free, claimed, code_claimed, entered_after, entered_with, is_entered, is_free, is_free_target, is_traced};
 
 use ft_isa::{Base, Basic, Instr, Reg};
 use ft_types::{Object, RegType, Table};
@@ -15,6 +16,16 @@ fn code_claimed(basic: Basic) -> Option<u16>
             refs: 0,
             base: Base::Code(code_type),
         } => Some(code_type),
+        _ => None,
+    }
+}
+
+/// The code type that an instruction claims of what it writes.
+fn claimed(instr: Instr) -> Option<u16>
+    ensures { result ≡ claimed instr }
+{
+    match instr {
+        Instr::Mov { basic, .. } => code_claimed(basic),
         _ => None,
     }
 }
@@ -42,7 +53,7 @@ impl Traced {
         self.types[r.number() as usize]
     }
 
-    /// Enters a register, or takes it out.
+    /// Enters a register, or removes it.
     fn enter(&mut self, r: Reg, target: Option<u16>)
         ensures { (e : Entered) → Stands self.old e → Stands self.new (entered_with r.number target e) }
     {
@@ -63,7 +74,23 @@ impl Traced {
         self.get(r).is_some()
     }
 
-    /// Whether no row types an entered register.
+    /// Whether none of two registers, as far as they are given, is entered.
+    fn both_free(&self, first: Option<Reg>, second: Option<Reg>) -> bool
+        ensures { (e : Entered) → Stands self.now e → result ≡ both_free e (number_of first) (number_of second) }
+    {
+        match first {
+            Some(p) => match second {
+                Some(q) => self.is_free(p) && self.is_free(q),
+                None => self.is_free(p),
+            },
+            None => match second {
+                Some(q) => self.is_free(q),
+                None => true,
+            },
+        }
+    }
+
+    /// Whether no row is for an entered register.
     fn are_free(&self, rows: &Table<RegType>) -> bool
         ensures { (e : Entered) → Stands self.now e → result ≡ are_free e rows.now }
     {
@@ -76,7 +103,7 @@ impl Traced {
         true
     }
 
-    /// Whether a target is entered, with a code type that types no entered register.
+    /// Whether a target is entered, with a code type without rows for entered registers.
     fn is_free_target(&self, object: &Object, target: Option<u16>) -> bool
         ensures { (e : Entered) → Stands self.now e → result ≡ is_free_target object.now e target }
     {
@@ -96,38 +123,22 @@ impl Traced {
         ensures { (e : Entered) → Stands self.now e → result ≡ is_traced object.now e instr }
     {
         match instr {
-            Instr::OpReg { rs, rt, .. } => self.is_free(rs) && self.is_free(rt),
-            Instr::OpWord { rs, .. } => self.is_free(rs),
-            Instr::Mov { .. } => true,
-            Instr::Ld { rs, .. } => self.is_free(rs),
-            Instr::St { rd, rs, .. } => self.is_free(rd) && self.is_free(rs),
             Instr::JmpG { rd } => self.is_entered(rd),
             Instr::JmpB { rd, .. } => self.is_free_target(object, self.get(rd)),
             Instr::BzG { rz, rd } => self.is_free(rz) && self.is_entered(rd),
             Instr::BzB { rz, rd, .. } => {
                 self.is_free(rz) && self.is_free_target(object, self.get(rd))
             }
-            Instr::Halt => true,
-            Instr::Idx { rs, .. } => self.is_free(rs),
+            other => self.both_free(other.first_read(), other.second_read()),
         }
     }
 
-    /// Goes past an instruction.
+    /// Passes an instruction.
     pub fn pass(&mut self, instr: Instr)
         ensures { (e : Entered) → Stands self.old e → Stands self.new (entered_after instr e) }
     {
-        match instr {
-            Instr::OpReg { rd, .. } => self.enter(rd, None),
-            Instr::OpWord { rd, .. } => self.enter(rd, None),
-            Instr::Mov { rd, basic, .. } => self.enter(rd, code_claimed(basic)),
-            Instr::Ld { rd, .. } => self.enter(rd, None),
-            Instr::St { .. } => {}
-            Instr::JmpG { .. } => {}
-            Instr::JmpB { .. } => {}
-            Instr::BzG { .. } => {}
-            Instr::BzB { .. } => {}
-            Instr::Halt => {}
-            Instr::Idx { rd, .. } => self.enter(rd, None),
+        if let Some(rd) = instr.written() {
+            self.enter(rd, claimed(instr));
         }
     }
 }

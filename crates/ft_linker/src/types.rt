@@ -6,8 +6,8 @@ ghost use Rattle.ft_modules.specs.LikeTypes.{LikeTypes, SamePair, SameRow};
 ghost use Rattle.ft_modules.specs.TreeKeys.{number_in};
 ghost use Rattle.ft_linker.specs.Numbers.{AreCompared, HasPair, HasRow};
 
-use crate::basic_types::{same_basic, same_colour};
 use ft_types::{Object, RegType, Table};
+use ft_typing::{same_basic, same_colour};
 
 /// A module's object, and where the numbers of its nodes' trees begin.
 #[derive(Clone, Copy)]
@@ -16,8 +16,8 @@ pub struct Numbered<'a> {
     pub first: u32,
 }
 
-/// Whether node `n` of one module and node `m` of another have trees of one number. The numbers of the modules' nodes
-/// begin at `k` and at `l`.
+/// Whether node `n` of one module and node `m` of another have trees with the same number. The numbers of the modules'
+/// nodes begin at `k` and at `l`.
 fn same_tree(numbers: &[u32], k: u32, n: u32, l: u32, m: u32) -> bool
     requires one { k + n < length numbers.now }
     requires other { l + m < length numbers.now }
@@ -119,7 +119,7 @@ fn same_pairs(
     true
 }
 
-/// Whether code type `t` of one module says what code type `u` of another says. Both are there.
+/// Whether code type `t` of one module says what code type `u` of another says. Both exist.
 pub fn same_types(numbers: &[u32], a: Numbered, t: u32, b: Numbered, u: u32) -> bool
     requires one { IsSpellable a.object.now }
     requires other { IsSpellable b.object.now }

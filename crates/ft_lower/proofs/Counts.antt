@@ -6,7 +6,7 @@ use Rattle.ft_syntax.specs.Plain.{Expression, StatementList, none, loop, choose}
 use Rattle.ft_scope.specs.declared.slot.Slot.{Slot}
 use Rattle.ft_lower.specs.Lowered.{block_count, body_counts}
 
--- where a number was put there is one
+-- if a number was put, there is one
 pub not_empty : (s xs : List ℕ) (k : ℕ) → s ≡ xs ++ k ∷ [] → s ≢ []
 not_empty s xs k h e = let l = ap length (sym h ∙ e) in absurd (omega (arith, l, length-append xs (k ∷ [])))
 

@@ -15,7 +15,7 @@ use Rattle.ft_lower.specs.Flow.{Blocks, Place, FlowState, on, first, goes_on, go
 use Rattle.ft_lower.specs.Lowered.{expression_steps}
 use Rattle.ft_lower.proofs.Runs.{Reaches, reach_trans, reach_one, after, after-append, HasAt, has_front, has_back}
 
--- the flow is where the program is: the first n pairs hold the variables
+-- the flow is at the program's place: the first n pairs hold the variables
 pub record Like (n : ℕ) (p : Place) (s : State) (f : FlowState) : Type 0 where
   pub vars : (x : ℕ) → x < n → f.pairs x ≡ slice_index s.vars x
   pub many : length s.vars ≡ n
@@ -66,7 +66,7 @@ pub reach_act : (bs : Blocks) (n : ℕ) (p : Place) (s : State) (f g : FlowState
 reach_act bs n p s f g i l at e = subst (λ h. Reaches bs 1 f h) e (reach_one bs f i l.running (ap (step_at bs) l.place
     ∙ at))
 
--- pair t holds the value, and the pairs below are as they were
+-- pair t holds the value, and the pairs below are unchanged
 pub record Valued (bs : Blocks) (n : ℕ) (p : Place) (t : ℕ) (e : Expression Slot) (s : State) (f : FlowState) : Type 0
   where
     pub end : FlowState

@@ -20,7 +20,7 @@ pub ruleset forms = (assign_form, assign_at_form, while_form, if_form)
 pub none_left : (xs : List (Stmt Slot)) (i : ℕ) → length xs ≤ i → plain_list same_slot (drop i xs) ≡ none
 none_left xs i h = ap (plain_list same_slot) (drop_all i xs h) ∙ list_empty same_slot
 
--- statements in a row begin as many blocks as they do alone
+-- statements in a row begin as many blocks as they do by themselves
 pub count_follow : (a b : StatementList Slot) → block_count (follow a b) ≡ block_count a + block_count b
 count_follow none b = omega arith
 count_follow (assign to e rest) b = count_follow rest b
@@ -79,7 +79,7 @@ steps_follow n b c (choose e if_so if_not rest) y h =
     ap (λ z. ce ++ (Exit (n + 1) n other ∷ (ca ++ (Go n out ∷ (cb ++ (Go n out ∷ z))))))
     (steps_follow n out c rest y (omega arith)) ∙ simp append_assoc
 
--- the statements that are left, of which the first is known
+-- the statements that are left, the first of which is known
 module _ (xs : List (Stmt Slot)) (i : ℕ) (s : Stmt Slot) (lt : i < length xs) (is : s ≡ get_or xs i s) where
   left : plain_list same_slot (drop i xs) ≡ follow (plain_statement same_slot s none)
       (plain_list same_slot (drop (i + 1) xs))

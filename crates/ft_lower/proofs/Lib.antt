@@ -1,6 +1,7 @@
 pub mod Runs
 pub mod EndBlocks
 pub mod Expressions
+pub mod Ends
 pub mod Statements
 pub mod Whole
 pub mod Forms

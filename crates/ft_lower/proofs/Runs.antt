@@ -1,4 +1,4 @@
--- Runs of a flow, and steps that stand in its blocks.
+-- Runs of a flow, and steps in its blocks.
 use Rattle.std.proofs.Common.{◌≡◌, ℕ, zero, suc, ◌+◌, ◌-◌, ◌<◌, ◌≤◌, Bool, true, false, cond, List, [], ◌∷◌, ◌++◌}
 use Rattle.std.proofs.Common.{length, Option, Some, None, refl, sym, ap, ◌∙◌, subst, arith, append_assoc, length-append}
 use Rattle.std.proofs.Common.{slice_get}
@@ -61,7 +61,7 @@ act_begins (Exit q spare to) f = zero_begins (f.pairs q) f.out (goes_to to (with
 act_begins (Go spare to) f = begins_itself f.out
 act_begins Stop f = begins_itself f.out
 
--- also where there is none
+-- also if there is none
 act_if_begins : (b : Bool) (o : Option Step3) (f : FlowState) → Begins f.out (act_if b o f).out
 act_if_begins true o f = begins_itself f.out
 act_if_begins false None f = begins_itself f.out
@@ -90,7 +90,7 @@ module _ (bs : Blocks) (f : FlowState) where
   pub done_after : (j k : ℕ) → ((steps bs j f).done ≡ true → ⊥) → (steps bs k f).done ≡ true → j < k
   done_after = goes_before at IsDone done_stops
 
-  -- the outputs after j steps begin those later
+  -- the outputs after j steps are a prefix of those later
   pub out_grows : (j k : ℕ) → j ≤ k → Begins (steps bs j f).out (steps bs k f).out
   out_grows =
       later at (λ (g h : FlowState). Begins g.out h.out) (λ g. begins_itself g.out) (λ g h i.
@@ -114,17 +114,17 @@ pub after-append : (p : Place) (a b : List Step3) → after p (a ++ b) ≡ after
 after-append p [] b = refl
 after-append p (i ∷ a) b = after-append (next i p) a b
 
--- the steps stand in the blocks from the place on
+-- the steps are in the blocks from the place
 abbrev pub HasAt : Blocks → Place → List Step3 → Type 0
 HasAt bs p [] = Unit {0}
 HasAt bs p (i ∷ is) = (step_at bs p ≡ Some i) × HasAt bs (next i p) is
 
--- the first of two rows stands there
+-- the first of two rows is there
 pub has_front : (bs : Blocks) (p : Place) (a b : List Step3) → HasAt bs p (a ++ b) → HasAt bs p a
 has_front bs p [] b h = tt
 has_front bs p (i ∷ a) b h = (h.0, has_front bs (next i p) a b h.1)
 
--- the second stands after the first
+-- the second comes after the first
 pub has_back : (bs : Blocks) (p : Place) (a b : List Step3) → HasAt bs p (a ++ b) → HasAt bs (after p a) b
 has_back bs p [] b h = h
 has_back bs p (i ∷ a) b h = has_back bs (next i p) a b h.1
@@ -165,7 +165,7 @@ here bs o rest others i =
     ∙ slice_get-get_or (o ++ i ∷ rest) (length o) i within
     ∙ ap Some (get_or-append_seam o i rest i)
 
--- the next step stands there, and what follows it after it
+-- the next step is there, and what follows it after it
 has_from : (bs : Blocks) (o : List Step3) (i : Step3) (is : List Step3) (b : Bool) →
     ((bs1 : Blocks) (o1 : List Step3) → HasAt (bs1 ++ blocks_onto o1 is) (record {
       block = length bs1;
@@ -195,7 +195,7 @@ has_from bs o i is false all =
       subst (λ n. HasAt (bs ++ blocks_onto B is) (record { block = length bs; index = n }) is) e (all bs B),
     )
 
--- a row that is cut into blocks stands in them
+-- a row that is cut into blocks is in them
 pub has_all : (bs : Blocks) (o is : List Step3) → HasAt (bs ++ blocks_onto o is) (record {
   block = length bs;
   index = length o;

@@ -1,6 +1,6 @@
 -- The flow follows the statements.
-use Rattle.std.proofs.Common.{◌≡◌, ℕ, zero, suc, ◌+◌, ◌*◌, ◌<◌, ◌≤◌, false, List, [], ◌∷◌, ◌++◌, length, Some, inl, inr}
-use Rattle.std.proofs.Common.{refl, sym, ap, ◌∙◌, subst, arith, slice_index, slice_set}
+use Rattle.std.proofs.Common.{◌≡◌, ℕ, zero, suc, ◌+◌, ◌*◌, ◌<◌, ◌≤◌, List, [], ◌∷◌, ◌++◌, length, Some, inl, inr, refl}
+use Rattle.std.proofs.Common.{sym, ap, ◌∙◌, subst, arith, slice_index, slice_set}
 use Rattle.std.proofs.lemmas.Bool.{cases_eq}
 use Rattle.std.proofs.lemmas.List.{get_or-set_same, get_or-set_other, length-set}
 use Rattle.ft_scope.specs.declared.slot.Slot.{Slot}
@@ -20,124 +20,8 @@ use Rattle.ft_lower.proofs.Runs.{Reaches, reach_trans, next, after, after-append
 use Rattle.ft_lower.proofs.EndBlocks.{expression_block, write_block, statements_block}
 use Rattle.ft_lower.proofs.Expressions.{Like, moved, other_pair, same_pair, put_like, put_first, reach_act, Valued}
 use Rattle.ft_lower.proofs.Expressions.{expression_run}
-
--- the flow comes to place p like the program's state, in at most twice the work less c steps, and in no fewer than the
--- loops taken
-pub record EndsAt (bs : Blocks) (n c : ℕ) (p : Place) (s : State) (f : FlowState) (t : State) : Type 0 where
-  pub end : FlowState
-  pub taken : ℕ
-  pub reaches : Reaches bs taken f end
-  pub few : taken + c + 2 * s.work ≤ 2 * t.work
-  pub many : s.left ≤ t.left + taken
-  pub like : Like n p t end
-
--- the same of a run that is cut: it is somewhere, with the outputs
-pub record CutsAt (bs : Blocks) (c : ℕ) (s : State) (f : FlowState) (t : State) : Type 0 where
-  pub end : FlowState
-  pub taken : ℕ
-  pub reaches : Reaches bs taken f end
-  pub few : taken + c + 2 * s.work ≤ 2 * t.work
-  pub many : s.left ≤ taken
-  pub out : end.out ≡ t.out
-  pub running : end.done ≡ false
-
--- what the flow does where the program has this outcome
-abbrev pub Runs : Blocks → ℕ → ℕ → Place → State → FlowState → Outcome → Type 0
-Runs bs n c p s f (Ended t) = EndsAt bs n c p s f t
-Runs bs n c p s f (Cut t) = CutsAt bs c s f t
-
--- j steps before
-pub prepend : (bs : Blocks) (n c d j : ℕ) (p : Place) (s s1 : State) (f f1 : FlowState) (r : Outcome) →
-    Reaches bs j f f1 → j + c + 2 * s.work ≤ d + 2 * s1.work → s.left ≤ s1.left + j → Runs bs n d p s1 f1 r →
-    Runs bs n c p s f r
-prepend bs n c d j p s s1 f f1 (Ended t) to few many r = record {
-  end = r.end;
-  taken = j + r.taken;
-  reaches = reach_trans bs j r.taken f f1 r.end to r.reaches;
-  few = omega (arith, r.few);
-  many = omega (arith, r.many);
-  like = r.like;
-}
-prepend bs n c d j p s s1 f f1 (Cut t) to few many r = record {
-  end = r.end;
-  taken = j + r.taken;
-  reaches = reach_trans bs j r.taken f f1 r.end to r.reaches;
-  few = omega (arith, r.few);
-  many = omega (arith, r.many);
-  out = r.out;
-  running = r.running;
-}
-
--- a jump after
-pub jump_on : (bs : Blocks) (n c to : ℕ) (p : Place) (s : State) (f : FlowState) (r : Outcome) → step_at bs p
-    ≡ Some (Go n to) → Runs bs n (suc c) p s f r → Runs bs n c (first to) s f r
-jump_on bs n c to p s f (Ended t) at r =
-    let g = goes_to to (with_pair n 0 r.end) in
-    record {
-      end = g;
-      taken = r.taken + 1;
-      reaches = reach_trans bs r.taken 1 f r.end g r.reaches (reach_act bs n p t r.end g (Go n to) r.like at refl);
-      few = omega (arith, r.few);
-      many = omega (arith, r.many);
-      like = put_first n n 0 to p t r.end (omega arith) r.like;
-    }
-jump_on bs n c to p s f (Cut t) at r = record {
-  end = r.end;
-  taken = r.taken;
-  reaches = r.reaches;
-  few = omega (arith, r.few);
-  many = r.many;
-  out = r.out;
-  running = r.running;
-}
-
--- one run after another
-pub then_run : (bs : Blocks) (n c : ℕ) (p q : Place) (s : State) (f : FlowState) (r : Outcome) (go : State → Outcome) →
-    Runs bs n c p s f r → (state_of r).left ≤ s.left → ((t : State) (g : FlowState) → t.left ≤ s.left → Like n p t g →
-    Runs bs n 0 q t g (go t)) → Runs bs n c q s f (then_do r go)
-then_run bs n c p q s f (Ended t) go r le k = prepend bs n c 0 r.taken q s t f r.end (go t) r.reaches
-    (omega (arith, r.few)) (omega (arith, r.many)) (k t r.end le r.like)
-then_run bs n c p q s f (Cut t) go r le k = r
-
--- the same end
-pub ends_at : (bs : Blocks) (n c : ℕ) (p q : Place) (s : State) (f : FlowState) (r : Outcome) → p ≡ q →
-    Runs bs n c p s f r → Runs bs n c q s f r
-ends_at bs n c p q s f r e h = subst (λ x. Runs bs n c x s f r) e h
-
--- nothing of `Like` is about the work or the loops
-pub like_evaluated : (n : ℕ) (p : Place) (e : Expression Slot) (s : State) (f : FlowState) → Like n p s f →
-    Like n p (evaluated e s) f
-like_evaluated n p e s f l = record {
-  vars = l.vars;
-  many = l.many;
-  cells = l.cells;
-  place = l.place;
-  out = l.out;
-  running = l.running;
-}
-
--- nor of that of an index and a value
-like_both : (n : ℕ) (p : Place) (i e : Expression Slot) (s : State) (f : FlowState) → Like n p s f →
-    Like n p (evaluated_both i e s) f
-like_both n p i e s f l = record {
-  vars = l.vars;
-  many = l.many;
-  cells = l.cells;
-  place = l.place;
-  out = l.out;
-  running = l.running;
-}
-
--- nor about the turns that are left
-pub like_left : (n k : ℕ) (p : Place) (s : State) (f : FlowState) → Like n p s f → Like n p (with_left k s) f
-like_left n k p s f l = record {
-  vars = l.vars;
-  many = l.many;
-  cells = l.cells;
-  place = l.place;
-  out = l.out;
-  running = l.running;
-}
+use Rattle.ft_lower.proofs.Ends.{EndsAt, CutsAt, Runs, prepend, jump_on, then_run, ends_at, like_evaluated, like_both}
+use Rattle.ft_lower.proofs.Ends.{like_left}
 
 module _ (bs : Blocks) (n m : ℕ) where
   -- a test: an expression and an exit
@@ -158,7 +42,7 @@ module _ (bs : Blocks) (n m : ℕ) where
     like = like_evaluated n q e s g l;
   }
 
-  -- where the word is 0 the exit is taken
+  -- if the word is 0 the exit is taken
   tested_zero : (e : Expression Slot) (to : ℕ) (p : Place) (s : State) (f : FlowState) →
       Valued bs n (after p (expression_steps (n + 1) e)) (n + 1) e s f →
       step_at bs (after p (expression_steps (n + 1) e))
@@ -168,7 +52,7 @@ module _ (bs : Blocks) (n m : ℕ) where
       tested_by e to p (first to) s f a V at (ap (λ v. at_zero v a (goes_on (with_pair n 0 V.end))) (V.value ∙ z))
       (put_first n n 0 to _ s V.end (omega arith) V.like)
 
-  -- where it is not the flow goes on
+  -- if it is not, the flow goes on
   tested_suc : (e : Expression Slot) (to v : ℕ) (p : Place) (s : State) (f : FlowState) →
       Valued bs n (after p (expression_steps (n + 1) e)) (n + 1) e s f →
       step_at bs (after p (expression_steps (n + 1) e))
@@ -312,7 +196,7 @@ module _ (bs : Blocks) (n m : ℕ) where
           like = T.like;
         }
 
-    -- what a turn does, where the rest of the loop does what it should
+    -- what a turn does, if the rest of the loop does what it should
     turn_run : (l w : ℕ) (s : State) (f : FlowState) (rest : State → Outcome) → l ≡ s.left → value e s.vars s.cells
         ≡ suc w → Valued bs n (after (first head) (expression_steps (n + 1) e)) (n + 1) e s f →
         ((t : State) (g : FlowState) → suc t.left ≤ l → Like n (first head) t g → Runs bs n 1 (first out) t g (rest t))

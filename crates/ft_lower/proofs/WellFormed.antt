@@ -55,7 +55,7 @@ learn_keeps p k q h = by (q == p)
 learn_same : (p : ℕ) (k : Known) → learn p k p ≡ true
 learn_same p k = ap (λ b. cond b true (k p)) (eq-eqb p p refl)
 
--- other pairs are as before
+-- other pairs are unchanged
 learn_other : (p : ℕ) (k : Known) (q : ℕ) → q ≢ p → learn p k q ≡ k q
 learn_other p k q ne = ap (λ b. cond b true (k q)) (ne_eqb q p ne)
 
@@ -69,13 +69,13 @@ Knows n k = (x : ℕ) → x < n → k x ≡ true
 
 -- STEPS IN A ROW
 
--- over n variables and m cells, with so many blocks
+-- over n variables and m cells, with this many blocks
 module _ (n m : ℕ) (blocks : ℕ) where
   -- a step is well after what is known
   abbrev StepIsWell : Known → Step3 → Type 0
   StepIsWell k i = StepFits m blocks i × ReadsKnown n k i
 
-  -- what is known before the next step of the row, which begins a block where this one ends one
+  -- what is known before the next step of the row, which begins a block if this one ends one
   abbrev after_step : Step3 → Known → Known
   after_step i k = cond (is_last i) (pairs_below n) (known_after i k)
 
@@ -94,12 +94,12 @@ module _ (n m : ℕ) (blocks : ℕ) where
   walk-append k [] b = refl
   walk-append k (i ∷ a) b = walk-append (after_step i k) a b
 
-  -- two rows are well where each is
+  -- two rows are well formed if each is
   flat-append : (k : Known) (a b : List Step3) → FlatIsWell k a → FlatIsWell (walk k a) b → FlatIsWell k (a ++ b)
   flat-append k [] b p q = q
   flat-append k (i ∷ a) b p q = (p.0, flat-append (after_step i k) a b p.1 q)
 
-  -- an expression's steps are well, leave pair t known, and the pairs below as they were
+  -- an expression's steps are well formed, leave pair t known, and leave the pairs below unchanged
   record FlatExpression (t : ℕ) (k : Known) (e : Expression Slot) : Type 0 where
     well : FlatIsWell k (expression_steps t e)
     knows : Knows n (walk k (expression_steps t e))
@@ -161,7 +161,7 @@ module _ (n m : ℕ) (blocks : ℕ) where
             ∙ A.lower q lt;
       }
 
-  -- the variables are known where they are what is known
+  -- the variables are known if the known pairs are those below n
   knows_below : Knows n (pairs_below n)
   knows_below x lt = lt-ltb x n lt
 

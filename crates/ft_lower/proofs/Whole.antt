@@ -16,7 +16,8 @@ use Rattle.ft_lower.proofs.Runs.{Reaches, reach_trans, reach_one, done_stays, do
 use Rattle.ft_lower.proofs.Runs.{after-append, HasAt, has_front, has_back, has_all}
 use Rattle.ft_lower.proofs.EndBlocks.{zeros_block}
 use Rattle.ft_lower.proofs.Expressions.{Like, same_pair, other_pair}
-use Rattle.ft_lower.proofs.Statements.{Runs, statements_run}
+use Rattle.ft_lower.proofs.Ends.{Runs}
+use Rattle.ft_lower.proofs.Statements.{statements_run}
 
 -- what a resolved program keeps: its names are there, and need and weight are within their limits
 pub record IsResolved (p : Program) : Type 0 where
@@ -34,7 +35,7 @@ record Fresh (bs : Blocks) (k : ℕ) (p : Place) (f : FlowState) : Type 0 where
   out : end.out ≡ f.out
   running : end.done ≡ false
 
--- a pair that is 0 stays so
+-- a pair that is 0 stays 0
 zero_pair : (k q : ℕ) (f : FlowState) → f.pairs q ≡ 0 → (with_pair k 0 f).pairs q ≡ 0
 zero_pair k q f z = elim (cases_eq q k) [
   | inl e ↦ subst (λ x. (with_pair k 0 f).pairs x ≡ 0) (sym e) (same_pair k 0 f)
@@ -70,7 +71,7 @@ zeros_run bs (suc k) p f has z at run =
       running = A.running;
     }
 
--- what the flow does where the program has this result
+-- what the flow does if the program has this result
 abbrev Follows : Blocks → FlowState → ℕ → Outcome → Type 0
 Follows bs f t (Ended s) = (j : ℕ) × (j ≤ 2 * s.work + 40) × ((steps bs j f).done ≡ true) × ((steps bs j f).out ≡ s.out)
 Follows bs f t (Cut s) = (j : ℕ) × (t ≤ j) × (j ≤ 2 * s.work + 40) × ((steps bs j f).done ≡ false)
@@ -133,7 +134,7 @@ done_from bs f k (Ended s) h d = (s, refl, ap (λ (x : FlowState). x.out) (done_
 done_from bs f k (Cut s) h d = absurd (clash (steps bs h.0 f).done
     (ap (λ (x : FlowState). x.done) (done_stays bs f k h.0 h.1 d) ∙ d) h.3)
 
--- a run that is not done has outputs that begin those
+-- a run that is not done has outputs that are a prefix of those
 running_from : (bs : Blocks) (f : FlowState) (k : ℕ) (r : Outcome) → Follows bs f k r → (steps bs k f).done ≡ false →
     Begins (steps bs k f).out (state_of r).out
 running_from bs f k (Ended s) h d =

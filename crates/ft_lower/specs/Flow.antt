@@ -74,7 +74,7 @@ block_of bs b = unwrap_or (slice_get bs b) []
 abbrev pub step_at : Blocks → Place → Option Step3
 step_at bs p = slice_get (block_of bs p.block) p.index
 
--- a step, where there is one and the run is not done
+-- a step, if there is one and the run is not done
 abbrev pub act_if : Bool → Option Step3 → FlowState → FlowState
 act_if true o f = f
 act_if false None f = f
@@ -84,7 +84,7 @@ act_if false (Some i) f = act i f
 abbrev pub flow_step : Blocks → FlowState → FlowState
 flow_step bs f = act_if f.done (step_at bs f.place) f
 
--- so many steps of a run
+-- n steps of a run
 abbrev pub steps : Blocks → ℕ → FlowState → FlowState
 steps bs zero f = f
 steps bs (suc k) f = steps bs k (flow_step bs f)

@@ -1,4 +1,4 @@
--- The steps of a program in a row, and the blocks that they are.
+-- The steps of a program in a row, and the blocks that they form.
 use Rattle.std.specs.Prelude.{◌≡◌, ℕ, zero, suc, ◌+◌, true, false, List, [], ◌∷◌, ◌++◌}
 use Rattle.ft_syntax.specs.Plain.{Expression, literal, name, indexed, operation, StatementList, none, assign, assign_at, loop, choose}
 use Rattle.ft_scope.specs.declared.slot.Slot.{Slot}
@@ -9,21 +9,21 @@ use Rattle.ft_lower.specs.declared.step3.Step3.TheVariants.{Put, Copy, Op, Load,
 use Rattle.ft_lower.specs.Flow.{Blocks}
 use Rattle.ft_lower.specs.Well.{is_last}
 
--- the step that reads a cell or a variable into pair t; of an array, the cell that the word of this pair names
+-- the step that reads a cell or a variable into pair t; of an array, the cell that the word of this pair selects
 abbrev pub read : ℕ → Slot → Step3
 read t (Var x) = Copy t x
 read t (Cell k) = Load t k
 read t (Run first length) = LoadAt t t first length
 
--- the steps that leave an expression's word in pair t, by this pair and those above it
+-- the steps that leave an expression's word in pair t, using this pair and those above it
 abbrev pub expression_steps : ℕ → Expression Slot → List Step3
 expression_steps t (literal w) = Put t w ∷ []
 expression_steps t (name s) = read t s ∷ []
 expression_steps t (indexed s i) = expression_steps t i ++ read t s ∷ []
 expression_steps t (operation o a b) = expression_steps t a ++ (expression_steps (t + 1) b ++ Op o t t (t + 1) ∷ [])
 
--- the step that writes pair n + 1 to a cell or a variable, with the spare n; of an array, pair n + 2 to the cell that the word
--- of pair n + 1 names
+-- the step that writes pair n + 1 to a cell or a variable, with the spare n; of an array, pair n + 2 to the cell that
+-- the word of pair n + 1 selects
 abbrev pub write : ℕ → Slot → Step3
 write n (Var x) = Copy x (n + 1)
 write n (Cell k) = Store k (n + 1) n
@@ -47,12 +47,12 @@ body_counts (loop e body rest) = body_counts rest ++ (body_counts body ++ block_
 body_counts (choose e if_so if_not rest) =
     body_counts rest ++ (body_counts if_not ++ (body_counts if_so ++ block_count if_not ∷ block_count if_so ∷ []))
 
--- numbers stand on top of a stack
+-- these numbers are on top of a stack
 abbrev pub Tops : List ℕ → List ℕ → Type 0
 Tops numbers stack = (below : List ℕ) × (stack ≡ below ++ numbers)
 
--- the steps of statements over n variables that begin within block b; each step that ends a block is
--- followed by the first step of the next block
+-- the steps of statements over n variables that begin within block b; each step that ends a block is followed by the
+-- first step of the next block
 abbrev pub statement_steps : ℕ → ℕ → StatementList Slot → List Step3
 statement_steps n b none = []
 statement_steps n b (assign to e rest) = expression_steps (n + 1) e ++ (write n to ∷ statement_steps n b rest)
@@ -81,7 +81,7 @@ zeros (suc k) = zeros k ++ Put k 0 ∷ []
 abbrev pub program_steps : Program → List Step3
 program_steps p = zeros p.vars ++ (statement_steps p.vars 0 p.body ++ Stop ∷ [])
 
--- steps in a row, after those of the block that is open, as blocks
+-- steps in a row, after those of the open block, as blocks
 abbrev pub blocks_onto : List Step3 → List Step3 → Blocks
 blocks_onto [] [] = []
 blocks_onto (i ∷ open_block) [] = (i ∷ open_block) ∷ []

@@ -1,4 +1,4 @@
--- Well formed flows: blocks end rightly, jumps go to blocks that are there, and steps read pairs that are known.
+-- Well formed flows: blocks end properly, jumps go to existing blocks, and steps read pairs that are known.
 use Rattle.std.specs.Prelude.{◌≡◌, ◌≢◌, ℕ, zero, suc, ◌<◌, ◌≤◌, Bool, true, false, cond, List, [], ◌∷◌, ◌==◌, nat_lt, length, take}
 use Rattle.ft_isa.specs.Words.{IsWord}
 use Rattle.ft_scope.specs.declared.slot.Slot.TheVariants.{Run}
@@ -26,12 +26,12 @@ abbrev pub IsBlock : List Step3 → Type 0
 IsBlock [] = ⊥
 IsBlock (i ∷ is) = elim (is_last i) as (λ b. Type 0) [ true ↦ is ≡ [] | false ↦ IsBlock is ]
 
--- a jump goes to a block that is there and is not the entry
+-- a jump goes to an existing block other than the entry
 pub record IsTarget (blocks to : ℕ) : Type 0 where
   pub there : to < blocks
   pub no_entry : 0 < to
 
--- a word is one, and cells, arrays and targets are there
+-- a word is below 2^64, and cells, arrays and targets exist
 abbrev pub StepFits : ℕ → ℕ → Step3 → Type 0
 StepFits cells blocks (Put p w) = IsWord w
 StepFits cells blocks (Copy p q) = Unit {0}
@@ -56,7 +56,7 @@ no_pair = λ q. false
 abbrev pub pairs_below : ℕ → Known
 pairs_below n = λ q. nat_lt q n
 
--- a pair more
+-- with one more pair
 abbrev pub learn : ℕ → Known → Known
 learn p k = λ q. cond (q == p) true (k q)
 
@@ -64,7 +64,7 @@ learn p k = λ q. cond (q == p) true (k q)
 abbrev pub forget : ℕ → Known → Known
 forget p k = λ q. cond (q == p) false (k q)
 
--- what is known after a step: the pair that it sets, and its spare no more
+-- what is known after a step: also the pair that it sets, and no longer its spare
 abbrev pub known_after : Step3 → Known → Known
 known_after (Put p w) k = learn p k
 known_after (Copy p q) k = learn p k
@@ -95,7 +95,7 @@ ReadsKnown vars k (Exit q spare to) = (k q ≡ true) × (q ≢ spare) × KeepsVa
 ReadsKnown vars k (Go spare to) = KeepsVariables vars k spare
 ReadsKnown vars k Stop = Unit {0}
 
--- the steps of a row are so, one after another
+-- the steps of a row are well formed, one after another
 abbrev pub RowIsWell : ℕ → ℕ → ℕ → Known → List Step3 → Type 0
 RowIsWell vars cells blocks k [] = Unit {0}
 RowIsWell vars cells blocks k (i ∷ is) = StepFits cells blocks i × ReadsKnown vars k i × RowIsWell vars cells blocks (known_after i k) is
@@ -114,7 +114,7 @@ row_known k (i ∷ is) = row_known (known_after i k) is
 abbrev pub known_at : ℕ → Blocks → Place → Known
 known_at vars bs p = row_known (known_first vars p.block) (take p.index (block_of bs p.block))
 
--- blocks over so many variables and cells are well formed
+-- blocks over this many variables and cells are well formed
 pub record IsWell (vars cells : ℕ) (bs : Blocks) : Type 0 where
   pub some : 0 < length bs
   pub pairs : PairsBelow 32 bs

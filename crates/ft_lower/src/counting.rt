@@ -8,8 +8,8 @@ use ft_scope::Slot;
 use ft_syntax::Stmt;
 use std::alloc::AllocError;
 
-/// How many blocks statements begin. Puts the numbers of the bodies of loops and of the sides of choices
-/// onto a stack, from which they come in the order in which the statements are lowered.
+/// How many blocks statements begin. Pushes the numbers of the bodies of loops and of the sides of choices onto a
+/// stack, from which they are popped in the order in which the statements are lowered.
 #[cycle(count)]
 pub fn count_blocks(counts: &mut Vec<u32>, all: &[Stmt<Slot>]) -> Result<u32, AllocError>
     requires few { block_count (plain_list same_slot all.now) < 2 ^ 32 }
@@ -23,8 +23,8 @@ pub fn count_blocks(counts: &mut Vec<u32>, all: &[Stmt<Slot>]) -> Result<u32, Al
     Ok(blocks)
 }
 
-/// How many blocks a statement begins: a loop those of its test and of what follows it, a choice those of
-/// its second side and of what follows it.
+/// How many blocks a statement begins: a loop those of its test and of what follows it, a choice those of its second
+/// side and of what follows it.
 #[tactic(auto, using(crate::proofs::Forms::forms))]
 #[cycle(count)]
 fn count_statement(counts: &mut Vec<u32>, s: &Stmt<Slot>) -> Result<u32, AllocError>

@@ -13,7 +13,7 @@ fn ends_block(step: &Step3) -> bool
     matches!(step, Step3::Go { .. } | Step3::Stop)
 }
 
-/// The blocks that steps in a row are. Each takes as much memory as its steps do.
+/// The blocks that steps in a row form. Each takes no more memory than its steps.
 pub fn cut(alloc: Global, steps: &[Step3]) -> Result<Vec<Vec<Step3>>, AllocError>
     ensures { IfOk result (λ blocks. map (λ b. b.items) blocks.items ≡ blocks_onto [] steps.now) }
 {

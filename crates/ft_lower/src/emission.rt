@@ -12,7 +12,7 @@ use ft_scope::{Prog, Slot};
 use ft_syntax::{Expr, Stmt};
 use std::alloc::{AllocError, Global};
 
-/// One step more.
+/// One more step.
 fn put(steps: &mut Vec<Step3>, step: Step3) -> Result<(), AllocError>
     ensures { OnOk result (steps.new.items ≡ steps.old.items ++ step ∷ []) }
 {
@@ -20,7 +20,7 @@ fn put(steps: &mut Vec<Step3>, step: Step3) -> Result<(), AllocError>
     Ok(())
 }
 
-/// The step that reads a cell or a variable into pair p; of an array, the cell that the word of this pair names.
+/// The step that reads a cell or a variable into pair p; of an array, the cell that the word of this pair selects.
 fn read_step(p: u8, from: Slot) -> Step3
     ensures { result ≡ read p from }
 {
@@ -39,7 +39,7 @@ fn read_step(p: u8, from: Slot) -> Step3
     }
 }
 
-/// The steps that leave an expression's word in pair p, by this pair and those above it.
+/// The steps that leave an expression's word in pair p, using this pair and those above it.
 fn emit_expression(steps: &mut Vec<Step3>, p: u8, e: &Expr<Slot>) -> Result<(), AllocError>
     requires pairs { p + need (plain_expression same_slot e.now) ≤ 32 }
     ensures { OnOk result (steps.new.items ≡ steps.old.items ++ expression_steps p (plain_expression same_slot e.now)) }
@@ -60,8 +60,8 @@ fn emit_expression(steps: &mut Vec<Step3>, p: u8, e: &Expr<Slot>) -> Result<(), 
     }
 }
 
-/// The step that writes the pair after the spare to a cell or a variable; of an array, the second pair after
-/// the spare to the cell that the word of the first one names.
+/// The step that writes the pair after the spare to a cell or a variable; of an array, the second pair after the spare
+/// to the cell that the word of the first one selects.
 fn write_step(spare: u8, to: Slot) -> Step3
     requires { spare < 254 }
     ensures { result ≡ write spare to }
@@ -83,7 +83,7 @@ fn write_step(spare: u8, to: Slot) -> Step3
     }
 }
 
-/// The step that goes on to a block where the pair after the spare holds 0.
+/// The step that goes on to a block if the pair after the spare holds 0.
 fn exit_step(spare: u8, to: u32) -> Step3
     requires { spare < 255 }
     ensures { result ≡ Exit (spare + 1) spare to }
@@ -100,8 +100,8 @@ fn next_count(counts: &mut Vec<u32>) -> u32
     counts.pop().unwrap()
 }
 
-/// The steps of statements that begin within a block, where the variables' pairs are those below the spare, and
-/// the stack has how many blocks their bodies begin. Answers the block in which they end.
+/// The steps of statements that begin within a block, if the variables' pairs are those below the spare, and the stack
+/// has how many blocks their bodies begin. Returns the block in which they end.
 #[cycle(emit)]
 fn emit_statements(
     steps: &mut Vec<Step3>,
@@ -124,8 +124,8 @@ fn emit_statements(
     Ok(at)
 }
 
-/// The steps of a statement that begin within a block, where the variables' pairs are those below the spare, and
-/// the stack has how many blocks its bodies begin. Answers the block in which they end.
+/// The steps of a statement that begin within a block, if the variables' pairs are those below the spare, and the stack
+/// has how many blocks its bodies begin. Returns the block in which they end.
 #[tactic(auto, using(crate::proofs::Forms::forms))]
 #[cycle(emit)]
 fn emit_statement(

@@ -16,7 +16,7 @@ pub enum Step3 {
         p: u8,
         q: u8,
     },
-    /// Pair `p` gets what the operation gives of the words of the pairs `q` and `s`.
+    /// Pair `p` gets the result of the operation on the words of the pairs `q` and `s`.
     Op {
         op: Op,
         p: u8,
@@ -49,7 +49,7 @@ pub enum Step3 {
         q: u8,
         spare: u8,
     },
-    /// On to block `to` where pair `q` holds 0, and else to the next step.
+    /// On to block `to` if pair `q` holds 0, else to the next step.
     Exit {
         q: u8,
         spare: u8,

@@ -1,4 +1,4 @@
--- Runs under a plan, of which the outputs are put as lines.
+-- Runs under a plan whose outputs are put as lines.
 use Rattle.std.proofs.Common.{◌≡◌, ℕ, ◌+◌, ◌<◌, ◌≤◌, List, ◌++◌, Option, true, refl, ap, sym, subst, ◌∙◌, arith}
 use Rattle.ft_edge.specs.Told.{append_told}
 use Rattle.ft_edge.specs.Lines.{BreaksOff, Puts, with_lines}
@@ -52,7 +52,7 @@ module _ {T : Type 0} (outlet : Ghosts T) (o : Object) (strike : Option Strike) 
       all = all;
     }
 
-  -- a run from its strike on
+  -- a run from its strike
   module _ (s1 s2 s' : State) (w1 w' : List Wild) (t t' : T) (before m : ℕ) (pause : Pause) (state : s1
       ≡ (run o strike w before).state) (wild : w1 ≡ (run o strike w before).wild)
       (struck : s2 ≡ struck_before strike before s1) (spares : (j : ℕ) → before < j → Spares strike j) (some : 0 < m)

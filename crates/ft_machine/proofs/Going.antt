@@ -63,7 +63,7 @@ effect_status effects.Detected b green blue f = refl
 pub rest_below : (n m j : ℕ) → n ≤ j → j < n + m → j - n < m
 rest_below n m j le below = omega arith
 
--- the last output is the same where outputs are the same, and where others come before
+-- the last output is the same if outputs are the same, and if others come before
 pub last_as : (pause : Pause) (f g : ℕ → List Output) (n : ℕ) → ((i : ℕ) → i ≤ n → f i ≡ g i) → EndsWith pause f n →
     EndsWith pause g n
 last_as pauses.Running f g n same h = tt
@@ -89,7 +89,7 @@ last_after pauses.Refused front f g n m whole (j, (x, (is, outputs))) = (
   ),
 )
 
--- the last step gave what it told
+-- the last step gave what it returned
 last_one : (pause : Pause) (last : Stepped) (f : ℕ → List Output) (n j : ℕ) → n ≡ j + 1 →
     (pause ≡ pauses.Refused → (output : Output) × (last ≡ Commit output))
     → f n ≡ f j ++ option_to_list (output_told last) → EndsWith pause f n
@@ -245,7 +245,7 @@ module _ {T : Type 0} (outlet : Ghosts T) where
           still = p.still;
         }
 
-    -- where no instruction is
+    -- if there is no instruction
     pub goes_lost : (b : Bank) (pc : ℕ) (w : List Wild) (t : T) → instr_at o pc ≡ None →
         Goes outlet o (doing b pc pc None) w t (record (doing b pc pc None) { status = status.Detected }) w t 1
         pauses.Detected

@@ -32,7 +32,7 @@ pub fetch_apart : (o : Object) (s s' : State) (x : Stepped) → s.pc_green ≢ s
 fetch_apart o s s' x apart h = takes_second (s.pc_green == s.pc_blue) (fetch (instr_at o s.pc_green) s) (detected s) s'
     x (ne_eqb _ _ apart) h
 
--- nothing is fetched where there is no instruction
+-- nothing is fetched if there is no instruction
 pub fetch_none : (o : Object) (s s' : State) (x : Stepped) → s.pc_green ≡ s.pc_blue → None ≡ instr_at o s.pc_green →
     TakesQuietly (detected s) s' x → TakesQuietly (advance o None s) s' x
 fetch_none o s s' x together none h =
@@ -43,7 +43,7 @@ chosen_same : (b : Bool) (s t : State) → (b ≡ false → t ≡ s) → t ≡ (
 chosen_same true s t h = refl
 chosen_same false s t h = h refl
 
--- a running state has no entry i where the site of entry i is not there
+-- a running state has no entry i if the site of entry i does not exist
 no_entry : (s : State) (i : ℕ) → s.status ≡ Running → (is_running s.status && nat_lt i (length s.queue)) ≡ false →
     length s.queue ≤ i
 no_entry s i running absent = ltb-false i (length s.queue)

@@ -71,7 +71,7 @@ running_at status.Running h = refl
 running_at status.Done h = absurd (h tt)
 running_at status.Detected h = absurd (h tt)
 
--- where a machine runs, it ran before
+-- if a machine runs, it ran before
 pub span_running : (o : Object) (n m : ℕ) (s : State) (w : List Wild) → (span o (n + m) s w).state.status ≡ Running →
     (span o n s w).state.status ≡ Running
 span_running o n m s w running =
@@ -113,7 +113,7 @@ span_two o b new pc i e w left is h =
     ∙ ap (extended []) (fetched_step o b pc (Some i) w is))
     ∙ ap (extended []) (h.does pc pc (Some i))
 
--- where no instruction is, one step detects it
+-- if there is no instruction, one step detects it
 pub span_lost : (o : Object) (b : Bank) (pc : ℕ) (w : List Wild) → instr_at o pc ≡ None →
     span o 1 (doing b pc pc None) w ≡ record {
       state = record (doing b pc pc None) { status = status.Detected };
@@ -168,7 +168,7 @@ pub run_first : (o : Object) (strike : Option Strike) (w w0 : List Wild) (s0 : S
 run_first o strike w w0 s0 m begun answers h = run_start o strike w m h ∙ ap (λ s. span o m s w) (sym begun)
     ∙ ap (λ v. span o m s0 v) (sym answers)
 
--- and after its strike it is a span from there on
+-- and after its strike it is a span from there
 pub run_second : (o : Object) (strike : Option Strike) (w : List Wild) (s1 s2 : State) (w1 : List Wild) (before m : ℕ) →
     s1 ≡ (run o strike w before).state → w1 ≡ (run o strike w before).wild
     → s2 ≡ struck_before strike before s1 → ((j : ℕ) → before < j → Spares strike j) → 0 < m →

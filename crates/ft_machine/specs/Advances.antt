@@ -1,4 +1,4 @@
--- What a call answers and leaves that takes steps up to the first that is not quiet.
+-- The result and the effect of a call that takes steps up to the first that is not quiet.
 use Rattle.std.specs.Prelude.{◌≡◌, ℕ, ◌≤◌, ◌<◌, Bool, true, false, List, [], Option, Some, None}
 use Rattle.std.specs.Option.{option_to_list}
 use Rattle.ft_isa.specs.declared.output.Output.{Output}
@@ -14,14 +14,14 @@ use Rattle.ft_machine.specs.declared.stepped.Pause.{Pause}
 use Rattle.ft_machine.specs.declared.stepped.Pause.TheVariants as pause
 use Rattle.ft_machine.specs.declared.stepped.Stepped.TheVariants.{Quiet, Commit, Done, Detected}
 
--- the output of a step that answers so
+-- the output of a step with this result
 abbrev pub output_told : Stepped → Option Output
 output_told Quiet = None
 output_told (Commit output) = Some output
 output_told Done = None
 output_told Detected = None
 
--- how a machine stands after a step that answers so
+-- the machine's status after a step with this result
 abbrev pub status_told : Stepped → Status
 status_told Quiet = status.Running
 status_told (Commit output) = status.Running
@@ -35,12 +35,13 @@ IsEnough (Commit output) taken most = (0 < taken) × (taken ≤ most)
 IsEnough Done taken most = (0 < taken) × (taken ≤ most)
 IsEnough Detected taken most = (0 < taken) × (taken ≤ most)
 
--- the machine runs on, and nothing was committed so far
+-- the machine is still running, and nothing was committed so far
 pub record IsQuiet (r : Ran) : Type 0 where
   pub running : r.state.status ≡ status.Running
   pub nothing : r.outputs ≡ []
 
--- so many of at most so many steps were taken from a state on: those before the last one were quiet, and this is what the last one did
+-- `taken` of at most `most` steps were taken from a state: those before the last one were quiet, and this is what the
+-- last one did
 pub record Advances (o : Object) (s : State) (w : List Wild) (s' : State) (w' : List Wild) (most taken : ℕ) (last : Stepped) : Type 0 where
   pub enough : IsEnough last taken most
   pub state_is : s' ≡ (span o taken s w).state
@@ -49,12 +50,12 @@ pub record Advances (o : Object) (s : State) (w : List Wild) (s' : State) (w' : 
   pub status_is : (span o taken s w).state.status ≡ status_told last
   pub before : (j : ℕ) → j < taken → IsQuiet (span o j s w)
 
--- one output was kept, or none was there yet: private to the crate
+-- what is kept is unchanged, as no output came; or the one output is kept: private to the crate
 abbrev pub IsFirst : Option Output → List Output → Bool → Option Output → Type 0
 IsFirst old outputs true new = (outputs ≡ []) × (new ≡ old)
 IsFirst old outputs false new = option_to_list new ≡ outputs
 
--- what the last step did where steps ended so, with this output: private to the crate
+-- what the last step did, from how the steps ended and this output: private to the crate
 abbrev pub last_of : Pause → Option Output → Stepped
 last_of pause.Running output = Quiet
 last_of pause.Done output = Done

@@ -1,4 +1,4 @@
--- What the machine's calls answer.
+-- What the machine's calls return.
 use Rattle.std.specs.Prelude.{◌≡◌, List, [], ◌∷◌, Option, Some, None}
 use Rattle.ft_isa.specs.declared.output.Output.{Output}
 use Rattle.ft_isa.specs.declared.plan.Wild.{Wild}
@@ -15,27 +15,27 @@ abbrev pub next_answer : List Wild → Wild
 next_answer [] = Stop
 next_answer (answer ∷ rest) = answer
 
--- the answer of a step without an output, by the status after it
+-- the result of a step without an output, by the status after it
 abbrev pub told_status : Status → Stepped
 told_status status.Running = Quiet
 told_status status.Done = Done
 told_status status.Detected = Detected
 
--- the answer of a step by its output and the status after it
+-- the result of a step by its output and the status after it
 abbrev pub told_output : Option Output → Status → Stepped
 told_output (Some output) s = Commit output
 told_output None s = told_status s
 
--- what a step answers: its output where it has one, and else how the machine stands after it
+-- the result of a step: its output if it has one, else the machine's status after it
 abbrev pub told : Stepping → Stepped
 told t = told_output t.output t.state.status
 
--- a call took this step: the state after it, the answers left and the call's answer are the step's
+-- a call took this step: the state after it, the answers left and the call's result are the step's
 pub record Takes (t : Stepping) (state : State) (wild : List Wild) (answer : Stepped) : Type 0 where
   pub state_is : state ≡ t.state
   pub wild_is : wild ≡ t.wild
   pub answer_is : answer ≡ told t
 
--- a call took this step, which leaves the answers to wild loads, whatever they are
+-- a call took this step, which uses no answer to wild loads, whatever they are
 pub record TakesQuietly (t : List Wild → Stepping) (state : State) (answer : Stepped) : Type 0 where
   pub takes : (wild : List Wild) → Takes (t wild) state wild answer

@@ -1,4 +1,4 @@
--- What driving a machine answers and puts.
+-- What driving a machine returns and writes.
 use Rattle.std.specs.Prelude.{◌≡◌, ℕ, ◌+◌, ◌≤◌, ◌<◌, Bool, true, false, List, [], length, map, Option}
 use Rattle.ft_edge.specs.Told.{append_told}
 use Rattle.ft_edge.specs.Lines.{PutEnd, AllPut, PutFailed, Puts}
@@ -20,7 +20,7 @@ use Rattle.ft_machine.specs.declared.run.RunEnd.TheVariants.{Done, Detected, Out
 use Rattle.ft_machine.specs.declared.stepped.Pause.{Pause}
 use Rattle.ft_machine.specs.declared.stepped.Pause.TheVariants as pause
 
--- a run that ended so has this status
+-- a run with this end has this status
 abbrev pub EndsAs : RunEnd → Status → Type 0
 EndsAs Done s = s ≡ status.Done
 EndsAs Detected s = s ≡ status.Detected
@@ -31,7 +31,7 @@ EndsAs WriteFault s = Unit {0}
 abbrev pub output_lines : Object → List Output → List (List ℕ)
 output_lines o outputs = map (line_at o) outputs
 
--- how the puts of a run ended that ended so
+-- how the puts of a run with this end ended
 abbrev pub put_end : RunEnd → PutEnd
 put_end Done = AllPut
 put_end Detected = AllPut
@@ -50,7 +50,7 @@ Stops Detected At outputs n = At n
 Stops OutOfSteps At outputs n = At n
 Stops WriteFault At outputs n = (k : ℕ) × ((k ≤ n) × (At k × GivesLast outputs k))
 
--- the end of a drive whose steps ended so
+-- the result of a drive, from how its steps ended
 abbrev pub run_end : Pause → RunEnd
 run_end pause.Running = OutOfSteps
 run_end pause.Done = Done
@@ -61,12 +61,12 @@ run_end pause.Refused = WriteFault
 abbrev pub IsOfCell : Object → Output → Type 0
 IsOfCell o output = (1048576 ≤ output.addr) × (output.addr < 1048576 + length o.cells)
 
--- how the puts ended of what goes on, or does not since a put failed
+-- how the puts ended, by whether the run goes on; if not, a put failed
 abbrev pub end_of_going : Bool → PutEnd
 end_of_going true = AllPut
 end_of_going false = PutFailed
 
--- the lines of outputs were put, each as one piece; where a put failed, it was that of the last one
+-- the lines of outputs were put, each as one piece; if a put failed, it was that of the last one
 pub record PutsOutputs (o : Object) (outputs : List Output) (goes : Bool) (old new : SinkLog) : Type 0 where
   pub lines : Puts (end_of_going goes) (output_lines o outputs) old new
   pub pieces : new.pieces ≡ append_told old.pieces (output_lines o outputs)

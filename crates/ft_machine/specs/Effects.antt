@@ -1,4 +1,4 @@
--- What an instruction does to a bank, and what is left of its step: the counters, what is fetched, and the status.
+-- What an instruction does to a bank, and the rest of its step: the counters, what is fetched, and the status.
 use Rattle.std.specs.Prelude.{◌≡◌, ℕ, Bool, true, false, List, Option, Some, None}
 use Rattle.ft_isa.specs.declared.output.Output.{Output}
 use Rattle.ft_isa.specs.declared.instr.Instr.{Instr}
@@ -17,7 +17,7 @@ abbrev pub went : Bool → Effect
 went true = On
 went false = Detected
 
--- the running state with this bank, these counters and this fetched
+-- the running state with this bank, these counters and this fetched instruction
 abbrev pub doing : Bank → ℕ → ℕ → Option Instr → State
 doing b green blue f = record {
   registers = b.registers;
@@ -46,7 +46,7 @@ put_out (Commit output) = Some output
 put_out Done = None
 put_out Detected = None
 
--- what a step with this effect answers
+-- the result of a step with this effect
 abbrev pub told_effect : Effect → Stepped
 told_effect On = stepped.Quiet
 told_effect (To target) = stepped.Quiet
@@ -54,11 +54,11 @@ told_effect (Commit output) = stepped.Commit output
 told_effect Done = stepped.Done
 told_effect Detected = stepped.Detected
 
--- the step is this change of the bank with this effect, wherever the machine stands
+-- the step is this change of the bank with this effect, wherever the counters are
 pub record Does (t : State → List Wild → Stepping) (old new : Bank) (effect : Effect) (wild left : List Wild) : Type 0 where
   pub does : (green blue : ℕ) (f : Option Instr) → t (doing old green blue f) wild ≡ record { state = followed effect new green blue f; wild = left; output = put_out effect }
 
--- and it leaves the answers to wild loads, whatever they are
+-- and it uses no answer to wild loads, whatever they are
 pub record DoesQuietly (t : State → List Wild → Stepping) (old new : Bank) (effect : Effect) : Type 0 where
   pub does : (green blue : ℕ) (f : Option Instr) (wild : List Wild) → t (doing old green blue f) wild ≡ record { state = followed effect new green blue f; wild = wild; output = put_out effect }
 

@@ -1,4 +1,4 @@
--- Runs from a state on, with no strike.
+-- Runs from a state, with no strike.
 use Rattle.std.specs.Prelude.{◌≡◌, ℕ, zero, suc, ◌+◌, List, [], Option}
 use Rattle.std.proofs.Common.{refl, add-one}
 use Rattle.ft_isa.specs.declared.plan.Wild.{Wild}
@@ -9,7 +9,7 @@ use Rattle.ft_semantics.specs.Strike.{struck_before}
 use Rattle.ft_isa.specs.declared.plan.Strike.{Strike}
 use Rattle.ft_semantics.specs.Run.{Ran, extended}
 
--- the run of n steps from a state on
+-- the run of n steps from a state
 unfoldable pub span : Object → ℕ → State → List Wild → Ran
 span o zero s w = record { state = s; wild = w; outputs = [] }
 span o (suc n) s w = extended (span o n s w).outputs (step o (span o n s w).state (span o n s w).wild)

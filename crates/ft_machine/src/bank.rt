@@ -39,7 +39,7 @@ pub struct Bank {
 }
 
 impl Bank {
-    /// Does an instruction.
+    /// Executes an instruction.
     #[inline(always)]
     pub fn execute(&mut self, instr: Instr, wild: &mut WildLeft) -> Effect
         requires { HasNoEmptyRun instr }
@@ -106,7 +106,7 @@ impl Bank {
         Effect::On
     }
 
-    /// Writes what an operation gives, in the colour of its first source.
+    /// Writes the result of an operation, in the colour of its first source.
     #[inline(always)]
     fn operate(&mut self, op: Op, rd: Reg, rs: Reg, other: u64) -> Effect
         ensures { DoesQuietly (writes rd (held self.old.registers rs.number).colour (apply op (held self.old.registers rs.number).word other))
@@ -117,7 +117,7 @@ impl Bank {
         self.write(rd, Coloured { colour, word })
     }
 
-    /// Writes the address of the cell of a run that a register names, in the colour of that register.
+    /// Writes the address of the cell of a run that a register selects, in the colour of that register.
     #[inline(always)]
     fn index(&mut self, rd: Reg, rs: Reg, first: u32, length: u32) -> Effect
         requires { 0 < length }
@@ -140,8 +140,8 @@ impl Bank {
         }
     }
 
-    /// Loads, and tells whether the machine goes on. It is done apart: the search of the pending stores and the answers to
-    /// wild loads need registers that the loop over instructions keeps for itself.
+    /// Loads, and returns whether the machine goes on. It is a function of its own: the search of the pending stores
+    /// and the answers to wild loads need registers that the loop over instructions keeps for itself.
     #[inline(never)]
     fn loads(&mut self, colour: Colour, rd: Reg, rs: Reg, wild: &mut WildLeft) -> bool
         ensures { Does (λ s w. load colour rd (found colour s (held s.registers rs.number).word) s w) self.old self.new (went result) wild.old wild.new }
@@ -282,8 +282,8 @@ impl Bank {
     }
 }
 
-/// What an operation gives of two words. A shift is done apart: its machine code needs a register that the loop over
-/// instructions keeps for itself. Each operation is named, so that its code makes one choice.
+/// The result of an operation on two words. A shift is a function of its own: its machine code needs a register that
+/// the loop over instructions keeps for itself. Each operation is named, so that its code makes one choice.
 #[inline(always)]
 fn applied(op: Op, a: u64, b: u64) -> u64
     ensures { result ≡ apply op a b }
@@ -318,7 +318,8 @@ fn shifted_right(a: u64, b: u64) -> u64
     apply(Op::Shr, a, b)
 }
 
-/// The address of the cell of a run that a word names. It is done apart, as a shift is: a division needs two registers.
+/// The address of the cell of a run that a word selects. It is a function of its own, as a shift is: a division needs
+/// two registers.
 #[inline(never)]
 fn cell_in_run(first: u32, length: u32, word: u64) -> u64
     requires { 0 < length }

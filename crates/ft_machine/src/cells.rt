@@ -6,7 +6,7 @@ ghost use Rattle.ft_machine.specs.Arrays.{cells_of};
 use ft_isa::FIRST_CELL;
 use std::marker::Model;
 
-/// The words of the cells, from the first cell's address on.
+/// The words of the cells, from the first cell's address.
 #[derive(Drop)]
 pub struct Cells {
     words: Vec<u64>,
@@ -63,13 +63,13 @@ impl Cells {
         self.get(addr).is_some()
     }
 
-    /// Puts a word into the cell at an address that is there.
+    /// Puts a word into the cell at an existing address.
     #[inline(always)]
     pub fn replace(&mut self, addr: u64, word: u64)
         requires { IsTrue (is_cell self.old addr) }
         ensures { self.new ≡ with_cell self.old addr word }
     {
-        // The length of a vector has a bound, by which the address of each cell fits.
+        // The length of a vector is bounded, so the address of each cell fits.
         let _count = self.words.len();
         let k = (addr - FIRST_CELL) as usize;
         self.words[k] = word;
@@ -82,7 +82,7 @@ impl Cells {
         self.words.as_slice() == other.words.as_slice()
     }
 
-    /// Takes over the words of other cells at the same addresses.
+    /// Copies the words of other cells at the same addresses.
     pub fn copy_from(&mut self, other: &Cells)
         requires { (a : ℕ) → is_cell self.old a ≡ is_cell other.now a }
         ensures { self.new ≡ other.now }

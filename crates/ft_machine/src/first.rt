@@ -18,7 +18,7 @@ pub fn entry_address<P: Program>(program: &P) -> u64
     1 + program.block(program.entry()).start as u64
 }
 
-/// The cells before the first step: the initial words, from the first cell's address on.
+/// The cells before the first step: the initial words, from the first cell's address.
 #[tactic(auto, using(ft_types::proofs::Counted::spellable_counted))]
 pub fn first_cells<P: Program>(alloc: Global, program: &P) -> Result<Cells, NoMemory>
     requires { IsSpellable (P.object program.now) }

@@ -1,9 +1,10 @@
 //! The machine, step by step and over whole runs.
 //!
 //! The crate promises that a `Machine` is a state of the machine's definition. `new` is the start, `step`
-//! one step, and `strike` one strike. `go` takes steps and gives each output to an `Outlet`; `run_under` is
-//! a run under a plan, and `drive` such a run with a line for each output. The definitions are those of
-//! `ft_semantics`. What the calls answer is in `specs/Answers.antt`, `specs/Goes.antt` and `specs/Drives.antt`.
+//! one step, and `strike` one strike. `go` takes steps and passes each output to an `Outlet`; `run_under`
+//! is a run under a plan, and `drive` such a run with a line for each output. The definitions are those of
+//! `ft_semantics`; `specs/Answers.antt`, `specs/Goes.antt` and `specs/Drives.antt` relate the calls'
+//! results to them.
 #![tactic(auto)]
 
 mod bank;
@@ -24,6 +25,6 @@ pub use ft_semantics::Status;
 pub use lines::{Lines, put_output};
 pub use machine::Machine;
 pub use outlet::Outlet;
-pub use run::{RunEnd, drive, run_under};
+pub use run::{RunEnd, drive, run_under, steps_before, strike_before};
 pub use stepped::{Advance, Gone, Pause, Stepped};
 pub use wild::WildLeft;

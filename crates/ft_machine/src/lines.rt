@@ -28,7 +28,7 @@ pub fn put_output<P: Program, K: Sink>(
     put_line(&line[start..], out)
 }
 
-/// Puts a line for each output of a program, each in one put, and does not go on after a put that failed.
+/// Writes a line for each output of a program, each with one put, and does not go on after a put that failed.
 #[derive(Drop)]
 pub struct Lines<'a, P, K> {
     /// The program.

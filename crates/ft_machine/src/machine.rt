@@ -1,4 +1,4 @@
-//! The machine: its state, and what can be asked of it.
+//! The machine: its state, and queries on it.
 ghost use Rattle.std.specs.Prelude.{◌≡◌, ℕ, IfOk, IsTrue, Decides, Some, length};
 ghost use Rattle.ft_isa.specs.Words.{cell_address};
 ghost use Rattle.ft_types.specs.Spellable.{IsSpellable};
@@ -72,7 +72,7 @@ impl Machine {
         })
     }
 
-    /// Takes over another machine's state, which takes no memory. Both have the same cells.
+    /// Copies another machine's state, without allocating. Both have the same cells.
     pub fn copy_from(&mut self, other: &Machine)
         requires { (a : ℕ) → is_cell self.old.cells a ≡ is_cell other.now.cells a }
         ensures { self.new ≡ other.now }
@@ -87,7 +87,7 @@ impl Machine {
         self.status = other.status;
     }
 
-    /// Whether another machine is in the same state. It takes no memory.
+    /// Whether another machine is in the same state. It does not allocate.
     pub fn same_as(&self, other: &Machine) -> bool
         ensures { Decides result (self.now ≡ other.now) }
     {
@@ -173,7 +173,7 @@ impl Machine {
         self.fetched
     }
 
-    /// How the machine stands.
+    /// The machine's status.
     pub fn status(&self) -> Status
         ensures { result ≡ self.now.status }
     {
@@ -181,7 +181,7 @@ impl Machine {
     }
 }
 
-/// Whether the same is fetched.
+/// Whether both have fetched the same.
 fn same_fetched(a: Option<Instr>, b: Option<Instr>) -> bool
     ensures { Decides result (a ≡ b) }
 {

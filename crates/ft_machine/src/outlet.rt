@@ -7,14 +7,14 @@ use ft_isa::Output;
 
 /// What is done at each output of a run. The loop over the machine asks it whether the run goes on.
 pub trait Outlet {
-    // From the first state on the outlet took these outputs one by one, went on after each but the last, and after the
+    // From the first state the outlet took these outputs one by one, went on after each but the last, and after the
     // last it went on or did not.
     ghost heard: { Self → List Committed → Bool → Self → Type 0 };
 
     // Whether an output may be taken.
     ghost may: { Self → Committed → Type 0 };
 
-    /// Takes an output, and answers whether the run goes on.
+    /// Takes an output, and returns whether the run goes on.
     fn take(&mut self, output: Output) -> bool
         requires { may self.old output }
         ensures heard { Hears heard self.old (output ∷ []) result self.new }

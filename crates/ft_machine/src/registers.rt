@@ -74,7 +74,7 @@ impl Registers {
         self.colours.as_slice() == other.colours.as_slice()
     }
 
-    /// Takes over what other registers hold.
+    /// Copies what other registers hold.
     pub fn copy_from(&mut self, other: &Registers)
         ensures { self.new ≡ other.now }
     {

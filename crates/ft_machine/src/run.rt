@@ -26,14 +26,14 @@ pub enum RunEnd {
     Done,
     /// The machine noticed a fault.
     Detected,
-    /// The machine still runs after the last step.
+    /// The machine is still running after the last step.
     OutOfSteps,
     /// A line could not be written.
     WriteFault,
 }
 
-/// Strikes before step `k`, where the plan strikes there.
-fn strike_before(machine: &mut Machine, strike: Option<Strike>, k: u64)
+/// Strikes before step `k`, if the plan strikes there.
+pub fn strike_before(machine: &mut Machine, strike: Option<Strike>, k: u64)
     ensures { machine.new ≡ struck_before strike k machine.old }
 {
     if let Some(strike) = strike {
@@ -44,7 +44,7 @@ fn strike_before(machine: &mut Machine, strike: Option<Strike>, k: u64)
 }
 
 /// How many steps of a run come before its strike.
-fn steps_before(strike: Option<Strike>, steps: u64) -> u64
+pub fn steps_before(strike: Option<Strike>, steps: u64) -> u64
     ensures within { result ≤ steps }
     ensures before { (j : ℕ) → j < result → Spares strike j }
     ensures after { (j : ℕ) → result < steps → result < j → Spares strike j }
@@ -58,8 +58,8 @@ fn steps_before(strike: Option<Strike>, steps: u64) -> u64
     steps
 }
 
-/// Runs a machine from its start under a plan, for at most `steps` steps, and gives each output to an outlet. Ends early
-/// where the machine stops or the outlet does not go on.
+/// Runs a machine from its start under a plan, for at most `steps` steps, and passes each output to an outlet. Ends
+/// early if the machine stops or the outlet does not go on.
 pub fn run_under<P: Program, T: Outlet>(
     machine: &mut Machine,
     program: &P,
@@ -90,7 +90,7 @@ pub fn run_under<P: Program, T: Outlet>(
     }
 }
 
-/// How a drive ended whose steps ended so.
+/// The result of a drive, from how its steps ended.
 fn run_end(pause: Pause) -> RunEnd
     ensures { result ≡ run_end pause }
 {
@@ -102,8 +102,8 @@ fn run_end(pause: Pause) -> RunEnd
     }
 }
 
-/// Runs a machine from its start under a plan, for at most `steps` steps, and puts a line for each
-/// output, each in one put. `WriteFault` comes only where a put failed, and nothing is put after it.
+/// Runs a machine from its start under a plan, for at most `steps` steps, and writes a line for each output, each with
+/// one put. `WriteFault` comes only if a put failed, and nothing is put after it.
 pub fn drive<P: Program, K: Sink>(
     machine: &mut Machine,
     program: &P,

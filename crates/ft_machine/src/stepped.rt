@@ -6,7 +6,7 @@ use ft_isa::Output;
 /// What a step did.
 #[derive(Clone, Copy, Debug, PartialEq, Eq)]
 pub enum Stepped {
-    /// The machine runs on, and nothing was committed.
+    /// The machine is still running, and nothing was committed.
     Quiet,
     /// A blue store committed this pair.
     Commit(Output),
@@ -22,14 +22,14 @@ pub enum Stepped {
 pub struct Advance {
     /// The number of steps.
     pub taken: u64,
-    /// What the last step did; `Quiet` where no step was to be taken.
+    /// What the last step did; `Quiet` if no step was to be taken.
     pub last: Stepped,
 }
 
-/// How steps ended whose outputs an outlet took.
+/// How steps whose outputs an outlet took ended.
 #[derive(Clone, Copy, Debug, PartialEq, Eq)]
 pub enum Pause {
-    /// The machine runs on.
+    /// The machine is still running.
     Running,
     /// The machine is at its end.
     Done,

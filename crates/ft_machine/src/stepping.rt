@@ -25,8 +25,8 @@ use ft_semantics::Status;
 use ft_types::Program;
 
 impl Machine {
-    /// Strikes a site: the word there becomes `value`, and its colour stays. `false` exactly when the
-    /// machine has stopped or the site is not there, and then nothing changes.
+    /// Strikes a site: the word there becomes `value`, and its colour stays. `false` exactly if the machine has stopped
+    /// or the site does not exist, and then nothing changes.
     pub fn strike(&mut self, site: Site, value: u64) -> bool
         ensures there { result ≡ is_there self.old site }
         ensures struck { self.new ≡ struck_state self.old site value }
@@ -39,7 +39,7 @@ impl Machine {
         }
     }
 
-    /// Puts a word at a site of a running machine, where it is there.
+    /// Puts a word at a site of a running machine, if the site exists.
     fn put_word(&mut self, site: Site, value: u64) -> bool
         requires { self.old.status ≡ Status.Running }
         ensures there { result ≡ is_there self.old site }
@@ -74,7 +74,7 @@ impl Machine {
         }
     }
 
-    /// Takes one step. A machine that has stopped stays as it is, and answers the same again.
+    /// Takes one step. A stopped machine does not change, and returns the same result again.
     pub fn step<P: Program>(&mut self, program: &P, wild: &mut WildLeft) -> Stepped
         requires { IsSpellable (P.object program.now) }
         ensures takes { Takes (step (P.object program.now) self.old wild.old) self.new wild.new result }
@@ -90,7 +90,7 @@ impl Machine {
         }
     }
 
-    /// Fetches an instruction, or does the one that is fetched.
+    /// Fetches an instruction, or executes the one that is fetched.
     #[inline(never)]
     fn fetch_or_execute<P: Program>(&mut self, program: &P, wild: &mut WildLeft) -> Stepped
         requires spellable { IsSpellable (P.object program.now) }
@@ -123,7 +123,7 @@ impl Machine {
         }
     }
 
-    /// Takes over what an instruction did.
+    /// Applies what an instruction did.
     #[inline(always)]
     fn follow(&mut self, effect: Effect) -> Stepped
         requires running { self.old.status ≡ Status.Running }
@@ -173,7 +173,7 @@ impl Machine {
         self.fetched = None;
     }
 
-    /// Takes at most `most` steps of a running machine, gives each output to an outlet, and ends early where the machine
+    /// Takes at most `most` steps of a running machine, passes each output to an outlet, and ends early if the machine
     /// stops or the outlet does not go on.
     #[inline(always)]
     pub fn go<P: Program, T: Outlet>(
@@ -210,7 +210,7 @@ impl Machine {
         }
     }
 
-    /// Takes some steps: whole instructions where the machine is ready for them, and else one step.
+    /// Takes some steps: whole instructions if the machine is ready for them, else one step.
     #[inline(always)]
     fn go_some<P: Program, T: Outlet>(
         &mut self,
@@ -304,7 +304,7 @@ impl Machine {
     }
 }
 
-/// Gives an outlet the output of a step, where it has one.
+/// Passes the output of a step to an outlet, if it has one.
 #[inline(always)]
 fn pass_on<T: Outlet>(stepped: Stepped, outlet: &mut T) -> Pause
     requires { (output : outputs.Output) → stepped ≡ Stepped.Commit output → T.may outlet.old output }

@@ -13,7 +13,7 @@ use crate::stepped::Pause;
 use crate::wild::WildLeft;
 use ft_types::{INSTR_BYTES, Program};
 
-/// Steps of whole instructions: how many, where both counters stand after them, and how they ended.
+/// Steps of whole instructions: how many, where both counters are after them, and how they ended.
 #[derive(Clone, Copy)]
 pub(crate) struct Stretch {
     pub taken: u64,
@@ -21,10 +21,10 @@ pub(crate) struct Stretch {
     pub pause: Pause,
 }
 
-/// The most instructions that a stretch does, so that no place overflows.
+/// The maximum number of instructions of a stretch, so that no place overflows.
 const MOST: u64 = 0xffff_ffff;
 
-/// How many instructions a stretch does that may take so many steps.
+/// How many instructions a stretch of at most `steps` steps executes.
 #[inline(always)]
 fn instructions_in(steps: u64) -> u64
     ensures few { 2 * result ≤ steps }
@@ -49,7 +49,7 @@ fn index_at<P: Program>(program: &P, count: usize, pc: u64) -> Option<usize>
     Some(i as usize)
 }
 
-/// Where an instruction stands, in bytes after the first one.
+/// The place of an instruction, in bytes after the first one.
 #[inline(always)]
 fn place_of(i: usize) -> usize
     requires { i < 2 ^ 32 }
@@ -58,7 +58,7 @@ fn place_of(i: usize) -> usize
     INSTR_BYTES * i
 }
 
-/// The number of the instruction that stands at a place.
+/// The number of the instruction at a place.
 #[inline(always)]
 fn number_at(at: usize) -> u64
     ensures { result ≡ at / 16 }
@@ -76,7 +76,7 @@ fn stretch_end(limit: usize, end: usize) -> usize
     if limit < end { limit } else { end }
 }
 
-/// The steps of all instructions but those that so many bytes hold.
+/// The steps of all instructions but those that `rest` bytes hold.
 #[inline(always)]
 fn steps_but(all: u64, rest: usize) -> u64
     requires few { rest / 16 ≤ all }
@@ -86,8 +86,8 @@ fn steps_but(all: u64, rest: usize) -> u64
     2 * (all - number_at(rest))
 }
 
-/// Fetches and does whole instructions in at most `most` steps, as long as the machine runs and the outlet goes on.
-/// Where an instruction leads elsewhere, it goes on there.
+/// Fetches and executes whole instructions in at most `most` steps, as long as the machine runs and the outlet goes on.
+/// If an instruction leads elsewhere, it goes on there.
 #[inline(never)]
 pub(crate) fn do_instructions<P: Program, T: Outlet>(
     bank: &mut Bank,

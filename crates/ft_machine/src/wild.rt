@@ -28,7 +28,7 @@ impl<'w> WildLeft<'w> {
         WildLeft { rest: all }
     }
 
-    /// Leaves the same answers as another.
+    /// Copies another's remaining answers.
     pub fn copy_from(&mut self, other: &WildLeft<'w>)
         ensures { self.new ≡ other.now }
     {
@@ -42,7 +42,7 @@ impl<'w> WildLeft<'w> {
         self.rest == other.rest
     }
 
-    /// Takes the next answer; `Stop` where none is left.
+    /// Takes the next answer; `Stop` if none is left.
     pub fn next(&mut self) -> Wild
         ensures answer { result ≡ next_answer self.old }
         ensures taken { self.new ≡ drop 1 self.old }

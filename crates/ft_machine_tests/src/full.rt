@@ -1,6 +1,6 @@
 //! An object whose static queue is full in the middle of its block.
 
-/// Seven green stores, a blue one, two green ones, a blue one, a green one and eight blue ones. Of version 2.
+/// Seven green stores, a blue one, two green ones, a blue one, a green one and eight blue ones, in version 2.
 pub const FULL: &[u8] = b"TALFT\0\0\x02\
       \0\0\0\x01\0\0\0\x01\0\0\0\x01\0\0\0\0\0\0\0\0\0\0\0\x01\0\0\0\x19\0\0\0\0\0\0\0\x03\0\0\0\0\
       \0\0\0\x03\0\0\0\0\0\0\0\0\0\0\0\0\

@@ -1,12 +1,11 @@
-//! What is gathered over a writer that is interrupted, takes little and fails.
+//! A buffering sink over a writer that is interrupted, accepts little and fails.
 use ft_edge::{GatheringSink, Sink};
 use std::alloc::Global;
 use std::io;
 use std::io::{Error, ErrorKind, Write};
 use std::test::Fail;
 
-/// A writer that a signal interrupts before each write. It takes a byte at a time, and fails where it
-/// is full.
+/// A writer that a signal interrupts before each write. It takes a byte at a time, and fails when it is full.
 #[derive(Drop)]
 struct HaltingWriter {
     taken: Vec<u8>,
@@ -15,7 +14,7 @@ struct HaltingWriter {
 }
 
 impl HaltingWriter {
-    /// A writer with room for so many bytes.
+    /// A writer with room for this many bytes.
     fn new(alloc: Global, room: usize) -> HaltingWriter {
         HaltingWriter {
             taken: Vec::new(alloc),
@@ -46,7 +45,7 @@ impl Write for HaltingWriter {
     }
 }
 
-/// Whether a piece that is put and finished over a writer with so much room is written whole.
+/// Whether a piece that is put and finished over a writer with this much room is written whole.
 fn is_written(alloc: Global, room: usize, piece: &[u8]) -> Result<bool, Fail> {
     let mut sink = GatheringSink::new(alloc, HaltingWriter::new(alloc, room))?;
     sink.put(piece)?;

@@ -1,4 +1,4 @@
-//! The machine over an object that names a cell of a run by a register.
+//! The machine over an object that selects a cell of a run by a register.
 ghost use Rattle.ft_types.specs.Spellable.{IsSpellable};
 
 use ft_isa::{NoMemory, Output, Reg, Site};
@@ -12,11 +12,11 @@ use std::test::Fail;
 /// The address of the second cell, `a[1]`.
 const SECOND: u64 = 1_048_577;
 
-/// How many steps the run takes at the most.
+/// The maximum steps of the run.
 const STEPS: u64 = 100;
 
-/// The run of an object where register `r` is struck before step 2: the step that stopped it, what was
-/// committed, and how it stands.
+/// The run of an object if register `r` is struck before step 2: the step that stopped it, what was committed, and its
+/// status.
 fn run_struck(
     alloc: Global,
     object: &Object,

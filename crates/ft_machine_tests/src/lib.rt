@@ -1,8 +1,9 @@
 //! Tests of the outside, the machine, struck runs, the debugger and the scheduler.
 //!
-//! The crate holds tests alone, since a crate with tests is proved twice. The values come from the
-//! definitions, not from this implementation's output. Worked objects were made by another implementation of the
-//! format, and orders by another program, which makes permitted exchanges at random until none is left.
+//! The crate has only tests, since a crate with tests is proved twice. The values come from the
+//! definitions, not from this implementation's output. Worked objects were made by another implementation
+//! of the format; expected schedules come from a program that makes random permitted exchanges until none
+//! is left.
 #![tactic(auto)]
 
 #[cfg(test)]

@@ -14,7 +14,7 @@ use std::test::Fail;
 /// The address of the one cell, `out`.
 const OUT: u64 = 1_048_576;
 
-/// Takes three steps, and tells what the last one did.
+/// Takes three steps, and returns what the last one did.
 fn step_thrice(machine: &mut Machine, object: &Object, wild: &mut WildLeft) -> Stepped
     requires { IsSpellable object.now }
     ensures { (n : ℕ) → HasCells n machine.old → HasCells n machine.new }

@@ -1,7 +1,5 @@
-//! A sink, a shelf and a source that tell all they were asked, and end the process where there is no
-//! memory for it.
-//!
-//! They show that what the traits say of pieces, loads and takes is met by code that runs.
+//! A sink, a shelf and a source that record every call, and end the process if there is no memory for it.
+//! They show that code can satisfy what the traits say about pieces, loads and takes.
 ghost use Rattle.std.specs.Prelude.{Some, map};
 
 use ft_edge::{Failed, Load, LoadFault, MemShelf, MemSink, MemSource, Shelf, Sink, Source};
@@ -9,7 +7,7 @@ use std::alloc::Global;
 use std::process::Abort;
 use std::test::Fail;
 
-/// A sink that hands each piece on, and keeps it.
+/// A sink that passes each piece on, and keeps it.
 #[derive(Drop)]
 struct KeepingSink<R: Abort + Drop, K: Sink + Drop> {
     rt: R,
@@ -37,7 +35,7 @@ struct Asked {
     limit: usize,
 }
 
-/// A shelf that hands each load on, and keeps its name and its limit.
+/// A shelf that passes each load on, and keeps its name and its limit.
 #[derive(Drop)]
 struct KeepingShelf<R: Abort + Drop, F: Shelf + Drop> {
     rt: R,
@@ -61,7 +59,7 @@ impl<R: Abort + Drop, F: Shelf + Drop> Shelf for KeepingShelf<R, F> {
     }
 }
 
-/// A source that hands each take on, and keeps how many bytes it gave.
+/// A source that passes each take on, and keeps how many bytes it returned.
 #[derive(Drop)]
 struct KeepingSource<R: Abort + Drop, I: Source + Drop> {
     rt: R,

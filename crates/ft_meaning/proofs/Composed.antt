@@ -85,7 +85,7 @@ ready_kept names r q k h = record {
   room = subst (λ n. HasRoom names (n - 22)) (sym k.line) h.room;
 }
 
--- what an answer says of a meaning
+-- what a result says about a meaning
 pub record Meant (e : MeanEnd) (names : List (List ℕ)) (m : Outcome) (old new : SinkLog) : Type 0 where
   pub ends : EndsAs e m
   pub lines : Puts (put_end e) (output_lines names (outputs m)) old new
@@ -119,7 +119,7 @@ meant prog t r q names bs old new res e f a b c h =
     (subst (λ m. Meant (end_of_run res) names m old new) start
     (meant_from (run (plain_list same_slot bs)) names r q old new res h))
 
--- as many names as declared ones, of which there are as many as places
+-- as many names as declared ones and as places
 joined_length : (ts : List (List ℕ)) (ps : List (Option ℕ)) → length ts ≡ length ps → length (joined_names ts ps)
     ≡ length ts
 joined_length [] ps h = refl

@@ -12,8 +12,8 @@ use Rattle.ft_meaning.specs.Meaning.{evaluated_both, assigned, with_left, then_d
 use Rattle.ft_meaning.specs.Meaning.{start, meaning}
 use Rattle.ft_meaning.specs.Begins.{Begins}
 
--- an ended run is the same but for the turns that are left over, and what a cut one put out begins what the other puts
--- out
+-- an ended run is the same but for the turns that are left over, and the outputs of a cut one are a prefix of the
+-- other's
 abbrev pub Longer : ℕ → Outcome → Outcome → Type 0
 Longer d (Ended s) r = r ≡ Ended (with_left (s.left + d) s)
 Longer d (Cut s) r = Begins s.out (state_of r).out

@@ -1,4 +1,4 @@
--- What a sink has after one more line, and where a put fails.
+-- What a sink has after one more line, and if a put fails.
 use Rattle.std.proofs.Common.{◌≡◌, ℕ, zero, suc, ◌+◌, ◌-◌, ◌<◌, ◌≤◌, max, take, add-one, List, [], ◌∷◌, ◌++◌, length}
 use Rattle.std.proofs.Common.{map, get_or, Vec, Global, refl, sym, ap, ◌∙◌, subst, arith}
 use Rattle.std.proofs.lemmas.List.{map-append}
@@ -56,7 +56,7 @@ line_is names k v name h =
     let e : cell_address k - cell_address 0 ≡ k = omega arith in
     ap (λ m. line (name_of names m) v) e ∙ ap (λ n. line n v) h
 
--- where there is room, there is more room
+-- if there is room, there is more room
 pub more_room : (names : List (List ℕ)) (a b : ℕ) → a ≤ b → HasRoom names a → HasRoom names b
 more_room [] a b le h = tt
 more_room (n ∷ names) a b le h = (omega (arith, h.0), more_room names a b le h.1)

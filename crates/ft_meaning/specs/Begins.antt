@@ -1,7 +1,7 @@
--- One list of outputs begins another.
+-- One list of outputs is a prefix of another.
 use Rattle.std.specs.Prelude.{◌≡◌, List, ◌++◌}
 use Rattle.ft_isa.specs.declared.output.Output.{Output}
 
--- the one begins the other
+-- one is a prefix of the other
 abbrev pub Begins : List Output → List Output → Type 0
 Begins a b = (rest : List Output) × (a ++ rest ≡ b)

@@ -1,10 +1,10 @@
--- What is answered of a meaning, and what is put of it.
+-- What is returned about a meaning, and what is written of it.
 use Rattle.ft_edge.specs.Lines.{PutEnd, AllPut, PutFailed, NothingPut}
 use Rattle.ft_meaning.specs.declared.mean_end.MeanEnd.{MeanEnd}
 use Rattle.ft_meaning.specs.declared.mean_end.MeanEnd.TheVariants as ends
 use Rattle.ft_meaning.specs.Meaning.{Outcome, Ended, Cut}
 
--- a meaning ended or was cut, as the answer says
+-- a meaning ended or was cut, as the result says
 abbrev pub EndsAs : MeanEnd → Outcome → Type 0
 EndsAs ends.Ended (Ended s) = Unit {0}
 EndsAs ends.Ended (Cut s) = ⊥

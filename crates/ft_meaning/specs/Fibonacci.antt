@@ -1,4 +1,4 @@
--- A program that puts out the first ten Fibonacci numbers.
+-- A program that outputs the first ten Fibonacci numbers.
 use Rattle.std.specs.Prelude.{ℕ, List, [], ◌∷◌, codes}
 use Rattle.ft_isa.specs.Words.{cell_address}
 use Rattle.ft_isa.specs.declared.op.Op.TheVariants.{Add, Ltu}

@@ -1,4 +1,4 @@
--- What a program means, with a budget of loop turns over the whole run.
+-- What a program means, with a budget of loop iterations for the whole run.
 use Rattle.std.specs.Prelude.{ℕ, zero, suc, ◌+◌, ◌%◌, List, [], ◌∷◌, ◌++◌, slice_index, slice_set, replicate}
 use Rattle.ft_isa.specs.Words.{apply, cell_address}
 use Rattle.ft_isa.specs.declared.output.Output.{Output}
@@ -8,7 +8,7 @@ use Rattle.ft_scope.specs.declared.slot.Slot.{Slot}
 use Rattle.ft_scope.specs.declared.slot.Slot.TheVariants.{Cell, Var, Run}
 use Rattle.ft_scope.specs.Resolved.{Program}
 
--- where a run is: the words of variables and cells, the outputs so far, the turns that are left and the work done
+-- the state of a run: the words of variables and cells, the outputs so far, the turns that are left and the work done
 pub record State : Type 0 where
   pub vars : List ℕ
   pub cells : List ℕ
@@ -16,12 +16,12 @@ pub record State : Type 0 where
   pub left : ℕ
   pub work : ℕ
 
--- a run ended, or was cut for want of turns
+-- a run ended, or was cut when its turns ran out
 pub data Outcome : Type 0 where
   Ended : State → Outcome
   Cut : State → Outcome
 
--- where it ended or was cut
+-- the state in which it ended or was cut
 abbrev pub state_of : Outcome → State
 state_of (Ended s) = s
 state_of (Cut s) = s
@@ -34,11 +34,11 @@ outputs r = (state_of r).out
 abbrev pub work : Outcome → ℕ
 work r = (state_of r).work
 
--- the cell that a word names among so many cells from the first one on
+-- the cell that a word selects among `length` cells from the first
 abbrev pub cell_of_run : ℕ → ℕ → ℕ → ℕ
 cell_of_run first length w = first + w % length
 
--- the cell of an array that a word names; what is no array has none
+-- the cell of an array that a word selects; other slots have none
 abbrev pub indexed_cell : Slot → ℕ → ℕ
 indexed_cell (Run first length) w = cell_of_run first length w
 indexed_cell (Cell k) w = k
@@ -65,27 +65,28 @@ evaluated e s = record s { work = s.work + (expression_nodes e + 1) }
 abbrev pub evaluated_both : Expression Slot → Expression Slot → State → State
 evaluated_both i e s = record s { work = s.work + (expression_nodes i + expression_nodes e + 1) }
 
--- after a word was assigned; an assignment to a cell is an output, also where the word is the old one; an array by itself is assigned nothing
+-- after a word was assigned; an assignment to a cell is an output, even if the word is unchanged; a whole array cannot
+-- be assigned
 abbrev pub assigned : Slot → ℕ → State → State
 assigned (Var x) v s = record s { vars = slice_set s.vars x v }
 assigned (Run first length) v s = s
 assigned (Cell k) v s = record s { cells = slice_set s.cells k v; out = s.out ++ record { addr = cell_address k; value = v } ∷ [] }
 
--- with so many turns left
+-- with this many turns left
 abbrev pub with_left : ℕ → State → State
 with_left l s = record s { left = l }
 
--- what comes next, where the run was not cut
+-- what comes next, if the run was not cut
 abbrev pub then_do : Outcome → (State → Outcome) → Outcome
 then_do (Ended s) go = go s
 then_do (Cut s) go = Cut s
 
--- the first where a test is 0, and else the second
+-- the first if a test is 0, else the second
 abbrev pub at_zero : {A : Type 0} → ℕ → A → A → A
 at_zero zero a b = a
 at_zero (suc n) a b = b
 
--- takes a turn, or is cut where none is left
+-- takes a turn, or is cut if none is left
 abbrev pub with_turn : ℕ → State → (State → Outcome) → Outcome
 with_turn zero s go = Cut s
 with_turn (suc l) s go = go (with_left l s)

@@ -16,18 +16,18 @@ use Rattle.ft_meaning.specs.Room.{HasRoom}
 abbrev pub state : Run → List Output → ℕ → State
 state r out w = record { vars = r.vars.items; cells = r.cells.items; out = out; left = r.left; work = w }
 
--- what a sink tells after the lines of these outputs, each put as one piece
+-- a sink's record after the lines of these outputs, each put as one piece
 abbrev pub told : List (List ℕ) → SinkLog → List Output → SinkLog
 told names first out = with_lines (output_lines names out) first
 
--- the code's words have the shape that they had, and no turn came back
+-- the code's words have the shape that they had, and the turns did not increase
 pub record Keeps (r q : Run) : Type 0 where
   pub vars : length q.vars.items ≡ length r.vars.items
   pub cells : length q.cells.items ≡ length r.cells.items
   pub line : length q.line.items ≡ length r.line.items
   pub left : q.left ≤ r.left
 
--- each cell has a name, for which there is room
+-- each cell has a name, and there is room for it
 pub record Ready (names : List (List ℕ)) (r : Run) : Type 0 where
   pub as_many : length names ≡ length r.cells.items
   pub few : length r.cells.items ≤ 1024
@@ -46,7 +46,7 @@ RunsTo go names r q before after (Err stops.WriteFault) =
     (first : SinkLog) (o : List Output) (w : ℕ) → before ≡ told names first o → BreaksOff
     (output_lines names (outputs (go (state r o w)))) first after
 
--- how a meaning ended whose run ended so
+-- how a meaning ended, from how its run ended
 abbrev pub end_of_run : Result (Unit {0}) Stop → MeanEnd
 end_of_run (Ok u) = ends.Ended
 end_of_run (Err stops.Cut) = ends.Cut

@@ -1,9 +1,8 @@
-//! What a program means, with a budget of loop turns.
+//! What a program means, with a budget of loop iterations.
 //!
-//! The crate promises that `mean` puts one line for each output of the program's meaning and tells
-//! whether it ended or was cut because no turn was left. More turns leave an ended meaning as it is,
-//! and only extend a cut one. Its definitions: `specs/Meaning.antt`, `specs/Lines.antt`,
-//! `specs/Ends.antt`.
+//! The crate promises that `mean` writes one line for each output of the program's meaning and returns
+//! whether it ended, or was cut when its turns ran out. More turns leave an ended meaning unchanged, and
+//! only extend a cut one. Its definitions: `specs/Meaning.antt`, `specs/Lines.antt`, `specs/Ends.antt`.
 #![tactic(auto)]
 
 mod laws;

@@ -9,6 +9,6 @@ pub enum MeanEnd {
     Cut,
     /// A line could not be written.
     WriteFault,
-    /// There was no memory for the names, the words or a line; nothing was written.
+    /// Memory ran out for the names, the words or a line; nothing was written.
     NoMemory,
 }

@@ -1,4 +1,4 @@
-//! A run of a program, which puts its outputs as they come.
+//! A run of a program, which writes its outputs as they come.
 ghost use Rattle.std.specs.Prelude.{◌≡◌, ◌<◌, ◌≤◌, length, map, slice_index};
 ghost use Rattle.ft_isa.specs.Words.{apply};
 ghost use Rattle.ft_syntax.specs.Plain.{none, plain_expression, plain_statement, plain_list};
@@ -31,7 +31,7 @@ pub struct Run {
     pub line: Vec<u8>,
 }
 
-/// The cell of an array that a word names, of so many cells in all.
+/// The cell of an array that a word selects, out of `cells` cells.
 fn cell_at(array: Slot, word: u64, cells: usize) -> usize
     requires { RunFits cells array }
     ensures within { result < cells }
@@ -43,8 +43,8 @@ fn cell_at(array: Slot, word: u64, cells: usize) -> usize
     }
 }
 
-/// The word of the cell of an array that an index names. It is done apart, so that the words of names and literals save no
-/// registers.
+/// The word of the array cell that an index selects. It is a function of its own, so that the words of names and
+/// literals save no registers.
 #[inline(never)]
 #[cycle(word)]
 fn indexed_word(array: Slot, index: &Expr<Slot>, vars: &[u64], cells: &[u64]) -> u64
@@ -56,7 +56,7 @@ fn indexed_word(array: Slot, index: &Expr<Slot>, vars: &[u64], cells: &[u64]) ->
     cells[cell_at(array, word, cells.len())]
 }
 
-/// The word of an operation on two expressions. It is done apart, as an index is.
+/// The word of an operation on two expressions. It is a function of its own, as an index is.
 #[inline(never)]
 #[cycle(word)]
 fn operation_word(op: Op, a: &Expr<Slot>, b: &Expr<Slot>, vars: &[u64], cells: &[u64]) -> u64
@@ -94,7 +94,7 @@ impl Run {
         word_of(e, &self.vars, &self.cells)
     }
 
-    /// The cell of an array that an index names.
+    /// The cell of an array that an index selects.
     fn cell(&self, array: Slot, index: &Expr<Slot>) -> usize
         requires array { RunFits (length self.now.cells.items) array }
         requires index { ExpressionFits (length self.now.cells.items) (length self.now.vars.items) (plain_expression same_slot index.now) }

@@ -15,7 +15,7 @@ use ft_isa::{NoMemory, VALUE_ROOM};
 use ft_scope::Prog;
 use std::alloc::Global;
 
-/// A run of a program at its start, with so many turns and room for the lines of cells with these names.
+/// A run of a program at its start, with this many turns and room for the lines of cells with these names.
 fn start(alloc: Global, prog: &Prog<'_>, names: &[Vec<u8>], turns: u64) -> Result<Run, NoMemory>
     requires { length names.now ≡ length prog.now.inits.items }
     ensures vars { IfOk result (λ r. r.vars.items ≡ replicate prog.now.vars 0) }
@@ -34,7 +34,7 @@ fn start(alloc: Global, prog: &Prog<'_>, names: &[Vec<u8>], turns: u64) -> Resul
     })
 }
 
-/// How a meaning ended whose run ended so.
+/// How a meaning ended, from how its run ended.
 fn end_of_run(run: Result<(), Stop>) -> MeanEnd
     ensures { result ≡ end_of_run run }
 {
@@ -45,13 +45,12 @@ fn end_of_run(run: Result<(), Stop>) -> MeanEnd
     }
 }
 
-/// Gives a program's meaning with this many loop turns over the whole run. It puts a line for each
-/// output, each in one put, and tells how the meaning ended. `Cut` comes exactly when a loop's test is
-/// not 0 with no turn left. `WriteFault` comes only where a put failed, after which nothing is put.
-/// `NoMemory` comes before the first put.
+/// Runs a program's meaning with this many loop turns for the whole run. It writes a line for each output, each with
+/// one put, and returns how the meaning ended. `Cut` is returned exactly if a loop's test is not 0 with no turn left.
+/// `WriteFault` is returned only if a put failed, after which nothing is put. `NoMemory` comes before the first put.
 ///
-/// It takes time in proportion to the work, and calls itself no deeper than statements and operators
-/// nest in the source.
+/// It takes time in proportion to the work, and its recursion is no deeper than statements and operators nest in the
+/// source.
 pub fn mean<K: Sink>(alloc: Global, prog: &Prog<'_>, turns: u64, out: &mut K) -> MeanEnd
     ensures ends { EndsAs result (meaning (program_of prog.now) turns) }
     ensures lines { Puts (put_end result) (output_lines (program_of prog.now).names (outputs (meaning (program_of prog.now) turns)))

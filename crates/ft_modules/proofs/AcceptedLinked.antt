@@ -36,8 +36,9 @@ use Rattle.ft_modules.specs.ModulesRun.{link_at}
 use Rattle.ft_modules.proofs.Addresses.{find_same, same_tests, one_number, block_at_own}
 use Rattle.ft_modules.proofs.LinkedBlocks.{start_beside, applies_beside}
 use Rattle.ft_modules.proofs.Laying.{whence}
-use Rattle.ft_modules.proofs.Placing.{is_module, sits_in, sent_in, block_in, block_alike, change_is, sent_by_change}
-use Rattle.ft_modules.proofs.Placing.{sent_to, start_there, type_there, world, to_is}
+use Rattle.ft_modules.proofs.ModuleInstrs.{sent_by_change, sent_to}
+use Rattle.ft_modules.proofs.Landings.{is_module, sits_in, change_is, start_there, type_there}
+use Rattle.ft_modules.proofs.Placing.{sent_in, block_in, block_alike, world, to_is}
 use Rattle.ft_modules.proofs.ModuleParts.{of_blocks, blocks_grow}
 use Rattle.ft_modules.proofs.SpelledLinked.{from_map}
 use Rattle.ft_modules.proofs.SpelledWhole.{none_before_first, spelled_linked}
@@ -64,16 +65,11 @@ variable_memory : (o : Object) (n : ℕ) → AreNodes o.nodes → HasShape o.nod
 variable_memory o n nodes s = ap memory_part (tree_at-row o.nodes n s.node nodes s.found)
     ∙ ap (λ (y : Shape). memory_part (tree_of (trees o.nodes) y)) s.shape
 
--- a memory's node of which the tree is the memory variable
+-- a memory's node whose tree is the memory variable
 variable_shape : (x : Object) (y : Shape) → is_memory y ≡ true → memory_part (tree_of (trees x.nodes) y)
     ≡ memory_variable → y ≡ shape.Memory
-variable_shape x (shape.Word w) m e = cc
-variable_shape x (shape.Var i) m e = cc
-variable_shape x (shape.Op o a b) m e = cc
-variable_shape x (shape.Sel k a) m e = cc
 variable_shape x shape.Memory m e = refl
-variable_shape x (shape.Upd k a v) m e = cc
-variable_shape x (shape.Rem a n) m e = cc
+variable_shape x y m e = cc
 
 -- what says the same as an entry type is one
 entry_like : (o x : Object) (t u : ℕ) (y : CodeType) → IsSpellable o → IsSpellable x → LikeTypes o t x u →
@@ -98,8 +94,7 @@ entry_like o x t u y so sx l there e =
       });
     }
 
--- the linked object's entry block, n, which stands at address a, is of a code type that says what the first module's
--- entry type says
+-- the linked object's entry block, n, at address a, is of a code type that says what the first module's entry type says
 record EntryIn (first x : Object) (n a : ℕ) : Type 0 where
   pub block : Block
   pub there : slice_get x.blocks n ≡ Some block

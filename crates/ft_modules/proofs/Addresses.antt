@@ -38,7 +38,7 @@ find_mapped p f (x ∷ xs) = ap (cond (p (f x)) (Some (f x))) (find_mapped p f x
     by_test true = refl
     by_test false = refl
 
--- two tests of which each passes where the other does
+-- two tests each of which passes if the other does
 pub same_tests : (a b : Bool) → (a ≡ true → b ≡ true) → (b ≡ true → a ≡ true) → a ≡ b
 same_tests true b h k = sym (h refl)
 same_tests false true h k = k refl

@@ -1,12 +1,17 @@
 -- What a step of a row gives, and how a jump arrives in the module and in the linked object.
-use Rattle.std.proofs.Common.{◌≡◌, ℕ, zero, suc, ◌+◌, Bool, true, false, not, ◌&&◌, ◌==◌, List, [], ◌∷◌, slice_get}
-use Rattle.std.proofs.Common.{Option, Some, None, refl, sym, ap, ◌∙◌, subst, arith, eq-eqb, mod-eq_of_lt, if◌then◌else◌}
+use Rattle.std.proofs.Common.{◌≡◌, ℕ, zero, suc, ◌+◌, Bool, true, false, not, ◌&&◌, ◌==◌, nat_lt, List, [], ◌∷◌}
+use Rattle.std.proofs.Common.{length, slice_get, Option, Some, None, refl, sym, ap, ◌∙◌, subst, arith, eq-eqb}
+use Rattle.std.proofs.Common.{mod-eq_of_lt}
+use Rattle.std.proofs.Common.{if◌then◌else◌}
 use Rattle.std.specs.List.{AllZip}
 use Rattle.std.specs.FinMap as finite
 use Rattle.ft_isa.specs.Words.{IsWord, code_address}
 use Rattle.ft_isa.specs.declared.colour.Colour.{Colour}
+use Rattle.ft_isa.specs.declared.colour.Colour.TheVariants.{Green, Blue}
 use Rattle.ft_isa.specs.declared.reg.Reg.{Reg}
 use Rattle.ft_isa.specs.declared.instr.Instr.{Instr}
+use Rattle.ft_isa.specs.declared.instr.Instr.TheVariants.{Ld, St, JmpG, JmpB, BzG, BzB}
+use Rattle.ft_isa.specs.Instructions.{is_blue_store}
 use Rattle.ft_static.specs.Expression.{Valuation}
 use Rattle.ft_static.proofs.FormsDenote.{value_constant}
 use Rattle.ft_types.specs.declared.object.Object.{Object}
@@ -17,13 +22,13 @@ use Rattle.ft_types.specs.Objects.{instr_at}
 use Rattle.ft_types.specs.Spellable.{IsSpellable}
 use Rattle.ft_semantics.specs.State.{State, word}
 use Rattle.ft_semantics.specs.Step.{Stepping, quiet, detected, fetch, load, commits, commit, store_blue, jump_green}
-use Rattle.ft_semantics.specs.Step.{jump_blue, pass, advance}
+use Rattle.ft_semantics.specs.Step.{jump_blue, found, pass, execute, advance}
 use Rattle.ft_typing.specs.TypedWord.{block_at}
 use Rattle.ft_typing.specs.Context.{Context, typed, start_context}
 use Rattle.ft_typing.specs.TypingRow.{Outcome, Goes, Ends, Fails, row}
 use Rattle.ft_tolerance.specs.TypedState.{Place, instr_number, FitsContext, Fits}
 use Rattle.ft_tolerance.proofs.Premises.{After}
-use Rattle.ft_tolerance.proofs.AcceptedSteps.{Here, here, Passes, ends, goes}
+use Rattle.ft_tolerance.proofs.AcceptedSteps.{Here, Passes, ends, goes}
 use Rattle.ft_modules.specs.Linked.{raised_block}
 use Rattle.ft_modules.specs.Links.{Link}
 use Rattle.ft_modules.specs.ModulesRun.{InModule, sent}
@@ -56,25 +61,25 @@ fetches o p n s h f i there =
     ∙ ap (λ (u : Option Instr). fetch u s []) at
 
 -- the outputs of steps that have none
-pub load_silent : (c : Colour) (rd : Reg) (u : Option ℕ) (s : State) → (load c rd u s []).output ≡ None
+load_silent : (c : Colour) (rd : Reg) (u : Option ℕ) (s : State) → (load c rd u s []).output ≡ None
 load_silent c rd None s = refl
 load_silent c rd (Some v) s = refl
 
 -- either of two
-pub if_silent : (b : Bool) (x y : Stepping) → x.output ≡ None → y.output ≡ None → (if b then x else y).output ≡ None
+if_silent : (b : Bool) (x y : Stepping) → x.output ≡ None → y.output ≡ None → (if b then x else y).output ≡ None
 if_silent true x y h k = h
 if_silent false x y h k = k
 
 -- a green jump
-pub jump_green_silent : (a : ℕ) (s : State) → (jump_green a s []).output ≡ None
+jump_green_silent : (a : ℕ) (s : State) → (jump_green a s []).output ≡ None
 jump_green_silent a s = if_silent (s.d == 0) _ _ refl refl
 
 -- a branch that is not taken
-pub pass_silent : (s : State) → (pass s []).output ≡ None
+pass_silent : (s : State) → (pass s []).output ≡ None
 pass_silent s = if_silent (s.d == 0) _ _ refl refl
 
 -- a blue jump
-pub jump_blue_silent : (a : ℕ) (s : State) → (jump_blue a s []).output ≡ None
+jump_blue_silent : (a : ℕ) (s : State) → (jump_blue a s []).output ≡ None
 jump_blue_silent a s = if_silent (not (s.d == 0) && (s.d == a)) _ _ refl refl
 
 -- a blue store that goes on shows its pair
@@ -89,9 +94,20 @@ pub store_blue_shows : (a v : ℕ) (s : State) → s.status ≡ Running → (sto
     (store_blue a v s []).output ≡ Some (record { addr = a; value = v })
 store_blue_shows a v s go h = store_blue_by (commits a v s) a v s go h
 
+-- instructions that are no blue store have no output
+pub silent : (i : Instr) (s : State) → is_blue_store i ≡ false → (execute i s []).output ≡ None
+silent (Ld k rd rs) s h = load_silent k rd (found k s (word s rs)) s
+silent (St Green rd rs) s h = if_silent (nat_lt (length s.queue) 8) _ _ refl refl
+silent (St Blue rd rs) s h = cc
+silent (JmpG rd) s h = jump_green_silent (word s rd) s
+silent (JmpB rd u) s h = jump_blue_silent (word s rd) s
+silent (BzG rz rd) s h = if_silent (word s rz == 0) _ _ (jump_green_silent (word s rd) s) (pass_silent s)
+silent (BzB rz rd u) s h = if_silent (word s rz == 0) _ _ (jump_blue_silent (word s rd) s) (pass_silent s)
+silent i s h = refl
+
 -- CLAIMS
 
--- a fact that is claimed of a row holds where the row passes
+-- a fact that is claimed of a row holds if the row passes
 pub claimed : (o : Object) (c : Context) (i : Instr) (C : Type 0) (x : Outcome) → row o c i ≡ x → After (λ _. C) C x →
     Passes o c i → C
 unfolding After
@@ -100,7 +116,7 @@ claimed o c i C Ends e a p = a
 claimed o c i C (Fails n) e a (ends f) = cc
 claimed o c i C (Fails n) e a (goes d f) = cc
 
--- the context that a row goes on to, with what holds of it, where it never ends the block
+-- the context that a row leads to, with what holds of it, if it never ends the block
 pub record GoesTo (o : Object) (c : Context) (i : Instr) (G : Context → Type 0) : Type 0 where
   pub context : Context
   pub goes_to : row o c i ≡ Goes context
@@ -120,7 +136,7 @@ pub goes_to : (o : Object) (c : Context) (i : Instr) (G : Context → Type 0) �
     GoesTo o c i G
 goes_to o c i G a p = goes_to_by o c i G (row o c i) refl a p
 
--- what holds where a row ends the block, which never goes on
+-- what holds if a row ends the block and so never goes on
 pub ends_by : (o : Object) (c : Context) (i : Instr) (E : Type 0) (x : Outcome) → row o c i ≡ x → After (λ _. ⊥) E x →
     Passes o c i → (row o c i ≡ Ends) × E
 unfolding After

@@ -1,4 +1,4 @@
--- The outcomes of two rows beside each other: where the first does not fail, nor does the second.
+-- The outcomes of two rows beside each other: if the first does not fail, neither does the second.
 use Rattle.std.proofs.Common.{◌≡◌, ℕ, zero, suc, Bool, true, false, List, [], ◌∷◌, Option, Some, None, refl, subst}
 use Rattle.ft_isa.specs.declared.basic.Base.{Base}
 use Rattle.ft_isa.specs.declared.basic.Base.TheVariants.{Code}
@@ -6,7 +6,7 @@ use Rattle.ft_isa.specs.declared.basic.Basic.{Basic}
 use Rattle.ft_typing.specs.Premise.{Premise}
 use Rattle.ft_typing.specs.Context.{Typed, FormPair, Context}
 use Rattle.ft_typing.specs.TypingRow.{Outcome, Goes, Ends, Fails, need, for_typed, for_ref_over, for_code_over}
-use Rattle.ft_typing.specs.TypingRow.{for_oldest, for_run}
+use Rattle.ft_typing.specs.TypingRow.{for_oldest}
 
 -- R of the two contexts that the rows go on to, or both end the block, or the first fails
 unfoldable pub Both : (Context → Context → Type 0) → Outcome → Outcome → Type 0
@@ -28,7 +28,7 @@ pub both_end : (R : Context → Context → Type 0) → Both R Ends Ends
 unfolding Both
 both_end R = tt
 
--- a test that holds of the second where it holds of the first
+-- a test that holds of the second if it holds of the first
 pub both_need : (R : Context → Context → Type 0) (p : Premise) (b b' : Bool) (x x' : Outcome) →
     (b ≡ true → (b' ≡ true) × Both R x x') → Both R (need p b x) (need p b' x')
 unfolding Both need
@@ -36,20 +36,20 @@ both_need R p false b' x x' h = tt
 both_need R p true true x x' h = (h refl).1
 both_need R p true false x x' h = let e = (h refl).0 in cc
 
--- a register of which the same is known
+-- a register about which the same is known
 both_typed_same : (R : Context → Context → Type 0) (y : Option Typed) (f f' : Typed → Outcome) →
     ((t : Typed) → y ≡ Some t → Both R (f t) (f' t)) → Both R (for_typed y f) (for_typed y f')
 unfolding Both for_typed
 both_typed_same R None f f' h = tt
 both_typed_same R (Some t) f f' h = h t refl
 
--- registers of which the same is known, by an equation
+-- registers about which the same is known, by an equation
 pub both_typed : (R : Context → Context → Type 0) (y y' : Option Typed) (f f' : Typed → Outcome) → y ≡ y' →
     ((t : Typed) → y ≡ Some t → Both R (f t) (f' t)) → Both R (for_typed y f) (for_typed y' f')
 both_typed R y y' f f' e h = subst (λ (z : Option Typed). Both R (for_typed y f) (for_typed z f')) e
     (both_typed_same R y f f' h)
 
--- registers of which this is known
+-- registers about which this is known
 pub both_known : (R : Context → Context → Type 0) (y y' : Option Typed) (t t' : Typed) (f f' : Typed → Outcome) → y
     ≡ Some t → y' ≡ Some t' → Both R (f t) (f' t') → Both R (for_typed y f) (for_typed y' f')
 unfolding for_typed
@@ -82,16 +82,3 @@ pub both_oldest : (R : Context → Context → Type 0) (q q' : List FormPair) (f
     Both R (for_oldest q f) (for_oldest q' f')
 both_oldest R q q' f f' e h = subst (λ (z : List FormPair). Both R (for_oldest q f) (for_oldest z f')) e
     (both_oldest_same R q f f' h)
-
--- the same run of cells
-both_run_same : (R : Context → Context → Type 0) (y : Option Basic) (f f' : Basic → Outcome) →
-    ((b : Basic) → Both R (f b) (f' b)) → Both R (for_run y f) (for_run y f')
-unfolding Both for_run
-both_run_same R None f f' h = tt
-both_run_same R (Some b) f f' h = h b
-
--- runs of the same type
-pub both_run : (R : Context → Context → Type 0) (y y' : Option Basic) (f f' : Basic → Outcome) → y ≡ y' →
-    ((b : Basic) → Both R (f b) (f' b)) → Both R (for_run y f) (for_run y' f')
-both_run R y y' f f' e h = subst (λ (z : Option Basic). Both R (for_run y f) (for_run z f')) e
-    (both_run_same R y f f' h)

@@ -1,21 +1,18 @@
 -- The tests of refusals decide what they are named for.
-use Rattle.std.proofs.Common.{◌≡◌, ℕ, zero, suc, ◌+◌, ◌<◌, Bool, true, ◌==◌, if◌then◌else◌, List, [], ◌∷◌, length}
-use Rattle.std.proofs.Common.{slice_get, Option, Some, None, refl, sym, ap, ◌∙◌, subst, arith, eqb-true, eq-eqb}
+use Rattle.std.proofs.Common.{◌≡◌, ℕ, zero, suc, ◌+◌, ◌<◌, Bool, true, List, [], ◌∷◌, length}
+use Rattle.std.proofs.Common.{slice_get, Option, Some, None, refl, ap, subst, arith, eqb-true, eq-eqb}
 use Rattle.std.specs.Prelude.{All}
 use Rattle.std.specs.List.{AllZip, list_all}
 use Rattle.std.specs.Option.{option_or, option_map}
 use Rattle.std.specs.FinMap as finite
 use Rattle.std.proofs.lemmas.Bool.{and_parts, and_from, leb-true, le-leb}
-use Rattle.ft_isa.specs.Operations.{op_code, op_of}
-use Rattle.ft_isa.proofs.Operations.{op_back}
-use Rattle.ft_isa.specs.declared.op.Op.{Op}
 use Rattle.ft_isa.specs.declared.basic.Base.{Base}
 use Rattle.ft_isa.specs.declared.basic.Base.TheVariants.{Int, Code}
 use Rattle.ft_isa.specs.declared.colour.Colour.{Colour}
 use Rattle.ft_isa.specs.declared.instr.Instr.{Instr}
 use Rattle.ft_isa.specs.declared.instr.Instr.TheVariants.{Halt}
 use Rattle.ft_isa.proofs.Lists.{all_there, all_pass}
-use Rattle.ft_static.specs.Expression.{Integer, Memory, word, variable, operation, sel, rem, memory_variable, upd}
+use Rattle.ft_static.proofs.SameTrees.{same_integer_is, same_memory_is, integer_same, memory_same}
 use Rattle.ft_types.specs.declared.object.Object.{Object}
 use Rattle.ft_types.specs.declared.object.Cell.{Cell}
 use Rattle.ft_types.specs.declared.object.Block.{Block}
@@ -32,81 +29,8 @@ use Rattle.ft_modules.specs.Linkable.{HasPlainCell, HasPlainRow, HasPlainRows, A
 use Rattle.ft_modules.specs.Links.{same_name}
 use Rattle.ft_modules.specs.LinkRefusals.{is_int, same_cell, same_cells, is_plain_cell, is_plain_row, has_plain_rows}
 use Rattle.ft_modules.specs.LinkRefusals.{first_walk_fault, are_few, is_halt, is_stub}
-use Rattle.ft_modules.specs.SameTrees.{same_integer, same_memory, same_row, same_rows, same_pairs, like_types}
+use Rattle.ft_modules.specs.SameTrees.{same_row, same_rows, same_pairs, like_types}
 use Rattle.ft_modules.proofs.Elements.{all_of}
-
--- TREES
-
--- operations with the same code are the same
-op_same : (o p : Op) → (op_code o == op_code p) ≡ true → o ≡ p
-op_same o p e = sym (op_back o) ∙ ap op_of (eqb-true _ _ e) ∙ op_back p
-
-mutual
-  -- integers that the test finds the same are equal
-  same_integer_is : (e f : Integer) → same_integer e f ≡ true → e ≡ f
-  same_integer_is (word v) (word w) e = ap word (eqb-true v w e)
-  same_integer_is (word v) (variable j) e = cc
-  same_integer_is (word v) (operation p c d) e = cc
-  same_integer_is (word v) (sel n c) e = cc
-  same_integer_is (word v) (rem c k) e = cc
-  same_integer_is (variable i) (word w) e = cc
-  same_integer_is (variable i) (variable j) e = ap variable (eqb-true i j e)
-  same_integer_is (variable i) (operation p c d) e = cc
-  same_integer_is (variable i) (sel n c) e = cc
-  same_integer_is (variable i) (rem c k) e = cc
-  same_integer_is (operation o a b) (word w) e = cc
-  same_integer_is (operation o a b) (variable j) e = cc
-  same_integer_is (operation o a b) (operation p c d) e =
-      let q = and_parts _ _ e in
-      let r = and_parts _ _ q.0 in
-      λ i. operation (op_same o p r.0 i) (same_integer_is a c r.1 i) (same_integer_is b d q.1 i)
-  same_integer_is (operation o a b) (sel n c) e = cc
-  same_integer_is (operation o a b) (rem c k) e = cc
-  same_integer_is (sel m a) (word w) e = cc
-  same_integer_is (sel m a) (variable j) e = cc
-  same_integer_is (sel m a) (operation p c d) e = cc
-  same_integer_is (sel m a) (sel n c) e = let q = and_parts _ _ e in
-      λ i. sel (same_memory_is m n q.0 i) (same_integer_is a c q.1 i)
-  same_integer_is (sel m a) (rem c k) e = cc
-  same_integer_is (rem a l) (word w) e = cc
-  same_integer_is (rem a l) (variable j) e = cc
-  same_integer_is (rem a l) (operation p c d) e = cc
-  same_integer_is (rem a l) (sel n c) e = cc
-  same_integer_is (rem a l) (rem c k) e = let q = and_parts _ _ e in
-      λ i. rem (same_integer_is a c q.1 i) (eqb-true l k q.0 i)
-
-  -- so are memories
-  same_memory_is : (m n : Memory) → same_memory m n ≡ true → m ≡ n
-  same_memory_is memory_variable memory_variable e = refl
-  same_memory_is memory_variable (upd n c d) e = cc
-  same_memory_is (upd m a b) memory_variable e = cc
-  same_memory_is (upd m a b) (upd n c d) e =
-      let q = and_parts _ _ e in
-      let r = and_parts _ _ q.0 in
-      λ i. upd (same_memory_is m n r.0 i) (same_integer_is a c r.1 i) (same_integer_is b d q.1 i)
-
-mutual
-  -- the test finds an integer the same as itself
-  integer_itself : (e : Integer) → same_integer e e ≡ true
-  integer_itself (word v) = eq-eqb v v refl
-  integer_itself (variable i) = eq-eqb i i refl
-  integer_itself (operation o a b) = and_from _ _ (and_from _ _ (eq-eqb (op_code o) (op_code o) refl)
-      (integer_itself a)) (integer_itself b)
-  integer_itself (sel m a) = and_from _ _ (memory_itself m) (integer_itself a)
-  integer_itself (rem a l) = and_from _ _ (eq-eqb l l refl) (integer_itself a)
-
-  -- so with a memory
-  memory_itself : (m : Memory) → same_memory m m ≡ true
-  memory_itself memory_variable = refl
-  memory_itself (upd m a b) = and_from _ _ (and_from _ _ (memory_itself m) (integer_itself a)) (integer_itself b)
-
--- the test finds equal integers the same
-integer_same : (e f : Integer) → e ≡ f → same_integer e f ≡ true
-integer_same e f h = subst (λ (z : Integer). same_integer e z ≡ true) h (integer_itself e)
-
--- so with equal memories
-memory_same : (m n : Memory) → m ≡ n → same_memory m n ≡ true
-memory_same m n h = subst (λ (z : Memory). same_memory m z ≡ true) h (memory_itself m)
 
 -- CODE TYPES
 
@@ -241,7 +165,7 @@ int_is (Code t) e = cc
 is_int_of : (b : Base) → b ≡ Int → is_int b ≡ true
 is_int_of b e = ap is_int e
 
--- cells that the test finds plain are so
+-- cells that the test finds plain are plain
 pub plain_cells_are : (cs : List Cell) → list_all is_plain_cell cs ≡ true → All HasPlainCell cs
 plain_cells_are cs e = all_of HasPlainCell cs (λ n c f. int_is c.basic.base (each_passes is_plain_cell cs e n c f))
 
@@ -249,7 +173,7 @@ plain_cells_are cs e = all_of HasPlainCell cs (λ n c f. int_is c.basic.base (ea
 pub are_plain_cells : (cs : List Cell) → All HasPlainCell cs → list_all is_plain_cell cs ≡ true
 are_plain_cells cs h = all_pass is_plain_cell cs (λ n c f. is_int_of c.basic.base (all_there HasPlainCell cs n c h f))
 
--- code types of which the test finds the rows plain have such rows
+-- code types whose rows the test finds plain have plain rows
 pub plain_rows_are : (ts : List CodeType) → list_all has_plain_rows ts ≡ true → All HasPlainRows ts
 plain_rows_are ts e = all_of HasPlainRows ts (λ n t f.
     all_of HasPlainRow t.regs (λ m r g. int_is r.basic.base
@@ -275,7 +199,7 @@ map_parts f (Some x) e = cc
 
 -- WALKS
 
--- where no walk is found to fail, none fails
+-- if no walk is found to fail, none fails
 pub no_walk_fault : (o : Object) (b : ℕ) (ys : List Block) → first_walk_fault o b ys ≡ None → (n : ℕ) → n < length ys →
     code_walk o finite.empty 0 (block_instrs o (b + n)) ≡ None
 no_walk_fault o b [] e n lt = absurd (omega (arith, lt))
@@ -303,7 +227,7 @@ walk_without_fault o b (y ∷ ys) h =
 
 -- TOTALS
 
--- totals that the test finds within their limits are so
+-- totals that the test finds within their limits are within them
 pub few_are : (ms : List Object) → are_few ms ≡ true → AreFew ms
 unfolding are_few
 few_are ms e =

@@ -1,4 +1,4 @@
--- Nothing of modules and a map is refused exactly where they are linkable.
+-- Modules and a map are refused for nothing exactly if they are linkable.
 use Rattle.std.proofs.Common.{◌≡◌, ℕ, zero, suc, ◌+◌, ◌<◌, Bool, true, false, cond, not, nat_lt, List, [], ◌∷◌, ◌++◌}
 use Rattle.std.proofs.Common.{length, slice_get, Option, Some, None, refl, sym, ap, ◌∙◌, subst, arith}
 use Rattle.std.specs.Prelude.{All, find, filter_map, ◌↔◌}
@@ -42,7 +42,7 @@ unless_true false r e = cc
 true_unless : (b : Bool) (r : LinkRefusal) → b ≡ true → unless b r ≡ None
 true_unless b r e = ap (λ z. unless z r) e
 
--- the first element, where nothing is found
+-- the first element, if nothing is found
 pub none_first : {X : Type 0} (b : Bool) (p : X → Bool) (y : X) (ys : List X) (n : ℕ) (x : X) → p y ≡ b →
     cond b (Some y) (find p ys) ≡ None → slice_get (y ∷ ys) n ≡ Some x →
     (find p ys ≡ None → (m : ℕ) (z : X) → slice_get ys m ≡ Some z → p z ≡ false) → p x ≡ false
@@ -160,13 +160,13 @@ is_has_block modules m b h = ap (λ (u : Option Object).
     nat_lt b (unwrap_or (option_map (λ (o : Object). length o.blocks) u) 0)) h.there
     ∙ lt-ltb b (length h.object.blocks) h.below
 
--- where the lower of two lines is nothing, both are
+-- if the lower of two lines is nothing, both are
 pub no_line : (a b : Option ℕ) → lower_line a b ≡ None → (a ≡ None) × (b ≡ None)
 no_line None b e = (refl, e)
 no_line (Some x) None e = cc
 no_line (Some x) (Some y) e = cc
 
--- where no line is found without its block, each line has it
+-- if no line is found without its block, each line has it
 all_have : (modules : List Object) (asks : List Ask) → first_without modules asks ≡ None → (n : ℕ) (a : Ask) →
     slice_get asks n ≡ Some a → HasBlock modules a.module a.block
 all_have modules asks e n a f = has_block_is modules a.module a.block
@@ -180,7 +180,7 @@ have_all : (modules : List Object) (asks : List Ask) →
 have_all modules asks h = ap (option_map line_of) (none_pass (λ (z : Ask). not (has_block modules z.module z.block))
     asks (λ n a f. ap not (is_has_block modules a.module a.block (h n a f))))
 
--- where no import is refused, each is not
+-- if no import is refused, each is not
 each_import : (modules : List Object) (exports imports : List Ask) → imports_refusal modules exports imports ≡ None →
     (n : ℕ) (i : Ask) → slice_get imports n ≡ Some i → import_refusal modules exports i ≡ None
 unfolding imports_refusal
@@ -198,7 +198,7 @@ import_each modules exports [] h = refl
 import_each modules exports (i ∷ is) h = or_none _ _ (h 0 i refl) (import_each modules exports is (λ n z e.
     h (suc n) z e))
 
--- an import of which the name is exported, with code types that say the same
+-- an import whose name is exported, with code types that say the same
 record Exported (modules : List Object) (exports : List Ask) (i : Ask) : Type 0 where
   pub ask : Ask
   pub found : export_of exports i.name ≡ Some ask
@@ -220,7 +220,7 @@ filter_first f x xs n y None g e h = let r = h n y e in (suc r.0, r.1, r.2, r.3)
 filter_first f x xs zero y (Some z) g e h = (0, x, refl, g ∙ e)
 filter_first f x xs (suc n) y (Some z) g e h = let r = h n y e in (suc r.0, r.1, r.2, r.3)
 
--- an element that stands later
+-- an element at a later place
 filter_later : {Y : Type 0} (u : Option Y) (ys : List Y) (y : Y) → (n : ℕ) × (slice_get ys n ≡ Some y) → (n : ℕ)
     × (slice_get (cons_option u ys) n ≡ Some y)
 filter_later None ys y h = h
@@ -295,7 +295,7 @@ module _ (linkage : LinkMap) (first : Object) (others : List Object) where
   export_there name a e = let f = found_there (λ (z : Ask). same_name z.name name) linkage.exports a e in
       (f.place, f.there)
 
-  -- where nothing is refused, the modules can be linked
+  -- if nothing is refused, the modules can be linked
   pub linkable : ((m : ℕ) (o : Object) → slice_get modules m ≡ Some o → IsSpellable o × IsAccepted o) →
       link_refusal linkage first others ≡ None → AreLinkable linkage first others
   unfolding links
@@ -331,7 +331,7 @@ module _ (linkage : LinkMap) (first : Object) (others : List Object) where
             (unless_true _ _ q.0) w.3);
       }
 
-  -- where modules can be linked, nothing is refused
+  -- if modules can be linked, nothing is refused
   pub unrefused : AreLinkable linkage first others → link_refusal linkage first others ≡ None
   unfolding links
   unrefused h =
@@ -359,7 +359,7 @@ module _ (linkage : LinkMap) (first : Object) (others : List Object) where
       (like_there modules i.module j.ask.module _ _ from.object to.object from.there to.there
       ∙ is_like from.object _ to.object _ j.joined.types)))))
 
--- nothing is refused of accepted modules exactly where they are linkable
+-- accepted modules are refused for nothing exactly if they are linkable
 pub linkable_exactly : (linkage : LinkMap) (first : Object) (others : List Object) →
     ((m : ℕ) (o : Object) → slice_get (first ∷ others) m ≡ Some o → IsSpellable o × IsAccepted o) →
     AreLinkable linkage first others ↔ link_refusal linkage first others ≡ None

@@ -1,6 +1,6 @@
 -- A permitted exchange keeps the walk that traces code addresses, so it keeps a module.
-use Rattle.std.proofs.Common.{◌≡◌, ℕ, zero, suc, ◌<◌, Bool, true, false, cond, not, ◌&&◌, ◌==◌, if◌then◌else◌, List, []}
-use Rattle.std.proofs.Common.{◌∷◌, length, Option, Some, None, is_some, slice_get, refl, sym, ap, ◌∙◌, subst, arith}
+use Rattle.std.proofs.Common.{◌≡◌, ℕ, zero, suc, Bool, true, false, cond, not, ◌&&◌, ◌==◌, if◌then◌else◌, List, []}
+use Rattle.std.proofs.Common.{◌∷◌, Option, Some, None, is_some, slice_get, refl, sym, ap, ◌∙◌, subst, arith}
 use Rattle.std.proofs.Common.{inl, inr, eqb-true, eq-eqb}
 use Rattle.std.specs.Cmp.{nat_cmp_total}
 use Rattle.std.specs.FinMap as finite
@@ -9,21 +9,22 @@ use Rattle.std.proofs.lemmas.Bool.{cases_eq, or_left, or_right}
 use Rattle.std.proofs.lemmas.Option.{slice_get_cases}
 use Rattle.ft_isa.specs.declared.colour.Colour.TheVariants.{Green, Blue}
 use Rattle.ft_isa.specs.declared.instr.Instr.{Instr}
-use Rattle.ft_isa.specs.declared.instr.Instr.TheVariants.{OpReg, OpWord, Mov, Ld, St, JmpG, JmpB, BzG, BzB, Halt, Idx}
+use Rattle.ft_isa.specs.declared.instr.Instr.TheVariants.{St, JmpG, JmpB, BzG, BzB}
+use Rattle.ft_isa.specs.Instructions.{first_read, second_read, is_one_of}
 use Rattle.ft_types.specs.declared.object.Object.{Object}
 use Rattle.ft_types.specs.declared.object.Block.{Block}
 use Rattle.ft_types.specs.declared.object.Cell.{Cell}
 use Rattle.ft_types.specs.Objects.{block_instrs}
 use Rattle.ft_types.specs.Spellable.{IsSpellable}
-use Rattle.ft_exchange.specs.Exchange.{is_fixed, written, reads, is_register, leaves_alone, queue_before, may_exchange}
+use Rattle.ft_exchange.specs.Exchange.{is_fixed, written, reads, leaves_alone, queue_before, may_exchange}
 use Rattle.ft_exchange.specs.Exchange.{IsPermitted, exchanged, with_instrs, after_exchange}
 use Rattle.ft_exchange.specs.Scheduled.{ComesFrom, itself, exchange}
 use Rattle.ft_exchange.proofs.Permits.{Trailing, trailing_write, trailing_store, Leading, leading_write, leading_store}
 use Rattle.ft_exchange.proofs.Permits.{Permits, permits, not_read, not_written, read_other}
 use Rattle.ft_exchange.proofs.BlockRanges.{same_block, other_block}
 use Rattle.ft_exchange.proofs.Accepted.{spellable_exchanged, accepted_exchanged}
-use Rattle.ft_modules.specs.CodeWalk.{Entered, code_claimed, entered_with, entered_after, is_free, is_free_target}
-use Rattle.ft_modules.specs.CodeWalk.{is_traced, code_walk}
+use Rattle.ft_modules.specs.CodeWalk.{Entered, claimed, entered_past, entered_with, entered_after, is_free, both_free}
+use Rattle.ft_modules.specs.CodeWalk.{is_free_target, is_traced, code_walk}
 use Rattle.ft_modules.specs.Linkable.{IsModule}
 use Rattle.ft_modules.proofs.LinkedContexts.{entered_get}
 
@@ -37,57 +38,28 @@ turned a b h = by_test (b == a) refl
     by_test false e = e
     by_test true e = (let f : (a == b) ≡ true = eq-eqb a b (sym (eqb-true b a e)) in cc)
 
--- what an instruction that writes a register claims of it: a code type, where it is a `mov` of one
-abbrev claimed : Instr → Option ℕ
-claimed (OpReg op rd rs rt) = None
-claimed (OpWord op rd rs value) = None
-claimed (Mov rd value basic) = code_claimed basic
-claimed (Ld k rd rs) = None
-claimed (St k rd rs) = None
-claimed (JmpG rd) = None
-claimed (JmpB rd u) = None
-claimed (BzG rz rd) = None
-claimed (BzB rz rd u) = None
-claimed Halt = None
-claimed (Idx rd rs first m) = None
-
--- after an instruction that writes a register this one alone may have changed
+-- after an instruction that writes a register, only this one may have changed
 enters : (e : Entered) (i : Instr) (r : ℕ) → written i ≡ Some r → entered_after i e ≡ entered_with r (claimed i) e
-enters e (OpReg op rd rs rt) r h = let f : rd.number ≡ r = cc in ap (λ n. entered_with n None e) f
-enters e (OpWord op rd rs value) r h = let f : rd.number ≡ r = cc in ap (λ n. entered_with n None e) f
-enters e (Mov rd value basic) r h = let f : rd.number ≡ r = cc in ap (λ n. entered_with n (code_claimed basic) e) f
-enters e (Ld k rd rs) r h = let f : rd.number ≡ r = cc in ap (λ n. entered_with n None e) f
-enters e (St k rd rs) r h = cc
-enters e (JmpG rd) r h = cc
-enters e (JmpB rd u) r h = cc
-enters e (BzG rz rd) r h = cc
-enters e (BzB rz rd u) r h = cc
-enters e Halt r h = cc
-enters e (Idx rd rs first m) r h = let f : rd.number ≡ r = cc in ap (λ n. entered_with n None e) f
+enters e i r h = ap (λ w. entered_past w (claimed i) e) h
+
+-- whether registers are free depends on them alone
+free_same : (e f : Entered) (p q : Option ℕ) →
+    ((r : ℕ) → is_one_of p q r ≡ true → finite.get e r ≡ finite.get f r) → both_free e p q ≡ both_free f p q
+free_same e f (Some p) (Some q) same = λ j.
+    not (is_some (same p (or_left (p == p) (q == p) (eq-eqb p p refl)) j))
+    && not (is_some (same q (or_right (p == q) (q == q) (eq-eqb q q refl)) j))
+free_same e f (Some p) None same = λ j. not (is_some (same p (eq-eqb p p refl) j))
+free_same e f None (Some q) same = λ j. not (is_some (same q (eq-eqb q q refl) j))
+free_same e f None None same = refl
 
 -- whether an instruction is passed depends on the registers that it reads
 traced_same : (o : Object) (e f : Entered) (i : Instr) → is_fixed i ≡ false →
     ((r : ℕ) → reads i r ≡ true → finite.get e r ≡ finite.get f r) → is_traced o e i ≡ is_traced o f i
-traced_same o e f (OpReg op rd rs rt) h same = λ j.
-    not (is_some (same rs.number (or_left (rs.number == rs.number) (rt.number == rs.number)
-    (eq-eqb rs.number rs.number refl)) j))
-    && not (is_some (same rt.number (or_right (rs.number == rt.number) (rt.number == rt.number)
-    (eq-eqb rt.number rt.number refl)) j))
-traced_same o e f (OpWord op rd rs value) h same = λ j.
-    not (is_some (same rs.number (eq-eqb rs.number rs.number refl) j))
-traced_same o e f (Mov rd value basic) h same = refl
-traced_same o e f (Ld k rd rs) h same = λ j. not (is_some (same rs.number (eq-eqb rs.number rs.number refl) j))
-traced_same o e f (St k rd rs) h same = λ j.
-    not (is_some (same rd.number (or_left (rd.number == rd.number) (rs.number == rd.number)
-    (eq-eqb rd.number rd.number refl)) j))
-    && not (is_some (same rs.number (or_right (rd.number == rs.number) (rs.number == rs.number)
-    (eq-eqb rs.number rs.number refl)) j))
 traced_same o e f (JmpG rd) h same = cc
 traced_same o e f (JmpB rd u) h same = cc
 traced_same o e f (BzG rz rd) h same = cc
 traced_same o e f (BzB rz rd u) h same = cc
-traced_same o e f Halt h same = cc
-traced_same o e f (Idx rd rs first m) h same = λ j. not (is_some (same rs.number (eq-eqb rs.number rs.number refl) j))
+traced_same o e f i h same = free_same e f (first_read i) (second_read i) same
 
 -- another register stays as it was
 entered_other : (e : Entered) (r : ℕ) (v : Option ℕ) (q : ℕ) → (q == r) ≡ false → finite.get (entered_with r v e) q
@@ -116,7 +88,7 @@ entered_twice e p q v w other = finite.same_map nat_cmp_total nat_cmp-IsAntisymm
 
 -- TWO NEIGHBOURS
 
--- an instruction that leaves a written register alone is passed after the write as before it
+-- an instruction that does not use a written register is passed after the write as before it
 pass_over : (o : Object) (e : Entered) (i w : Instr) (r : ℕ) → is_fixed i ≡ false → written w ≡ Some r →
     leaves_alone i (written w) ≡ true → is_traced o (entered_after w e) i ≡ is_traced o e i
 pass_over o e i w r free wr alone =
@@ -205,7 +177,7 @@ walk_exchanged o e k (i ∷ j ∷ is) zero q a b ea eb m h =
 
 -- TABLES
 
--- the walk looks at the rows of code types alone
+-- the walk looks only at the rows of code types
 target_same : (o : Object) (xs : List Instr) (e : Entered) (u : Option ℕ) → is_free_target (with_instrs o xs) e u
     ≡ is_free_target o e u
 target_same o xs e None = refl
@@ -214,17 +186,9 @@ target_same o xs e (Some t) = refl
 -- so whether an instruction is passed does not depend on the code
 traced_there : (o : Object) (xs : List Instr) (e : Entered) (i : Instr) → is_traced (with_instrs o xs) e i
     ≡ is_traced o e i
-traced_there o xs e (OpReg op rd rs rt) = refl
-traced_there o xs e (OpWord op rd rs value) = refl
-traced_there o xs e (Mov rd value basic) = refl
-traced_there o xs e (Ld k rd rs) = refl
-traced_there o xs e (St k rd rs) = refl
-traced_there o xs e (JmpG rd) = refl
 traced_there o xs e (JmpB rd u) = target_same o xs e (finite.get e rd.number)
-traced_there o xs e (BzG rz rd) = refl
 traced_there o xs e (BzB rz rd u) = ap (λ b. is_free e rz && b) (target_same o xs e (finite.get e rd.number))
-traced_there o xs e Halt = refl
-traced_there o xs e (Idx rd rs first m) = refl
+traced_there o xs e i = refl
 
 -- nor does the walk of a block
 walk_there : (o : Object) (xs : List Instr) (e : Entered) (k : ℕ) (is : List Instr) →

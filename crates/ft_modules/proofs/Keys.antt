@@ -1,13 +1,17 @@
--- Shapes with numbered parts are equal exactly where the trees are.
-use Rattle.std.proofs.Common.{◌≡◌, ℕ, ◌<◌, ◌≤◌, true, false, List, slice_get, Some, refl, sym, ap, ◌∙◌, arith}
+-- Shapes with numbered parts are equal exactly if the trees are.
+use Rattle.std.proofs.Common.{◌≡◌, ℕ, ◌<◌, ◌≤◌, Bool, true, false, List, [], ◌∷◌, map, drop}
+use Rattle.std.proofs.Common.{get_or, slice_get, Some, refl, sym, ap, ◌∙◌, arith, true≢false}
 use Rattle.std.specs.Prelude.{◌↔◌}
-use Rattle.ft_static.specs.Expression.{word, variable, operation, sel, rem, upd, integer, memory}
+use Rattle.std.specs.List.{AllByRecursion}
+use Rattle.ft_static.specs.Expression.{word, integer, memory}
 use Rattle.ft_static.specs.NodeRules.{MayName, IsShape, AreNodes}
+use Rattle.ft_static.specs.NodeParts.{parts}
 use Rattle.ft_static.specs.NodeTree.{integer_part, memory_part, integer_at, memory_at, tree_of, trees, tree_at}
 use Rattle.ft_static.specs.declared.node.Node.{Node}
 use Rattle.ft_static.specs.declared.node.Shape.{Shape}
-use Rattle.ft_static.specs.declared.node.Shape.TheVariants as shape
-use Rattle.ft_static.proofs.NodeTrees.{tree_at-row, integer_named, memory_named}
+use Rattle.ft_static.proofs.NodeParts.{part_tree, part_with, each_listed, one_tree, one_renamed, of_one_renamed}
+use Rattle.ft_static.proofs.NodeTrees.{each_part, parts_named, tree_at-row, integer_named, memory_named}
+use Rattle.ft_static.proofs.SameTrees.{of_one_tree}
 use Rattle.ft_modules.specs.TreeKeys.{number_in, key_of, AreTreeNumbers}
 
 module _ (nodes : List Node) (cs : List ℕ) (n : ℕ) (h : AreNodes nodes) (s : AreTreeNumbers nodes cs n) where
@@ -35,156 +39,57 @@ module _ (nodes : List Node) (cs : List ℕ) (n : ℕ) (h : AreNodes nodes) (s :
             ∙ sym (memory_named nodes j sd b h q)),
       )
 
-  -- equal keys are of equal trees
-  trees_of_keys : (i j sc sd : ℕ) (y z : Shape) → i ≤ n → j ≤ n → IsShape nodes i sc y → IsShape nodes j sd z →
-      key_of cs y ≡ key_of cs z → tree_of (trees nodes) y ≡ tree_of (trees nodes) z
-  trees_of_keys i j sc sd (shape.Word w) (shape.Word v) li lj p q e = (let f : w ≡ v = cc in
-      ap (λ k. integer (word k)) f)
-  trees_of_keys i j sc sd (shape.Word w) (shape.Var k) li lj p q e = cc
-  trees_of_keys i j sc sd (shape.Word w) (shape.Op o a b) li lj p q e = cc
-  trees_of_keys i j sc sd (shape.Word w) (shape.Sel m a) li lj p q e = cc
-  trees_of_keys i j sc sd (shape.Word w) shape.Memory li lj p q e = cc
-  trees_of_keys i j sc sd (shape.Word w) (shape.Upd m a v) li lj p q e = cc
-  trees_of_keys i j sc sd (shape.Word w) (shape.Rem c y) li lj p q e = cc
-  trees_of_keys i j sc sd (shape.Var k) (shape.Word v) li lj p q e = cc
-  trees_of_keys i j sc sd (shape.Var k) (shape.Var l) li lj p q e = (let f : k ≡ l = cc in
-      ap (λ x. integer (variable x)) f)
-  trees_of_keys i j sc sd (shape.Var k) (shape.Op o a b) li lj p q e = cc
-  trees_of_keys i j sc sd (shape.Var k) (shape.Sel m a) li lj p q e = cc
-  trees_of_keys i j sc sd (shape.Var k) shape.Memory li lj p q e = cc
-  trees_of_keys i j sc sd (shape.Var k) (shape.Upd m a v) li lj p q e = cc
-  trees_of_keys i j sc sd (shape.Var k) (shape.Rem c y) li lj p q e = cc
-  trees_of_keys i j sc sd (shape.Op o a b) (shape.Word v) li lj p q e = cc
-  trees_of_keys i j sc sd (shape.Op o a b) (shape.Var l) li lj p q e = cc
-  trees_of_keys i j sc sd (shape.Op o a b) (shape.Op r c d) li lj p q e =
-      let f : o ≡ r = cc in
-      let g : number_in cs a ≡ number_in cs c = cc in
-      let k : number_in cs b ≡ number_in cs d = cc in
-      λ x. integer (operation (f x) ((same_integers i j sc sd a c li lj p.0 q.0).0 g x)
-      ((same_integers i j sc sd b d li lj p.1 q.1).0 k x))
-  trees_of_keys i j sc sd (shape.Op o a b) (shape.Sel m c) li lj p q e = cc
-  trees_of_keys i j sc sd (shape.Op o a b) shape.Memory li lj p q e = cc
-  trees_of_keys i j sc sd (shape.Op o a b) (shape.Upd m c v) li lj p q e = cc
-  trees_of_keys i j sc sd (shape.Op o a b) (shape.Rem c y) li lj p q e = cc
-  trees_of_keys i j sc sd (shape.Sel m a) (shape.Word v) li lj p q e = cc
-  trees_of_keys i j sc sd (shape.Sel m a) (shape.Var l) li lj p q e = cc
-  trees_of_keys i j sc sd (shape.Sel m a) (shape.Op o c d) li lj p q e = cc
-  trees_of_keys i j sc sd (shape.Sel m a) (shape.Sel k c) li lj p q e =
-      let f : number_in cs m ≡ number_in cs k = cc in
-      let g : number_in cs a ≡ number_in cs c = cc in
-      λ x. integer (sel ((same_memories i j sc sd m k li lj p.0 q.0).0 f x)
-      ((same_integers i j sc sd a c li lj p.1 q.1).0 g x))
-  trees_of_keys i j sc sd (shape.Sel m a) shape.Memory li lj p q e = cc
-  trees_of_keys i j sc sd (shape.Sel m a) (shape.Upd k c v) li lj p q e = cc
-  trees_of_keys i j sc sd (shape.Sel m a) (shape.Rem c y) li lj p q e = cc
-  trees_of_keys i j sc sd shape.Memory (shape.Word v) li lj p q e = cc
-  trees_of_keys i j sc sd shape.Memory (shape.Var l) li lj p q e = cc
-  trees_of_keys i j sc sd shape.Memory (shape.Op o c d) li lj p q e = cc
-  trees_of_keys i j sc sd shape.Memory (shape.Sel k c) li lj p q e = cc
-  trees_of_keys i j sc sd shape.Memory shape.Memory li lj p q e = refl
-  trees_of_keys i j sc sd shape.Memory (shape.Upd k c v) li lj p q e = cc
-  trees_of_keys i j sc sd shape.Memory (shape.Rem c y) li lj p q e = cc
-  trees_of_keys i j sc sd (shape.Upd m a u) (shape.Word v) li lj p q e = cc
-  trees_of_keys i j sc sd (shape.Upd m a u) (shape.Var l) li lj p q e = cc
-  trees_of_keys i j sc sd (shape.Upd m a u) (shape.Op o c d) li lj p q e = cc
-  trees_of_keys i j sc sd (shape.Upd m a u) (shape.Sel k c) li lj p q e = cc
-  trees_of_keys i j sc sd (shape.Upd m a u) shape.Memory li lj p q e = cc
-  trees_of_keys i j sc sd (shape.Upd m a u) (shape.Upd k c v) li lj p q e =
-      let f : number_in cs m ≡ number_in cs k = cc in
-      let g : number_in cs a ≡ number_in cs c = cc in
-      let d : number_in cs u ≡ number_in cs v = cc in
-      λ x. memory (upd ((same_memories i j sc sd m k li lj p.0 q.0).0 f x)
-      ((same_integers i j sc sd a c li lj p.1 q.1).0 g x) ((same_integers i j sc sd u v li lj p.2 q.2).0 d x))
-  trees_of_keys i j sc sd (shape.Upd m a u) (shape.Rem c y) li lj p q e = cc
-  trees_of_keys i j sc sd (shape.Rem a x) (shape.Word v) li lj p q e = cc
-  trees_of_keys i j sc sd (shape.Rem a x) (shape.Var l) li lj p q e = cc
-  trees_of_keys i j sc sd (shape.Rem a x) (shape.Op o c d) li lj p q e = cc
-  trees_of_keys i j sc sd (shape.Rem a x) (shape.Sel k c) li lj p q e = cc
-  trees_of_keys i j sc sd (shape.Rem a x) shape.Memory li lj p q e = cc
-  trees_of_keys i j sc sd (shape.Rem a x) (shape.Upd k c v) li lj p q e = cc
-  trees_of_keys i j sc sd (shape.Rem a x) (shape.Rem c y) li lj p q e =
-      let f : x ≡ y = cc in
-      let g : number_in cs a ≡ number_in cs c = cc in
-      λ k. integer (rem ((same_integers i j sc sd a c li lj p.0 q.0).0 g k) (f k))
+  -- a part up to node n, and its number with its sort
+  abbrev Named : Bool × ℕ → Type 0
+  Named p = (i scope : ℕ) × (i ≤ n) × MayName nodes i scope p.0 p.1
 
-  -- equal trees have equal keys
-  keys_of_trees : (i j sc sd : ℕ) (y z : Shape) → i ≤ n → j ≤ n → IsShape nodes i sc y → IsShape nodes j sd z →
-      tree_of (trees nodes) y ≡ tree_of (trees nodes) z → key_of cs y ≡ key_of cs z
-  keys_of_trees i j sc sd (shape.Word w) (shape.Word v) li lj p q e = (let f : w ≡ v = cc in ap shape.Word f)
-  keys_of_trees i j sc sd (shape.Word w) (shape.Var k) li lj p q e = cc
-  keys_of_trees i j sc sd (shape.Word w) (shape.Op o a b) li lj p q e = cc
-  keys_of_trees i j sc sd (shape.Word w) (shape.Sel m a) li lj p q e = cc
-  keys_of_trees i j sc sd (shape.Word w) shape.Memory li lj p q e = cc
-  keys_of_trees i j sc sd (shape.Word w) (shape.Upd m a v) li lj p q e = cc
-  keys_of_trees i j sc sd (shape.Word w) (shape.Rem c y) li lj p q e = cc
-  keys_of_trees i j sc sd (shape.Var k) (shape.Word v) li lj p q e = cc
-  keys_of_trees i j sc sd (shape.Var k) (shape.Var l) li lj p q e = (let f : k ≡ l = cc in ap shape.Var f)
-  keys_of_trees i j sc sd (shape.Var k) (shape.Op o a b) li lj p q e = cc
-  keys_of_trees i j sc sd (shape.Var k) (shape.Sel m a) li lj p q e = cc
-  keys_of_trees i j sc sd (shape.Var k) shape.Memory li lj p q e = cc
-  keys_of_trees i j sc sd (shape.Var k) (shape.Upd m a v) li lj p q e = cc
-  keys_of_trees i j sc sd (shape.Var k) (shape.Rem c y) li lj p q e = cc
-  keys_of_trees i j sc sd (shape.Op o a b) (shape.Word v) li lj p q e = cc
-  keys_of_trees i j sc sd (shape.Op o a b) (shape.Var l) li lj p q e = cc
-  keys_of_trees i j sc sd (shape.Op o a b) (shape.Op r c d) li lj p q e =
-      let f : o ≡ r = cc in
-      let g : integer_at (trees nodes) a ≡ integer_at (trees nodes) c = cc in
-      let k : integer_at (trees nodes) b ≡ integer_at (trees nodes) d = cc in
-      λ x. shape.Op (f x) ((same_integers i j sc sd a c li lj p.0 q.0).1 g x)
-      ((same_integers i j sc sd b d li lj p.1 q.1).1 k x)
-  keys_of_trees i j sc sd (shape.Op o a b) (shape.Sel m c) li lj p q e = cc
-  keys_of_trees i j sc sd (shape.Op o a b) shape.Memory li lj p q e = cc
-  keys_of_trees i j sc sd (shape.Op o a b) (shape.Upd m c v) li lj p q e = cc
-  keys_of_trees i j sc sd (shape.Op o a b) (shape.Rem c y) li lj p q e = cc
-  keys_of_trees i j sc sd (shape.Sel m a) (shape.Word v) li lj p q e = cc
-  keys_of_trees i j sc sd (shape.Sel m a) (shape.Var l) li lj p q e = cc
-  keys_of_trees i j sc sd (shape.Sel m a) (shape.Op o c d) li lj p q e = cc
-  keys_of_trees i j sc sd (shape.Sel m a) (shape.Sel k c) li lj p q e =
-      let f : memory_at (trees nodes) m ≡ memory_at (trees nodes) k = cc in
-      let g : integer_at (trees nodes) a ≡ integer_at (trees nodes) c = cc in
-      λ x. shape.Sel ((same_memories i j sc sd m k li lj p.0 q.0).1 f x)
-      ((same_integers i j sc sd a c li lj p.1 q.1).1 g x)
-  keys_of_trees i j sc sd (shape.Sel m a) shape.Memory li lj p q e = cc
-  keys_of_trees i j sc sd (shape.Sel m a) (shape.Upd k c v) li lj p q e = cc
-  keys_of_trees i j sc sd (shape.Sel m a) (shape.Rem c y) li lj p q e = cc
-  keys_of_trees i j sc sd shape.Memory (shape.Word v) li lj p q e = cc
-  keys_of_trees i j sc sd shape.Memory (shape.Var l) li lj p q e = cc
-  keys_of_trees i j sc sd shape.Memory (shape.Op o c d) li lj p q e = cc
-  keys_of_trees i j sc sd shape.Memory (shape.Sel k c) li lj p q e = cc
-  keys_of_trees i j sc sd shape.Memory shape.Memory li lj p q e = refl
-  keys_of_trees i j sc sd shape.Memory (shape.Upd k c v) li lj p q e = cc
-  keys_of_trees i j sc sd shape.Memory (shape.Rem c y) li lj p q e = cc
-  keys_of_trees i j sc sd (shape.Upd m a u) (shape.Word v) li lj p q e = cc
-  keys_of_trees i j sc sd (shape.Upd m a u) (shape.Var l) li lj p q e = cc
-  keys_of_trees i j sc sd (shape.Upd m a u) (shape.Op o c d) li lj p q e = cc
-  keys_of_trees i j sc sd (shape.Upd m a u) (shape.Sel k c) li lj p q e = cc
-  keys_of_trees i j sc sd (shape.Upd m a u) shape.Memory li lj p q e = cc
-  keys_of_trees i j sc sd (shape.Upd m a u) (shape.Upd k c v) li lj p q e =
-      let f : memory_at (trees nodes) m ≡ memory_at (trees nodes) k = cc in
-      let g : integer_at (trees nodes) a ≡ integer_at (trees nodes) c = cc in
-      let d : integer_at (trees nodes) u ≡ integer_at (trees nodes) v = cc in
-      λ x. shape.Upd ((same_memories i j sc sd m k li lj p.0 q.0).1 f x)
-      ((same_integers i j sc sd a c li lj p.1 q.1).1 g x) ((same_integers i j sc sd u v li lj p.2 q.2).1 d x)
-  keys_of_trees i j sc sd (shape.Upd m a u) (shape.Rem c y) li lj p q e = cc
-  keys_of_trees i j sc sd (shape.Rem a x) (shape.Word v) li lj p q e = cc
-  keys_of_trees i j sc sd (shape.Rem a x) (shape.Var l) li lj p q e = cc
-  keys_of_trees i j sc sd (shape.Rem a x) (shape.Op o c d) li lj p q e = cc
-  keys_of_trees i j sc sd (shape.Rem a x) (shape.Sel k c) li lj p q e = cc
-  keys_of_trees i j sc sd (shape.Rem a x) shape.Memory li lj p q e = cc
-  keys_of_trees i j sc sd (shape.Rem a x) (shape.Upd k c v) li lj p q e = cc
-  keys_of_trees i j sc sd (shape.Rem a x) (shape.Rem c y) li lj p q e =
-      let f : x ≡ y = cc in
-      let g : integer_at (trees nodes) a ≡ integer_at (trees nodes) c = cc in
-      λ k. shape.Rem ((same_integers i j sc sd a c li lj p.0 q.0).1 g k) (f k)
+  abbrev numbered : Bool × ℕ → Bool × ℕ
+  numbered = part_with (number_in cs)
 
-  -- two nodes up to number n have equal keys exactly where their trees are equal
+  -- two parts have one number exactly where they have one tree
+  same_part : (p q : Bool × ℕ) → Named p → Named q → numbered p ≡ numbered q
+      ↔ part_tree (trees nodes) p ≡ part_tree (trees nodes) q
+  same_part (false, a) (false, b) h k = let s = same_integers h.0 k.0 h.1 k.1 a b h.2 k.2 h.3 k.3 in
+      (λ e. ap integer (s.0 (ap (λ (p : Bool × ℕ). p.1) e)), λ e. ap (λ m. (false, m)) (s.1 (ap integer_part e)))
+  same_part (true, a) (true, b) h k = let s = same_memories h.0 k.0 h.1 k.1 a b h.2 k.2 h.3 k.3 in
+      (λ e. ap memory (s.0 (ap (λ (p : Bool × ℕ). p.1) e)), λ e. ap (λ m. (true, m)) (s.1 (ap memory_part e)))
+  same_part (false, a) (true, b) h k = (λ e. absurd (true≢false (sym (ap (λ (p : Bool × ℕ). p.0) e))), λ e. cc)
+  same_part (true, a) (false, b) h k = (λ e. absurd (true≢false (ap (λ (p : Bool × ℕ). p.0) e)), λ e. cc)
+
+  -- so with lists of parts
+  same_parts : (ps qs : List (Bool × ℕ)) → AllByRecursion Named ps → AllByRecursion Named qs → map numbered ps
+      ≡ map numbered qs ↔ map (part_tree (trees nodes)) ps ≡ map (part_tree (trees nodes)) qs
+  same_parts [] [] h k = (λ e. refl, λ e. refl)
+  same_parts [] (q ∷ qs) h k = (λ e. cc, λ e. cc)
+  same_parts (p ∷ ps) [] h k = (λ e. cc, λ e. cc)
+  same_parts (p ∷ ps) (q ∷ qs) h k =
+      let here = same_part p q h.0 k.0 in
+      let rest = same_parts ps qs h.1 k.1 in (
+        λ e. λ i. here.0 (ap (λ zs. get_or zs 0 (false, 0)) e) i ∷ rest.0 (ap (drop 1) e) i,
+        λ e. λ i. here.1 (ap (λ zs. get_or zs 0 (integer (word 0))) e) i ∷ rest.1 (ap (drop 1) e) i,
+      )
+
+  -- the parts of a node up to number n
+  parts_of : (i scope : ℕ) (y : Shape) → i ≤ n → IsShape nodes i scope y → AllByRecursion Named (parts y)
+  parts_of i scope y le h = each_listed (λ b m. Named (b, m)) y (each_part (MayName nodes i scope) (λ b m. Named (b, m))
+      (λ b m k. (i, scope, le, k)) y (parts_named nodes i scope y h))
+
+  -- nodes have one key exactly where they have one tree
+  same_shapes : (i j sc sd : ℕ) (y z : Shape) → i ≤ n → j ≤ n → IsShape nodes i sc y → IsShape nodes j sd z →
+      key_of cs y ≡ key_of cs z ↔ tree_of (trees nodes) y ≡ tree_of (trees nodes) z
+  same_shapes i j sc sd y z li lj p q =
+      let t = same_parts (parts y) (parts z) (parts_of i sc y li p) (parts_of j sd z lj q) in (
+        λ e. let f = of_one_renamed (number_in cs) (number_in cs) y z e in
+            one_tree (trees nodes) (trees nodes) y z f.0 (t.0 f.1),
+        λ e. let f = of_one_tree (trees nodes) (trees nodes) y z e in
+            one_renamed (number_in cs) (number_in cs) y z f.0 (t.1 f.1),
+      )
+
+  -- two nodes up to number n have equal keys exactly if their trees are equal
   pub keys_same : (i j : ℕ) (y z : Node) → i ≤ n → j ≤ n → slice_get nodes i ≡ Some y → slice_get nodes j ≡ Some z →
       key_of cs y.shape ≡ key_of cs z.shape ↔ tree_at nodes i ≡ tree_at nodes j
   keys_same i j y z li lj e f =
       let ti = tree_at-row nodes i y h e in
-      let tj = tree_at-row nodes j z h f in (
-        λ k. ti ∙ trees_of_keys i j y.scope z.scope y.shape z.shape li lj (h.each i y e).shape (h.each j z f).shape k
-            ∙ sym tj,
-        λ k. keys_of_trees i j y.scope z.scope y.shape z.shape li lj (h.each i y e).shape (h.each j z f).shape (sym ti
-            ∙ k ∙ tj),
-      )
+      let tj = tree_at-row nodes j z h f in
+      let s = same_shapes i j y.scope z.scope y.shape z.shape li lj (h.each i y e).shape (h.each j z f).shape in
+      (λ k. ti ∙ s.0 k ∙ sym tj, λ k. s.1 (sym ti ∙ k ∙ tj))

@@ -21,7 +21,7 @@ module _ (modules : List Object) (spelled : (m : ℕ) (o : Object) → slice_get
   abbrev all_nodes : List Node
   all_nodes = laid nodes_part nothing_before modules
 
-  -- a module's nodes stand among them
+  -- a module's nodes are among them
   laid_stand : (m : ℕ) (o : Object) → slice_get modules m ≡ Some o →
       StandIn o.nodes all_nodes (before_of modules m).nodes
   laid_stand m o e n y f = get_among _ _ (before_of modules m).nodes n _

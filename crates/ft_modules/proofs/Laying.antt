@@ -1,4 +1,4 @@
--- Tables laid one after the other: each module's part stands in its place, and nothing else is there.
+-- Tables laid one after the other: each module's part is in its place, and nothing else is there.
 use Rattle.std.proofs.Common.{◌≡◌, ◌⊎◌, inl, inr, ⊎_elim, ℕ, zero, suc, ◌+◌, ◌-◌, ◌≤◌, List, [], ◌∷◌, ◌++◌, length}
 use Rattle.std.proofs.Common.{take, drop, slice_get, Some, None, refl, sym, ap, ◌∙◌, arith}
 use Rattle.std.specs.Prelude.{slice_range, sum_by}
@@ -28,7 +28,7 @@ get_joined (y ∷ xs) ys (suc n) x e = ⊎_elim (λ h. inl h) (λ h. inr (h.0, o
 
 -- PARTS
 
--- a whole with a part in it that begins after so many elements
+-- a whole with a part in it that begins after n elements
 pub record Among {X : Type 0} (whole part : List X) (n : ℕ) : Type 0 where
   pub front : List X
   pub back : List X
@@ -139,7 +139,7 @@ laid_length part size h k [] = refl
 laid_length part size h k (o ∷ os) = length-append (part k o) (laid part (after_module k o) os)
     ∙ (λ i. h k o i + laid_length part size h (after_module k o) os i) ∙ sym (sum_by-cons size o os)
 
--- what stands before the next module
+-- the totals before the next module
 pub before_next : (k : Before) (modules : List Object) (m : ℕ) (o : Object) → slice_get modules m ≡ Some o →
     before_module k modules (suc m) ≡ after_module (before_module k modules m) o
 unfolding before_module

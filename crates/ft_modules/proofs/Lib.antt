@@ -9,6 +9,7 @@ pub mod LinkedRows
 pub mod LinkedBlocks
 pub mod World
 pub mod Arrivals
+pub mod GoTogether
 pub mod LinkedSteps
 pub mod Runs
 pub mod Laying
@@ -16,6 +17,8 @@ pub mod ModuleParts
 pub mod Trees
 pub mod Addresses
 pub mod SentOn
+pub mod ModuleInstrs
+pub mod Landings
 pub mod Placing
 pub mod SpelledLinked
 pub mod LaidNodes

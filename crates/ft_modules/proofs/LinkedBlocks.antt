@@ -82,7 +82,7 @@ start_beside o x to t u l = record {
 
 -- BLOCKS
 
--- the second outcome where the first ends the block
+-- the second outcome if the first ends the block
 pub both_ends : (R : Context → Context → Type 0) (y z : Outcome) → Both R y z → y ≡ Ends → z ≡ Ends
 unfolding Both
 both_ends R (Goes c) z h e = cc
@@ -91,13 +91,13 @@ both_ends R Ends Ends h e = refl
 both_ends R Ends (Fails p) h e = absurd h
 both_ends R (Fails p) z h e = cc
 
--- the second outcome where the first goes on
+-- the second outcome if the first goes on
 pub record GoesBeside (R : Context → Context → Type 0) (c : Context) (z : Outcome) : Type 0 where
   pub context : Context
   pub goes : z ≡ Goes context
   pub beside : R c context
 
--- the second outcome where the first goes on
+-- the second outcome if the first goes on
 pub both_go : (R : Context → Context → Type 0) (y z : Outcome) (c : Context) → Both R y z → y ≡ Goes c →
     GoesBeside R c z
 unfolding Both
@@ -125,7 +125,7 @@ pub walked_first : (o : Object) (e : Entered) (k : ℕ) (i : Instr) (is : List I
 unfolding code_walk
 walked_first o e k i is h = walked_by o e k i is (is_traced o e i) refl h
 
--- where the rows of a module's instructions apply and the walk passes them, those of the linked object's apply
+-- if the rows of a module's instructions apply and the walk passes them, those of the linked object's apply
 pub applies_beside : (o x : Object) (to : ℕ → ℕ × ℕ) → AreSent o x to →
     (e : Entered) (c b : Context) (k : ℕ) (is js : List Instr) → Beside o to e c b → code_walk o e k is ≡ None →
     AllZip (IsInstrOf o x to) is js → Applies o c is → Applies x b js

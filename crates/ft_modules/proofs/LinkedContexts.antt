@@ -31,14 +31,14 @@ use Rattle.ft_modules.specs.Linked.{moves_to}
 use Rattle.ft_modules.proofs.Elements.{get-remove}
 use Rattle.ft_modules.proofs.Both.{Both}
 
--- what is so of a code address of the module: it is a word, it is sent to where a block of such a code type begins
+-- what holds of a code address of the module: it is a word, and it is sent to where a block of such a code type begins
 pub record Sends (o x : Object) (to : ℕ → ℕ × ℕ) (w t : ℕ) : Type 0 where
   pub is_word : IsWord w
   pub sent_word : IsWord (to w).0
   pub there : code_type_at x (to w).0 ≡ Some (to w).1
   pub alike : LikeTypes o t x (to w).1
 
--- two objects with the same cells, of which the one's code addresses are sent to the other's
+-- two objects with the same cells; one's code addresses are sent to the other's
 pub record AreSent (o x : Object) (to : ℕ → ℕ × ℕ) : Type 0 where
   pub cells : x.cells ≡ o.cells
   pub sends : (w t : ℕ) → code_type_at o w ≡ Some t → Sends o x to w t
@@ -111,10 +111,14 @@ some_free None e = refl
 some_free (Some t) e = cc
 
 -- a register that is not entered is known alike
+pub free_at : (o : Object) (to : ℕ → ℕ × ℕ) (e : Entered) (c b : Context) (r : ℕ) → Beside o to e c b →
+    not (is_some (finite.get e r)) ≡ true → typed c r ≡ typed b r
+free_at o to e c b r h f = subst (λ (u : Option ℕ). RegistersBeside o to u (typed c r) (typed b r))
+    (some_free (finite.get e r) f) (h.registers r)
+
 pub free_same : (o : Object) (to : ℕ → ℕ × ℕ) (e : Entered) (c b : Context) (r : Reg) → Beside o to e c b → is_free e r
     ≡ true → typed c r.number ≡ typed b r.number
-free_same o to e c b r h f = subst (λ (u : Option ℕ). RegistersBeside o to u (typed c r.number) (typed b r.number))
-    (some_free (finite.get e r.number) f) (h.registers r.number)
+free_same o to e c b r h f = free_at o to e c b r.number h f
 
 -- a register that is entered
 pub record Target (o : Object) (to : ℕ → ℕ × ℕ) (e : Entered) (c b : Context) (r : Reg) : Type 0 where
@@ -168,7 +172,7 @@ pub entered_get : (e : Entered) (r : ℕ) (v : Option ℕ) (q : ℕ) → finite.
 entered_get e r None q = get-remove e r q
 entered_get e r (Some t) q = get-insert e r t q
 
--- contexts beside each other stay so where a register is written on both sides
+-- contexts beside each other stay so if a register is written on both sides
 pub written : (o : Object) (to : ℕ → ℕ × ℕ) (e : Entered) (c b : Context) (r : ℕ) (v : Option ℕ) (t t' : Typed) →
     Beside o to e c b → RegistersBeside o to v (Some t) (Some t') →
     Beside o to (entered_with r v e) (with_type r t c) (with_type r t' b)
@@ -183,7 +187,7 @@ written o to e c b r v t t' h k = record {
 
 -- THE STATE OF D
 
--- where Zero is wanted
+-- if Zero is required
 pub both_zero : (R : Context → Context → Type 0) (o : Object) (to : ℕ → ℕ × ℕ) (d d' : StateOfD) (x x' : Outcome) →
     DBeside o to d d' → (d ≡ d_zero → d' ≡ d_zero → Both R x x') → Both R (for_zero d x) (for_zero d' x')
 unfolding Both for_zero
@@ -191,7 +195,7 @@ both_zero R o to d_zero d' x x' h k = rw h (k refl h)
 both_zero R o to (d_code t f) d' x x' h k = tt
 both_zero R o to (d_conditional z t f) d' x x' h k = tt
 
--- where Code is wanted
+-- if Code is required
 pub both_target : (R : Context → Context → Type 0) (o : Object) (to : ℕ → ℕ × ℕ) (d d' : StateOfD) (f f' : ℕ →
     Polynomial → Outcome) → DBeside o to d d' → ((w t : ℕ) → code_type_at o w ≡ Some t →
     Both R (f t (constant w)) (f' (to w).1 (constant (to w).0))) → Both R (for_target d f) (for_target d' f')
@@ -200,7 +204,7 @@ both_target R o to d_zero d' f f' h k = tt
 both_target R o to (d_code t p) d' f f' h k = rw (h.form, h.beside) (k h.word t h.address)
 both_target R o to (d_conditional z t p) d' f f' h k = tt
 
--- where Conditional is wanted
+-- if Conditional is required
 pub both_conditional : (R : Context → Context → Type 0) (o : Object) (to : ℕ → ℕ
     × ℕ) (d d' : StateOfD) (f f' : Polynomial → ℕ → Polynomial → Outcome) → DBeside o to d d' →
     ((z : Polynomial) (w t : ℕ) → code_type_at o w ≡ Some t →

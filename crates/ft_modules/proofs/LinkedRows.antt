@@ -1,6 +1,7 @@
 -- The typing rows of a module's instructions beside those of the linked object's.
-use Rattle.std.proofs.Common.{◌≡◌, ℕ, zero, suc, true, ◌&&◌, ◌+◌, List, [], ◌∷◌, ◌++◌, length, map, nat_le, nat_lt}
-use Rattle.std.proofs.Common.{◌==◌, Option, Some, None, refl, sym, ap, ◌∙◌, subst, eq-eqb}
+use Rattle.std.proofs.Common.{◌≡◌, ℕ, zero, suc, Bool, true, false, not, ◌&&◌, ◌||◌, ◌+◌, List, [], ◌∷◌, ◌++◌, length}
+use Rattle.std.proofs.Common.{map, nat_le, nat_lt, ◌==◌, Option, Some, None, is_some, eqb-true, refl, sym, ap, ◌∙◌}
+use Rattle.std.proofs.Common.{subst, eq-eqb}
 use Rattle.std.specs.Prelude.{slice_range}
 use Rattle.std.specs.List.{AllZip}
 use Rattle.std.specs.FinMap as finite
@@ -16,13 +17,14 @@ use Rattle.ft_isa.specs.declared.colour.Coloured.{Coloured}
 use Rattle.ft_isa.specs.declared.reg.Reg.{Reg}
 use Rattle.ft_isa.specs.declared.instr.Subst.{Subst}
 use Rattle.ft_isa.specs.declared.instr.Instr.{Instr}
-use Rattle.ft_isa.specs.declared.instr.Instr.TheVariants.{OpReg, OpWord, Mov, Ld, St, JmpG, JmpB, BzG, BzB, Halt, Idx}
+use Rattle.ft_isa.specs.declared.instr.Instr.TheVariants.{Mov, St, JmpG, JmpB, BzG, BzB, Halt}
+use Rattle.ft_isa.specs.Instructions.{first_read, second_read, is_one_of, written as writes}
 use Rattle.ft_static.specs.Expression.{Valuation, Integer, Memory}
 use Rattle.ft_static.specs.Form.{Polynomial, Updates}
 use Rattle.ft_static.specs.FormOrder.{same_polynomial, same_updates}
 use Rattle.ft_static.specs.FormValue.{value_polynomial}
 use Rattle.ft_static.specs.FormUnder.{norm_under, norm_memory_under}
-use Rattle.ft_static.specs.NormalForm.{constant, norm_sel, norm_upd}
+use Rattle.ft_static.specs.NormalForm.{constant, norm_upd}
 use Rattle.ft_static.proofs.Equal.{equal_polynomials}
 use Rattle.ft_static.proofs.FormsDenote.{value_constant}
 use Rattle.ft_types.specs.declared.object.Object.{Object}
@@ -32,18 +34,21 @@ use Rattle.ft_isa.specs.BasicTypes.{code}
 use Rattle.ft_typing.specs.TypedWord.{cell_of, code_type_at, has_type_over, has_type, is_seen_as, only_referable}
 use Rattle.ft_typing.specs.TypedWord.{common_type, run_type}
 use Rattle.ft_typing.specs.declared.why.Why.TheVariants as premise
+use Rattle.ft_typing.specs.Premise.{Premise}
 use Rattle.ft_typing.specs.Context.{Typed, FormPair, Context, typed, with_type, replacement, Replacement}
 use Rattle.ft_typing.specs.Context.{integer_form_after, memory_form_after}
 use Rattle.ft_typing.specs.TypingRow.{Outcome, same_colour, pending_memory, seen_memory, is_empty, is_like, are_like}
 use Rattle.ft_typing.specs.TypingRow.{is_queue_like, is_annotated, leads, row}
 use Rattle.ft_typing.proofs.TypedWords.{has_type_decides}
-use Rattle.ft_modules.specs.CodeWalk.{Entered, code_over, code_claimed, entered_with, entered_after, is_free}
-use Rattle.ft_modules.specs.CodeWalk.{is_entered, are_free, is_traced}
+use Rattle.ft_modules.specs.CodeWalk.{Entered, code_over, code_claimed, claimed, entered_with, entered_past}
+use Rattle.ft_modules.specs.CodeWalk.{entered_after, is_free, both_free, is_entered, are_free, is_traced}
+use Rattle.ft_exchange.proofs.WriteRows.{gives, write_row, gave, gives_same, gives_there}
 use Rattle.ft_modules.specs.LikeTypes.{SameInteger, SameMemory, SameRow, SamePair, LikeTypes}
 use Rattle.ft_modules.proofs.Both.{Both, both_goes, both_end, both_need, both_typed, both_known, both_ref, both_code}
-use Rattle.ft_modules.proofs.Both.{both_oldest, both_run}
-use Rattle.ft_modules.proofs.LinkedContexts.{AreSent, SameSubst, IsMovOf, IsInstrOf, Beside, free_same, target_there}
-use Rattle.ft_modules.proofs.LinkedContexts.{free_target_there, written, both_zero, both_target, both_conditional}
+use Rattle.ft_modules.proofs.Both.{both_oldest}
+use Rattle.ft_modules.proofs.LinkedContexts.{AreSent, SameSubst, IsMovOf, IsInstrOf, Beside, free_at, free_same}
+use Rattle.ft_modules.proofs.LinkedContexts.{target_there, free_target_there, written, both_zero, both_target}
+use Rattle.ft_modules.proofs.LinkedContexts.{both_conditional}
 
 -- WHAT LEADS TO A CODE TYPE
 
@@ -59,7 +64,7 @@ memory_after_same : (o x : Object) (p : Replacement) (n m : ℕ) → SameMemory 
 unfolding memory_form_after
 memory_after_same o x p n m h = ap (λ (e : Memory). norm_memory_under e p.integers p.memory) h
 
--- registers of which the same is known are like rows that say the same
+-- registers about which the same is known are like rows that say the same
 like_row : (o x : Object) (p : Replacement) (y : Option Typed) (r q : RegType) → SameRow o x r q → is_like o p y r
     ≡ is_like x p y q
 unfolding is_like
@@ -67,7 +72,7 @@ like_row o x p None r q h = refl
 like_row o x p (Some t) r q h = λ i. same_colour t.colour (h.colour i) && is_seen_as t.basic (h.basic i)
     && same_polynomial t.form (after_same o x p r.expr q.expr h.tree i)
 
--- and registers of which the same is known on both sides
+-- and registers about which the same is known on both sides
 like_same : (o x : Object) (p : Replacement) (y z : Option Typed) (r q : RegType) → y ≡ z → SameRow o x r q →
     is_like o p y r ≡ is_like x p z q
 like_same o x p y z r q e h = ap (λ (u : Option Typed). is_like o p u r) e ∙ like_row o x p z r q h
@@ -126,13 +131,13 @@ both_leads R o x to e c b u q t k y z h s l f both =
     ≡ same_updates b.memory (memory_form_after x (replacement x q) (memory_of x k)) =
     (λ i. same_updates (h.memory i) (memory_form_after o (s.forms i) (memory_of o t)))
     ∙ ap (same_updates b.memory) (memory_after_same o x (replacement x q) (memory_of o t) (memory_of x k) l.memory) in
-    both_need R premise.Annotation _ _ _ _ (λ i. (
+    both_need R _ _ _ _ _ (λ i. (
       sym annotated ∙ i,
-      both_need R premise.RegisterUnlike _ _ _ _ (λ j. (
+      both_need R _ _ _ _ _ (λ j. (
         sym rows ∙ j,
-        both_need R premise.QueueUnlike _ _ _ _ (λ m. (
+        both_need R _ _ _ _ _ (λ m. (
           sym queue ∙ m,
-          both_need R premise.MemoryUnlike _ _ _ _ (λ n. (
+          both_need R _ _ _ _ _ (λ n. (
             sym memory ∙ n,
             both,
           )),
@@ -155,7 +160,7 @@ run_same : (o x : Object) (first n : ℕ) → x.cells ≡ o.cells → run_type o
 unfolding run_type
 run_same o x first n e = λ i. only_referable (common_type (map basic_of (slice_range (sym e i) first (first + n))))
 
--- constants are equal where their words are
+-- constants are equal if their words are
 constant_word : (w v : ℕ) → IsWord w → IsWord v → constant w ≡ constant v → w ≡ v
 constant_word w v a b e =
     let s : Valuation = record { integers = []; memory = finite.empty } in
@@ -179,6 +184,10 @@ module _ (o x : Object) (to : ℕ → ℕ × ℕ) (a : AreSent o x to) (e : Ente
     abbrev R : Instr → Context → Context → Type 0
     R i = Beside o to (entered_after i e)
 
+    -- so with rows
+    abbrev B : Instr → Instr → Type 0
+    B i j = Both (R i) (row o c i) (row x b j)
+
     -- a `mov`
     mov_by : (rd : Reg) (v : Coloured) (n : ℕ) (base : Base) (j : Instr) (k : Option ℕ) → code_over n base ≡ k →
         IsMovOf to rd v (record { refs = n; base = base }) j k →
@@ -187,8 +196,7 @@ module _ (o x : Object) (to : ℕ → ℕ × ℕ) (a : AreSent o x to) (e : Ente
     unfolding has_type
     mov_by rd v n base j None g is =
         let basic : Basic = record { refs = n; base = base } in
-        subst (λ (m : Instr). Both (R (Mov rd v basic)) (row o c (Mov rd v basic)) (row x b m)) (sym is)
-        (both_need (R (Mov rd v basic)) premise.BasicType _ _ _ _ (λ t. (
+        subst (B (Mov rd v basic)) (sym is) (both_need (R (Mov rd v basic)) premise.BasicType _ _ _ _ (λ t. (
           has_same o x v.word n base a.cells g t,
           both_goes _ _ _
               (subst (λ (u : Option ℕ). Beside o to (entered_with rd.number u e)
@@ -200,8 +208,8 @@ module _ (o x : Object) (to : ℕ → ℕ × ℕ) (a : AreSent o x to) (e : Ente
     mov_by rd v (suc n) base j (Some t) g is = cc
     mov_by rd v zero (Code u) j (Some t) g is =
         let same : u ≡ t = cc in
-        subst (λ (m : Instr). Both (R (Mov rd v (code u))) (row o c (Mov rd v (code u))) (row x b m)) (sym is)
-        (both_need (R (Mov rd v (code u))) premise.BasicType (has_type o v.word (code u))
+        subst (B (Mov rd v (code u))) (sym is) (both_need (R (Mov rd v (code u))) premise.BasicType
+        (has_type o v.word (code u))
         (has_type x (to v.word).0 (code (to v.word).1)) _ _ (λ k.
         let there : code_type_at o v.word ≡ Some u = (has_type_decides o v.word (code u)).0 k in
         let s = a.sends v.word u there in (
@@ -298,32 +306,50 @@ module _ (o x : Object) (to : ℕ → ℕ × ℕ) (a : AreSent o x to) (e : Ente
     seen_same Green = λ i. pending_memory (h.memory i) (h.queue i)
     seen_same Blue = h.memory
 
+    -- a register that is read and not entered is known alike
+    read_same : (p r : ℕ) → not (is_some (finite.get e p)) ≡ true → (p == r) ≡ true → typed b r ≡ typed c r
+    read_same p r f k = subst (λ n. typed b n ≡ typed c n) (eqb-true p r k) (sym (free_at o to e c b p h f))
+
+    -- so are all registers that are read
+    reads_same : (p q : Option ℕ) → both_free e p q ≡ true → (r : ℕ) → is_one_of p q r ≡ true → typed b r ≡ typed c r
+    reads_same (Some p) (Some q) f r k = by_test (p == r) refl
+      where
+        by_test : (t : Bool) → (p == r) ≡ t → typed b r ≡ typed c r
+        by_test true g = read_same p r (and_parts _ _ f).0 g
+        by_test false g = read_same q r (and_parts _ _ f).1 (ap (λ t. t || (q == r)) (sym g) ∙ k)
+    reads_same (Some p) None f r k = read_same p r f k
+    reads_same None (Some q) f r k = read_same q r f k
+    reads_same None None f r k = cc
+
+    -- a write of what is known on both sides
+    wrote_beside : (i : Instr) (r : ℕ) → writes i ≡ Some r → claimed i ≡ None → (u v : Option Typed) (p q : Premise) → v
+        ≡ u → Both (R i) (write_row r c u p) (write_row r b v q)
+    unfolding write_row Both
+    wrote_beside i r w n (Some t) v p q s = subst (λ y. Both (R i) (write_row r c (Some t) p) (write_row r b y q))
+        (sym s) (subst (λ (y : Entered). Beside o to y (with_type r t c) (with_type r t b))
+        (λ k. entered_past (sym w k) (sym n k) e) (written o to e c b r None t t h refl))
+    wrote_beside i r w n None v p q s = tt
+
+    -- an instruction that writes a register and is no `mov`
+    write_beside : (i : Instr) (r : ℕ) → writes i ≡ Some r → claimed i ≡ None →
+        ((rd : Reg) (v : Coloured) (y : Basic) → i ≡ Mov rd v y → ⊥) →
+        both_free e (first_read i) (second_read i) ≡ true → Both (R i) (row o c i) (row x b i)
+    write_beside i r w n m f =
+        let same : gives x b i ≡ gives o c i = gives_there o x b i (λ k l. sym (run_same o x k l a.cells))
+        (λ rd v y g. absurd (m rd v y g))
+        ∙ gives_same o c b i (reads_same (first_read i) (second_read i) f) (λ k rd rs g. sym (seen_same k)) in
+        let y = gave o c i r w in
+        let z = gave x b i r w in
+        subst (λ k. Both (R i) k (row x b i)) (sym y.row_is)
+        (subst (λ k. Both (R i) (write_row r c (gives o c i) y.failing) k) (sym z.row_is)
+        (wrote_beside i r w n (gives o c i) (gives x b i) y.failing z.failing same))
+
     -- a row of a module's instruction that the walk passes, beside that of the linked object's
     pub row_beside : (i j : Instr) → is_traced o e i ≡ true → IsInstrOf o x to i j →
         Both (Beside o to (entered_after i e)) (row o c i) (row x b j)
-    row_beside (OpReg op rd rs rt) j f is =
-        let p = and_parts _ _ f in
-        subst (λ (m : Instr). Both (R (OpReg op rd rs rt)) (row o c (OpReg op rd rs rt)) (row x b m)) (sym is)
-        (both_typed _ _ _ _ _ (free_same o to e c b rs h p.0) (λ s _.
-        both_typed _ _ _ _ _ (free_same o to e c b rt h p.1) (λ t _.
-        both_need _ premise.Colour _ _ _ _ (λ k. (k, both_goes _ _ _ (written o to e c b rd.number None _ _ h refl))))))
-    row_beside (OpWord op rd rs v) j f is =
-        subst (λ (m : Instr). Both (R (OpWord op rd rs v)) (row o c (OpWord op rd rs v)) (row x b m)) (sym is)
-        (both_typed _ _ _ _ _ (free_same o to e c b rs h f) (λ s _.
-        both_need _ premise.Colour _ _ _ _ (λ k. (k, both_goes _ _ _ (written o to e c b rd.number None _ _ h refl)))))
     row_beside (Mov rd v basic) j f is = mov_by rd v basic.refs basic.base j (code_claimed basic) refl is
-    row_beside (Ld k rd rs) j f is =
-        subst (λ (m : Instr). Both (R (Ld k rd rs)) (row o c (Ld k rd rs)) (row x b m)) (sym is)
-        (both_typed _ _ _ _ _ (free_same o to e c b rs h f) (λ s _. both_need _ premise.Colour _ _ _ _ (λ col. (
-          col,
-          both_ref _ s.basic.refs s.basic.base _ _ (λ y. both_goes _ _ _
-              (written o to e c b rd.number None _ _ h
-              (ap (λ (m : Updates). Some (record { colour = k; basic = y; form = norm_sel m s.form })) (seen_same k)))),
-        ))))
-    row_beside (St Green rd rs) j f is =
-        let p = and_parts _ _ f in
-        subst (λ (m : Instr). Both (R (St Green rd rs)) (row o c (St Green rd rs)) (row x b m)) (sym is)
-        (both_typed _ _ _ _ _ (free_same o to e c b rd h p.0) (λ s _.
+    row_beside (St Green rd rs) j f is = (let p = and_parts _ _ f in
+        subst (B (St Green rd rs)) (sym is) (both_typed _ _ _ _ _ (free_same o to e c b rd h p.0) (λ s _.
         both_typed _ _ _ _ _ (free_same o to e c b rs h p.1) (λ t _. both_need _ premise.Colour _ _ _ _ (λ col. (
           col,
           both_ref _ s.basic.refs s.basic.base _ _ (λ y.
@@ -340,11 +366,9 @@ module _ (o x : Object) (to : ℕ → ℕ × ℕ) (a : AreSent o x to) (e : Ente
                   }),
                 )),
               ))),
-        )))))
-    row_beside (St Blue rd rs) j f is =
-        let p = and_parts _ _ f in
-        subst (λ (m : Instr). Both (R (St Blue rd rs)) (row o c (St Blue rd rs)) (row x b m)) (sym is)
-        (both_typed _ _ _ _ _ (free_same o to e c b rd h p.0) (λ s _.
+        ))))))
+    row_beside (St Blue rd rs) j f is = (let p = and_parts _ _ f in
+        subst (B (St Blue rd rs)) (sym is) (both_typed _ _ _ _ _ (free_same o to e c b rd h p.0) (λ s _.
         both_typed _ _ _ _ _ (free_same o to e c b rs h p.1) (λ t _. both_need _ premise.Colour _ _ _ _ (λ col. (
           col,
           both_ref _ s.basic.refs s.basic.base _ _ (λ y.
@@ -364,22 +388,12 @@ module _ (o x : Object) (to : ℕ → ℕ × ℕ) (a : AreSent o x to) (e : Ente
                   )),
                 ))),
               ))),
-        )))))
-    row_beside (JmpG rd) j f is = subst (λ (m : Instr). Both (R (JmpG rd)) (row o c (JmpG rd)) (row x b m)) (sym is)
-        (jump_green_row rd f)
-    row_beside (JmpB rd u) j f is = subst (λ (m : Instr). Both (R (JmpB rd u)) (row o c (JmpB rd u)) (row x b m))
-        (sym is.1) (jump_blue_row rd u is.0 is.2 f)
+        ))))))
+    row_beside (JmpG rd) j f is = subst (B (JmpG rd)) (sym is) (jump_green_row rd f)
+    row_beside (JmpB rd u) j f is = subst (B (JmpB rd u)) (sym is.1) (jump_blue_row rd u is.0 is.2 f)
     row_beside (BzG rz rd) j f is = (let p = and_parts _ _ f in
-        subst (λ (m : Instr). Both (R (BzG rz rd)) (row o c (BzG rz rd)) (row x b m)) (sym is)
-        (branch_green_row rz rd p.0 p.1))
-    row_beside (BzB rz rd u) j f is = subst (λ (m : Instr). Both (R (BzB rz rd u)) (row o c (BzB rz rd u)) (row x b m))
-        (sym is.1) (branch_blue_row rz rd u is.0 is.2 f)
-    row_beside Halt j f is =
-        subst (λ (m : Instr). Both (R Halt) (row o c Halt) (row x b m)) (sym is)
-        (both_zero _ o to c.d b.d _ _ h.d (λ _ _. both_need _ premise.QueueUnlike _ _ _ _ (λ k.
-        (ap is_empty (sym h.queue) ∙ k, both_end _))))
-    row_beside (Idx rd rs first n) j f is =
-        subst (λ (m : Instr). Both (R (Idx rd rs first n)) (row o c (Idx rd rs first n)) (row x b m)) (sym is)
-        (both_typed _ _ _ _ _ (free_same o to e c b rs h f) (λ s _.
-        both_run _ _ _ _ _ (run_same o x first n a.cells) (λ y.
-        both_goes _ _ _ (written o to e c b rd.number None _ _ h refl))))
+        subst (B (BzG rz rd)) (sym is) (branch_green_row rz rd p.0 p.1))
+    row_beside (BzB rz rd u) j f is = subst (B (BzB rz rd u)) (sym is.1) (branch_blue_row rz rd u is.0 is.2 f)
+    row_beside Halt j f is = subst (B Halt) (sym is) (both_zero _ o to c.d b.d _ _ h.d (λ _ _.
+        both_need _ premise.QueueUnlike _ _ _ _ (λ k. (ap is_empty (sym h.queue) ∙ k, both_end _))))
+    row_beside i j f is = subst (B i) (sym is) (write_beside i _ refl refl (λ rd v y g. cc) f)

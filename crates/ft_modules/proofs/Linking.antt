@@ -31,7 +31,7 @@ linked_runs linkage first others h n =
     (begin_together (first ∷ others) (links linkage) x spelled accepted w first refl
     (first_found linkage first others h) (first_sent linkage first others h)) n
 
--- a struck run of the linked object against the modules' run, whatever answers to wild loads there are
+-- a struck run of the linked object against the modules' run, whatever the answers to wild loads
 pub linked_tolerant : (linkage : LinkMap) (first : Object) (others : List Object) (strike : Option Strike)
     (w : List Wild) (n : ℕ) → AreLinkable linkage first others →
     Agrees (outputs_after (linked linkage first others) strike w n)

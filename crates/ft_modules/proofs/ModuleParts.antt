@@ -1,4 +1,4 @@
--- A module in the linked object: its parts stand there with their numbers raised.
+-- A module in the linked object: its parts are there with their numbers raised.
 use Rattle.std.proofs.Common.{◌≡◌, ℕ, zero, suc, ◌+◌, ◌-◌, ◌≤◌, List, [], ◌∷◌, length, map, take, drop, slice_get}
 use Rattle.std.proofs.Common.{Option, Some, None, refl, sym, ap, ◌∙◌, arith}
 use Rattle.std.specs.Prelude.{slice_range}
@@ -76,7 +76,7 @@ among_all part offset z grows modules m o e =
 abbrev pub linked_instr : List Change → Before → Instr → Instr
 linked_instr cs k i = changed_instr cs (raised_instr k i)
 
--- where the parts of a module stand
+-- where the parts of a module are
 pub record Sits (o x : Object) (k : Before) (cs : List Change) : Type 0 where
   pub nodes : (n : ℕ) (y : Node) → slice_get o.nodes n ≡ Some y → slice_get x.nodes (k.nodes + n)
       ≡ Some (raised_node k.nodes y)

@@ -133,7 +133,7 @@ cells_of cs = tabulate (length cs) cell_address (λ k. init_or_zero (option_map 
 starts_valuation : (o x : Object) → x.cells ≡ o.cells → (start_place o).valuation ≡ (start_place x).valuation
 starts_valuation o x e = λ i. record { integers = []; memory = cells_of (sym e i) }
 
--- the first states are together, where the first module's entry block is sent to the linked object's
+-- the first states are together, if the first module's entry block is sent to the linked object's
 pub begin_together : (modules : List Object) (joins : List Link) (x : Object) → IsSpellable x → IsAccepted x →
     (world : World modules joins x) (first : Object) (there : slice_get modules 0 ≡ Some first) →
     block_at first (entry_address first) ≡ Some (entry_block first) →

@@ -73,7 +73,7 @@ like_through a b c t u v h k = record {
 
 -- OFFSETS
 
--- a later module's instructions come after what stands first
+-- a later module's instructions come after those before it
 least_before : (k : Before) (modules : List Object) (m : ℕ) → k.instrs ≤ (before_module k modules m).instrs
 unfolding before_module
 least_before k [] m = omega arith

@@ -20,6 +20,8 @@ use Rattle.ft_static.specs.NodeRules.{is_memory, MayName, IsShape, IsNode}
 use Rattle.ft_static.specs.declared.node.Node.{Node}
 use Rattle.ft_static.specs.declared.node.Shape.{Shape}
 use Rattle.ft_static.specs.declared.node.Shape.TheVariants as shape
+use Rattle.ft_static.proofs.NodeParts.{shape_renamed}
+use Rattle.ft_static.proofs.NodeTrees.{each_part, parts_named}
 use Rattle.ft_types.specs.declared.object.Object.{Object}
 use Rattle.ft_types.specs.declared.object.Block.{Block}
 use Rattle.ft_types.specs.declared.object.CodeType.{CodeType}
@@ -41,12 +43,7 @@ use Rattle.ft_modules.proofs.Trees.{StandIn, get-drop}
 -- a raised node is of the same sort
 raised_sort : (k : ℕ) (y : Shape) → is_memory (raised_shape k y) ≡ is_memory y
 raised_sort k (shape.Word w) = refl
-raised_sort k (shape.Var i) = refl
-raised_sort k (shape.Op o a b) = refl
-raised_sort k (shape.Sel m a) = refl
-raised_sort k shape.Memory = refl
-raised_sort k (shape.Upd m a v) = refl
-raised_sort k (shape.Rem a n) = refl
+raised_sort k y = refl
 
 -- a node that may be named, raised
 pub raised_name : (ns ms : List Node) (k n j scope : ℕ) (b : Bool) (m : ℕ) → StandIn ns ms k → k + n ≤ j →
@@ -62,26 +59,8 @@ raised_name ns ms k n j scope b m s le h = record {
 -- the parts of a raised node may be named
 raised_parts : (ns ms : List Node) (k n scope : ℕ) (y : Shape) → StandIn ns ms k → IsShape ns n scope y →
     IsShape ms (k + n) scope (raised_shape k y)
-raised_parts ns ms k n scope (shape.Word w) s h = h
-raised_parts ns ms k n scope (shape.Var i) s h = h
-raised_parts ns ms k n scope (shape.Op o a b) s h = (
-  raised_name ns ms k n (k + n) scope false a s (omega arith) h.0,
-  raised_name ns ms k n (k + n) scope false b s (omega arith) h.1,
-)
-raised_parts ns ms k n scope (shape.Sel m a) s h = (
-  raised_name ns ms k n (k + n) scope true m s (omega arith) h.0,
-  raised_name ns ms k n (k + n) scope false a s (omega arith) h.1,
-)
-raised_parts ns ms k n scope shape.Memory s h = tt
-raised_parts ns ms k n scope (shape.Upd m a v) s h = (
-  raised_name ns ms k n (k + n) scope true m s (omega arith) h.0,
-  raised_name ns ms k n (k + n) scope false a s (omega arith) h.1,
-  raised_name ns ms k n (k + n) scope false v s (omega arith) h.2,
-)
-raised_parts ns ms k n scope (shape.Rem a m) s h = (
-  raised_name ns ms k n (k + n) scope false a s (omega arith) h.0,
-  h.1,
-)
+raised_parts ns ms k n scope y s h = shape_renamed ns ms n (k + n) scope (λ m. k + m) y h (each_part _ _
+    (λ b m. raised_name ns ms k n (k + n) scope b m s (omega arith)) y (parts_named ns n scope y h))
 
 -- a raised node obeys the rules
 pub raised_is_node : (ns ms : List Node) (k n : ℕ) (y : Node) → StandIn ns ms k → IsNode ns n y →
@@ -99,7 +78,7 @@ base_more t u (Code n) le h = omega (arith, le, h)
 pub basic_more : (t u : ℕ) (b : Basic) → t ≤ u → IsBasic t b → IsBasic u b
 basic_more t u b le h = record { refs = h.refs; base = base_more t u b.base le h.base }
 
--- raised rows rise as before
+-- raised rows increase as before
 rows_rise : (k least : ℕ) (rs : List RegType) → AreRising least rs → AreRising least (map (raised_row k) rs)
 rows_rise k least [] h = tt
 rows_rise k least (r ∷ rs) h = (h.0, rows_rise k (suc r.reg.number) rs h.1)
@@ -184,7 +163,7 @@ blocks_laid end k (o ∷ os) s fit =
     (omega arith) (omega arith) (omega (arith, sum, fit))
     (blocks_laid end (after_module k o) os (λ m z e. s (suc m) z e) (omega (arith, sum, fit)))
 
--- blocks of which the first begins at instruction 0
+-- blocks the first of which begins at instruction 0
 pub begin_at_zero : (bs : List Block) (y : Block) → slice_get bs 0 ≡ Some y → y.start ≡ 0 → BeginAtZero bs
 begin_at_zero [] y e z = cc
 begin_at_zero (b ∷ bs) y e z = let same : b ≡ y = cc in ap (λ (k : Block). k.start) same ∙ z

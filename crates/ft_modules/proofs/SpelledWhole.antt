@@ -35,7 +35,8 @@ use Rattle.ft_modules.proofs.Elements.{all_of}
 use Rattle.ft_modules.proofs.Addresses.{within_blocks}
 use Rattle.ft_modules.proofs.LaidNodes.{laid_nodes}
 use Rattle.ft_modules.proofs.Laying.{whence, laid_length}
-use Rattle.ft_modules.proofs.Placing.{typed_moves, start_there, type_there}
+use Rattle.ft_modules.proofs.ModuleInstrs.{typed_moves}
+use Rattle.ft_modules.proofs.Landings.{start_there, type_there}
 use Rattle.ft_modules.proofs.ModuleParts.{of_nodes, of_types, of_blocks, of_instrs, of_substs, nodes_grow, types_grow}
 use Rattle.ft_modules.proofs.ModuleParts.{blocks_grow, instrs_grow, substs_grow, among_all, linked_instr, Sits, sits}
 use Rattle.ft_modules.proofs.ModuleParts.{first_block}
@@ -62,7 +63,7 @@ table_within part offset z grows modules m o e n f =
     let l2 = length-append (part (before_of modules m) o) a.back in
     omega (arith, long, whole, l1, l2, f)
 
--- nothing stands before the first module
+-- before the first module, all totals are 0
 pub none_before_first : (first : Object) (others : List Object) → before_of (first ∷ others) 0 ≡ nothing_before
 unfolding before_module
 none_before_first first others = refl
@@ -86,7 +87,7 @@ module _ (linkage : LinkMap) (first : Object) (others : List Object) (h : AreLin
   spelled_module : (m : ℕ) (o : Object) → slice_get modules m ≡ Some o → IsSpellable o
   spelled_module m o e = (is_module m o e).spelled
 
-  -- where its parts stand
+  -- where its parts are
   place_of : (m : ℕ) (o : Object) → slice_get modules m ≡ Some o → Sits o x (before_of modules m) cs
   place_of m o e = sits linkage first others m o e spelled_module
 

@@ -10,8 +10,7 @@ use Rattle.ft_static.specs.NodeRules.{MayName, IsShape, AreNodes}
 use Rattle.ft_static.specs.NodeTree.{integer_part, memory_part, integer_at, memory_at, tree_of, trees, tree_at}
 use Rattle.ft_static.specs.declared.node.Node.{Node}
 use Rattle.ft_static.specs.declared.node.Shape.{Shape}
-use Rattle.ft_static.specs.declared.node.Shape.TheVariants as shape
-use Rattle.ft_static.proofs.NodeTrees.{tree_at-row}
+use Rattle.ft_static.proofs.NodeTrees.{each_part, parts_named, tree_of-renamed, tree_at-row}
 use Rattle.ft_isa.specs.declared.instr.Subst.{Subst}
 use Rattle.ft_isa.proofs.Lists.{all_there}
 use Rattle.ft_types.specs.declared.object.Object.{Object}
@@ -30,7 +29,7 @@ use Rattle.ft_modules.proofs.ModuleParts.{Sits}
 
 -- TREES
 
--- nodes of which the ones stand among the others, so many further
+-- nodes that are among others, k places further
 abbrev pub StandIn : List Node → List Node → ℕ → Type 0
 StandIn ns ms k = (n : ℕ) (y : Node) → slice_get ns n ≡ Some y → slice_get ms (k + n) ≡ Some (raised_node k y)
 
@@ -38,19 +37,8 @@ StandIn ns ms k = (n : ℕ) (y : Node) → slice_get ns n ≡ Some y → slice_g
 raised_tree : (ns ms : List Node) (k n scope : ℕ) (y : Shape) → IsShape ns n scope y →
     ((m : ℕ) (z : Node) → m < n → slice_get ns m ≡ Some z → tree_at ms (k + m) ≡ tree_at ns m) →
     tree_of (trees ms) (raised_shape k y) ≡ tree_of (trees ns) y
-raised_tree ns ms k n scope y p lower = go y p
-  where
-    same : (b : Bool) (m : ℕ) → MayName ns n scope b m → tree_at ms (k + m) ≡ tree_at ns m
-    same b m h = lower m h.node h.lower h.found
-
-    go : (z : Shape) → IsShape ns n scope z → tree_of (trees ms) (raised_shape k z) ≡ tree_of (trees ns) z
-    go (shape.Word w) p = refl
-    go (shape.Var i) p = refl
-    go (shape.Op o a b) p = rw (same false a p.0, same false b p.1) refl
-    go (shape.Sel m a) p = rw (same true m p.0, same false a p.1) refl
-    go shape.Memory p = refl
-    go (shape.Upd m a v) p = rw (same true m p.0, same false a p.1, same false v p.2) refl
-    go (shape.Rem a n) p = rw (same false a p.0) refl
+raised_tree ns ms k n scope y p lower = tree_of-renamed (trees ms) (trees ns) (λ m. k + m) y
+    (each_part (MayName ns n scope) _ (λ b m h. lower m h.node h.lower h.found) y (parts_named ns n scope y p))
 
 -- the tree of a raised node below a bound
 tree_below : (ns ms : List Node) (k bound n : ℕ) (y : Node) → AreNodes ns → AreNodes ms → StandIn ns ms k → n < bound →
@@ -97,7 +85,7 @@ range_get xs a b j y e = sym (get-drop xs a j) ∙ get-take (drop a xs) (b - a) 
 
 module _ (o x : Object) (k : Before) (cs : List Change) (spelled : IsSpellable o) (nodes : AreNodes x.nodes)
     (s : Sits o x k cs) where
-  -- a node that is named stands for the same
+  -- a node that is referred to stands for the same
   pub named_tree : (scope : ℕ) (b : Bool) (bound n : ℕ) → MayName o.nodes bound scope b n →
       tree_at x.nodes (k.nodes + n) ≡ tree_at o.nodes n
   named_tree scope b bound n h = tree_raised o.nodes x.nodes k.nodes n h.node spelled.nodes nodes s.nodes h.found

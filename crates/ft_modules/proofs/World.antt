@@ -1,4 +1,4 @@
--- What the run needs of modules and of the object that they are linked to, and when a module's state stands beside one
+-- What the run needs of modules and of the object that they are linked to, and when a module's state corresponds to one
 -- of the linked object's.
 use Rattle.std.proofs.Common.{◌≡◌, inl, ℕ, zero, suc, ◌+◌, ◌-◌, Bool, true, false, cond, ◌==◌, List, [], ◌∷◌, drop}
 use Rattle.std.proofs.Common.{slice_get, Option, Some, None, refl, sym, ap, ◌∙◌, subst, arith}
@@ -41,7 +41,7 @@ use Rattle.ft_modules.specs.ModulesRun.{InModule, sent}
 use Rattle.ft_modules.proofs.LinkedContexts.{AreSent, IsInstrOf, Beside}
 use Rattle.ft_modules.proofs.LinkedBlocks.{starts_same}
 
--- what stands before module m
+-- the totals before module m
 abbrev pub before_of : List Object → ℕ → Before
 before_of modules m = before_module nothing_before modules m
 
@@ -50,7 +50,7 @@ abbrev pub at_address : ℕ → State → State
 at_address a s = record s { pc_green = a; pc_blue = a }
 
 -- where a machine that comes to block y of module m goes on: a block of a module, of a code type that says the same,
--- which stands at address a of the linked object
+-- which is at address a of the linked object
 pub record Lands (modules : List Object) (joins : List Link) (x : Object) (m : ℕ) (o : Object) (a w : ℕ) (y : Block) :
     Type 0 where
   pub number : ℕ
@@ -120,7 +120,7 @@ pub record Stands (modules : List Object) (joins : List Link) (x : Object) (worl
   pub values : place.valuation ≡ other.valuation
   pub fetched : SameFetched a.state.fetched t.fetched
 
--- a state of the modules' run before it is sent on, beside one of the linked object's run
+-- a state of the modules' run before it is sent on, with the corresponding one of the linked object's run
 pub data AreTogether (modules : List Object) (joins : List Link) (x : Object) (world : World modules joins x)
     (a : InModule) (t : State) : Type 0 where
   both_ended : a.state.status ≡ Done → t.status ≡ Done → AreTogether modules joins x world a t

@@ -30,7 +30,7 @@ caller = record (one_block 0 jumps_to_stub) { blocks = record { start = 0; code_
 abbrev pub storer : Object
 storer = one_block 0 stores_five
 
--- a module of which the entry block is its stub
+-- a module whose entry block is its stub
 abbrev pub only_stub : Object
 only_stub = one_block 0 (Halt ∷ [])
 
@@ -42,7 +42,7 @@ go m b l = record { «module» = m; block = b; name = codes "go"; line = l }
 abbrev pub importing : ℕ → LinkMap
 importing b = record { files = codes "m" ∷ codes "a" ∷ []; exports = go 1 0 4 ∷ []; imports = go 0 b 2 ∷ [] }
 
--- a module that hands its own code address over as a number: its word is put for the target's variable
+-- a module that passes its own code address on as a number: its word is substituted for the target's variable
 abbrev pub hands_address_over : Object
 hands_address_over = record {
   cells = int_cell (codes "out") 0 ∷ [];
@@ -64,7 +64,7 @@ stores_address =
 abbrev pub no_links : LinkMap
 no_links = record { files = codes "m" ∷ codes "a" ∷ []; exports = []; imports = [] }
 
--- a module with the remainder of a variable among its nodes, that takes the address of a cell of a run
+-- a module with the remainder of a variable among its nodes, which takes the address of a cell of a run
 abbrev pub names_cell : Object
 names_cell = record (one_block 0 (takes_address 0 1)) {
   nodes = record { scope = 0; shape = shape.Memory } ∷ record { scope = 1; shape = shape.Var 0 } ∷ record { scope = 1; shape = shape.Rem 1 1 } ∷ [];
@@ -74,7 +74,7 @@ names_cell = record (one_block 0 (takes_address 0 1)) {
 abbrev pub indexes_by_address : List Instr
 indexes_by_address = Mov r1 (green 1) (code 0) ∷ Idx r2 r1 0 1 ∷ Halt ∷ []
 
--- a module of which a code type says that a register holds a code address, and one of which a cell holds one
+-- a module with a code type that says that a register holds a code address
 abbrev pub knows_address : Object
 knows_address = record storer { types = record nothing_known { regs = record { reg = r0; colour = Green; basic = code 0; expr = 0 } ∷ [] } ∷ [] }
 
@@ -82,7 +82,7 @@ knows_address = record storer { types = record nothing_known { regs = record { r
 abbrev pub holds_address : Object
 holds_address = record storer { cells = record { name = codes "out"; basic = code 0; init = 1 } ∷ [] }
 
--- the machine of a module, with the counters at these addresses and this fetched
+-- the machine of a module, with the counters at these addresses and this fetched instruction
 abbrev pub machine_at : ℕ → ℕ → ℕ → Option Instr → InModule
 machine_at m g b f = record { number = m; state = record (start caller) { pc_green = g; pc_blue = b; fetched = f } }
 

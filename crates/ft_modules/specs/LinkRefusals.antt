@@ -58,7 +58,7 @@ is_plain_cell c = is_int c.basic.base
 abbrev pub is_plain_row : RegType → Bool
 is_plain_row r = is_int r.basic.base
 
--- whether a code type's rows all are so
+-- whether all of a code type's register rows have base `int`
 abbrev pub has_plain_rows : CodeType → Bool
 has_plain_rows t = list_all is_plain_row t.regs
 
@@ -78,11 +78,11 @@ are_few modules =
     && nat_le (sum_by (λ (o : Object). length o.instrs) modules) 65536
     && nat_le (sum_by (λ (o : Object). length o.substs) modules) 1048576
 
--- a refusal where a test fails
+-- a refusal if a test fails
 abbrev pub unless : Bool → LinkRefusal → Option LinkRefusal
 unless b r = if b then None else Some r
 
--- module m, which is added to modules of which the first has these cells
+-- why module m is refused if it is added to modules the first of which has these cells
 abbrev pub module_refusal : List Object → ℕ → List Cell → Object → Option LinkRefusal
 module_refusal earlier m cells o =
     option_or (unless (same_cells o.cells cells && list_all is_plain_cell o.cells) (Cells m)) (
@@ -130,7 +130,7 @@ is_stub (i ∷ j ∷ js) = false
 abbrev pub instrs_in : List Object → ℕ → ℕ → List Instr
 instrs_in modules m b = unwrap_or (option_map (λ (o : Object). block_instrs o b) (slice_get modules m)) []
 
--- whether code types t and u of two modules that are there say the same
+-- whether code types t and u of two modules exist and say the same
 abbrev pub like_in : Option Object → ℕ → Option Object → ℕ → Bool
 like_in (Some o) t (Some x) u = like_types o t x u
 like_in (Some o) t None u = false
@@ -141,7 +141,7 @@ abbrev pub for_export : List Object → Ask → Option Ask → Option LinkRefusa
 for_export modules i None = Some (Missing i.line)
 for_export modules i (Some e) = unless (like_in (slice_get modules i.module) (type_in modules i.module i.block) (slice_get modules e.module) (type_in modules e.module e.block)) (Types i.line)
 
--- why an import is refused: its block is no stub, its name is not exported, or the code types differ
+-- why an import is refused: its block is not a stub, its name is not exported, or the code types differ
 abbrev pub import_refusal : List Object → List Ask → Ask → Option LinkRefusal
 import_refusal modules exports i = option_or (unless (is_stub (instrs_in modules i.module i.block)) (Stub i.line)) (for_export modules i (export_of exports i.name))
 

@@ -25,11 +25,11 @@ HasPlainCell c = c.basic.base ≡ Int
 abbrev pub HasPlainRow : RegType → Type 0
 HasPlainRow r = r.basic.base ≡ Int
 
--- those of a code type are
+-- the bases of a code type's register rows are `int`
 abbrev pub HasPlainRows : CodeType → Type 0
 HasPlainRows t = All HasPlainRow t.regs
 
--- a module that is added to modules with these cells: refusals 3, 4 and 5
+-- a module that is added to modules with these cells: refusals 3, 4 and 5 do not apply
 pub record IsModule (cells : List Cell) (o : Object) : Type 0 where
   pub spelled : IsSpellable o
   pub accepted : IsAccepted o
@@ -54,7 +54,7 @@ pub record HasBlock (modules : List Object) (m b : ℕ) : Type 0 where
   pub there : slice_get modules m ≡ Some object
   pub below : b < length object.blocks
 
--- refusals 7, 8 and 10 of an import and the export of its name: both blocks are there, the imported one is a stub, and
+-- refusals 7, 8 and 10 of an import and the export of its name: both blocks exist, the imported one is a stub, and
 -- their code types say the same
 pub record IsJoined (modules : List Object) (l : Link) : Type 0 where
   pub from : HasBlock modules l.module_of l.block

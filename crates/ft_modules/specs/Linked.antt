@@ -1,5 +1,5 @@
--- The object that a map links of modules: their tables one after the other, with the numbers raised, and then the moves
--- of imported addresses changed.
+-- The object that a map makes of modules: their tables concatenated, references renumbered, and `mov`s of imported
+-- addresses redirected.
 use Rattle.std.specs.Prelude.{ℕ, zero, suc, ◌+◌, ◌==◌, ◌&&◌, List, [], ◌∷◌, ◌++◌, length, map, find, Option, Some, None}
 use Rattle.ft_isa.specs.Words.{code_address}
 use Rattle.ft_isa.specs.declared.basic.Basic.{Basic}
@@ -8,9 +8,9 @@ use Rattle.ft_isa.specs.declared.reg.Reg.{Reg}
 use Rattle.ft_isa.specs.declared.instr.Subst.{Subst}
 use Rattle.ft_isa.specs.declared.instr.Instr.{Instr}
 use Rattle.ft_isa.specs.declared.instr.Instr.TheVariants.{Mov, JmpB, BzB}
+use Rattle.ft_static.specs.NodeParts.{renamed}
 use Rattle.ft_static.specs.declared.node.Node.{Node}
 use Rattle.ft_static.specs.declared.node.Shape.{Shape}
-use Rattle.ft_static.specs.declared.node.Shape.TheVariants as shape
 use Rattle.ft_types.specs.declared.object.Object.{Object}
 use Rattle.ft_types.specs.declared.object.Block.{Block}
 use Rattle.ft_types.specs.declared.object.CodeType.{CodeType}
@@ -23,11 +23,11 @@ use Rattle.ft_modules.specs.Links.{Link, links, start_in, type_in}
 
 -- RAISED NUMBERS
 
--- nothing stands before the first module
+-- before the first module, all totals are 0
 abbrev pub nothing_before : Before
 nothing_before = record { nodes = 0; types = 0; blocks = 0; instrs = 0; substs = 0 }
 
--- what stands before the next module
+-- the totals before the next module
 abbrev pub after_module : Before → Object → Before
 after_module k o = record {
   nodes = k.nodes + length o.nodes;
@@ -37,21 +37,15 @@ after_module k o = record {
   substs = k.substs + length o.substs;
 }
 
--- what stands before module m
+-- the totals before module m
 unfoldable pub before_module : Before → List Object → ℕ → Before
 before_module k [] m = k
 before_module k (o ∷ os) zero = k
 before_module k (o ∷ os) (suc m) = before_module (after_module k o) os m
 
--- a node whose parts are so many nodes further
+-- a node whose parts are raised by this many nodes
 abbrev pub raised_shape : ℕ → Shape → Shape
-raised_shape n (shape.Word w) = shape.Word w
-raised_shape n (shape.Var i) = shape.Var i
-raised_shape n (shape.Op op a b) = shape.Op op (n + a) (n + b)
-raised_shape n (shape.Sel m a) = shape.Sel (n + m) (n + a)
-raised_shape n shape.Memory = shape.Memory
-raised_shape n (shape.Upd m a v) = shape.Upd (n + m) (n + a) (n + v)
-raised_shape n (shape.Rem a m) = shape.Rem (n + a) m
+raised_shape n x = renamed (λ k. n + k) x
 
 -- a node, with the same scope
 abbrev pub raised_node : ℕ → Node → Node
@@ -86,7 +80,7 @@ abbrev pub raised_mov : Before → Reg → Coloured → Basic → Option ℕ →
 raised_mov k rd x b None = Mov rd x b
 raised_mov k rd x b (Some t) = moves_to rd x (k.instrs + x.word) (k.types + t)
 
--- an instruction of a module; the cells that an `idx` names are the same in all modules
+-- an instruction of a module; the cells that an `idx` selects from are the same in all modules
 abbrev pub raised_instr : Before → Instr → Instr
 raised_instr k (Mov rd value basic) = raised_mov k rd value basic (code_claimed basic)
 raised_instr k (JmpB rd subst) = JmpB rd (raised_subst k subst)
@@ -95,7 +89,7 @@ raised_instr k i = i
 
 -- CHANGED MOVES
 
--- a code address that is sent to another, where a block of this code type begins
+-- a code address that is redirected to another, where a block of this code type begins
 pub record Change : Type 0 where
   pub from : ℕ
   pub to : ℕ
@@ -109,7 +103,7 @@ change_of modules l = record {
   code_type = (before_module nothing_before modules l.to_module).types + type_in modules l.to_module l.to_block;
 }
 
--- the change of an address, where there is one
+-- the change of an address, if there is one
 abbrev pub change_at : List Change → ℕ → Option Change
 change_at changes w = find (λ (c : Change). w == c.from) changes
 
@@ -130,7 +124,7 @@ changed_instr changes i = i
 
 -- THE LINKED OBJECT
 
--- a table of the linked object: each module's part, made with what stands before it
+-- a table of the linked object: each module's part, made with the totals before it
 unfoldable pub laid : {X : Type 0} → (Before → Object → List X) → Before → List Object → List X
 laid part k [] = []
 laid part k (o ∷ os) = part k o ++ laid part (after_module k o) os
@@ -155,7 +149,7 @@ instrs_part k o = map (raised_instr k) o.instrs
 abbrev pub substs_part : Before → Object → List ℕ
 substs_part k o = map (λ n. k.nodes + n) o.substs
 
--- the entry: the first module's entry block, or the exported block where that is imported
+-- the entry: the first module's entry block, or the exported block if that one is imported
 abbrev pub entry_by : List Object → ℕ → Option Link → ℕ
 entry_by modules entry None = entry
 entry_by modules entry (Some l) = (before_module nothing_before modules l.to_module).blocks + l.to_block

@@ -1,4 +1,5 @@
--- The modules' run: a machine in one module at a time, which an imported block's address leaves for the exported block.
+-- The modules' run: a machine in one module at a time; at an imported block's address it moves on to the exported
+-- block.
 use Rattle.std.specs.Prelude.{◌≡◌, ℕ, zero, suc, ◌+◌, ◌==◌, ◌&&◌, if◌then◌else◌, List, [], ◌∷◌, ◌++◌, find, slice_get, Option, Some, None}
 use Rattle.std.proofs.Common.{refl, add-one}
 use Rattle.std.specs.Option.{option_to_list}
@@ -33,7 +34,7 @@ abbrev pub sent_unfetched : List Object → List Link → InModule → Option In
 sent_unfetched modules joins x (Some i) = x
 sent_unfetched modules joins x None = if x.state.pc_green == x.state.pc_blue then sent_by modules x (link_at modules joins x.number x.state.pc_green) else x
 
--- before a step: where nothing is fetched and both counters are an imported block's address, the machine is sent to the
+-- before a step: if nothing is fetched and both counters are an imported block's address, the machine is sent to the
 -- exported block
 abbrev pub sent : List Object → List Link → InModule → InModule
 sent modules joins x = sent_unfetched modules joins x x.state.fetched
@@ -48,7 +49,7 @@ pub record ModulesRan : Type 0 where
   pub at : InModule
   pub outputs : List Output
 
--- the run after a step in module m: the step's state, and its output where it has one
+-- the run after a step in module m: the step's state, and its output if it has one
 abbrev pub stepped : ℕ → List Output → Stepping → ModulesRan
 stepped m outputs t = record { at = record { number = m; state = t.state }; outputs = outputs ++ option_to_list t.output }
 
@@ -68,7 +69,7 @@ pub modules_ran-zero : (linkage : LinkMap) (first : Object) (others : List Objec
 unfolding modules_ran
 modules_ran-zero linkage first others = refl
 
--- one step more
+-- one more step
 pub modules_ran-add_one : (linkage : LinkMap) (first : Object) (others : List Object) (n : ℕ) → modules_ran linkage first others (n + 1) ≡ (let r = modules_ran linkage first others n in after_sent (first ∷ others) r.outputs (sent (first ∷ others) (links linkage) r.at))
 unfolding modules_ran
 modules_ran-add_one linkage first others n = rw add-one refl

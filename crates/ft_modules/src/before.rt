@@ -1,6 +1,6 @@
-//! What stands before a module.
+//! The totals before a module.
 
-/// How many things of each kind stand before a module.
+/// How many rows of each kind come before a module.
 #[derive(Clone, Copy, Debug, PartialEq, Eq)]
 pub struct Before {
     pub nodes: u32,

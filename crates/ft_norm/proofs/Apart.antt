@@ -102,7 +102,7 @@ module _ (fs : List Form) (ps qs : List Term) (a : AreOver fs ps) (b : AreOver f
       let y = weigh_negation k (polynomial_form fs qs) in
       omega (arith, x, y)
 
-  -- the difference of the constants, where the others are the same
+  -- the difference of the constants, if the others are the same
   same_others : polynomial_form fs (others ps) ≡ polynomial_form fs (others qs)
       → difference ≡ add_term one ((constant_among ps + (2 ^ 64 - constant_among qs % 2 ^ 64) % 2 ^ 64) % 2 ^ 64) nought
   same_others s = known difference (add_term one e nought) difference_rises
@@ -128,7 +128,7 @@ module _ (fs : List Form) (ps qs : List Term) (a : AreOver fs ps) (b : AreOver f
           ≡ (g + 0) % 2 ^ 64 → d % 2 ^ 64 ≡ t % 2 ^ 64
       opposite d p q c f n g r s t w x y e z l m = omega (arith, w, x, y, e, z, l, m)
 
-  -- polynomials whose constants alone differ are known to differ
+  -- polynomials that differ only in their constants are known to differ
   pub apart : constant_among ps ≢ constant_among qs → others ps ≡ others qs → true
       ≡ is_not_zero (constant_of (norm_sub (polynomial_form fs ps) (polynomial_form fs qs)))
   apart n s =
@@ -181,14 +181,14 @@ module _ (fs : List Form) (ps qs : List Term) (a : AreOver fs ps) (b : AreOver f
           let y = weigh_split fs (times h m) qs b.terms in
           omega (arith, v, w, x, y)
 
-  -- polynomials are not known to differ where their constants or their other terms are no reason
+  -- polynomials are not known to differ if neither their constants nor their other terms show it
   pub not_apart : ((constant_among ps ≢ constant_among qs) → others ps ≡ others qs → ⊥) → false
       ≡ is_not_zero (constant_of (norm_sub (polynomial_form fs ps) (polynomial_form fs qs)))
   not_apart n =
       no_constant difference (λ e q. n (constants_differ e q) (others_same e q))
       ∙ ap is_not_zero (constant_sum (polynomial_form fs ps) (negation (polynomial_form fs qs)))
 
-  -- where the constants differ, the test of the others tells
+  -- if the constants differ, the test of the others decides
   pub by_others : (b : Bool) → constant_among ps ≢ constant_among qs → Decides b (others ps ≡ others qs) → b
       ≡ is_not_zero (constant_of (norm_sub (polynomial_form fs ps) (polynomial_form fs qs)))
   by_others true n d = apart n (d.0 refl)

@@ -60,7 +60,7 @@ module _ (fs : List Form) (d : IsDistinct fs) where
   packed_apart ps us h k a b p n e = n (subst HaveSmall (one_polynomial fs d (map unpacked ps) us h k a b e)
       (have_small_unpacked ps p))
 
-  -- an atom alone is not what an entry of terms of at most one atom stands for
+  -- a single atom is not what an entry of terms of at most one atom stands for
   alone_linear : (x : Atom) (ts : List Term) → AreTerms ts → reach_of_terms fs ts ≤ length fs → greatest ts ≤ 1 →
       ((k : ℕ) → ts ≢ alone_term (k + 1) ∷ []) → alone x ≡ polynomial_form fs ts → ⊥
   alone_linear x ts h r g n e = n (alone_is fs x ts (record { terms = h; distinct = d; reach = r }) g e).0
@@ -149,7 +149,7 @@ new_form es e h c r n k f =
     true≢false (sym (one_entry fs h.distinct e (get_or es k e) c (h.canonical k e m) (omega arith) (omega arith) p)
     ∙ none_passes ((entry.ghosts).eq e) es k e n m)
 
--- one more form that stands nowhere
+-- one more form that is in no place
 distinct_push : (fs : List Form) (x : Form) → IsDistinct fs → ((k : ℕ) → slice_get fs k ≡ Some x → ⊥) →
     IsDistinct (fs ++ x ∷ [])
 distinct_push fs x d n = record { one = go }

@@ -10,7 +10,7 @@ use Rattle.ft_static.specs.Form.{Atom, Form, Monomial, Polynomial, Updates, inte
 use Rattle.ft_static.specs.Form.{updates_of, nought, one, plus, times, unchanged, update}
 use Rattle.ft_static.specs.NormalForm.{alone, with_factor}
 use Rattle.ft_norm.specs.declared.entry.Factor.{Factor}
-use Rattle.ft_norm.specs.declared.entry.Factor.TheVariants.{Variable, Operation, Sel, Rem}
+use Rattle.ft_norm.specs.declared.entry.Factor.TheVariants.{Variable}
 use Rattle.ft_norm.specs.declared.entry.Term.{Term}
 use Rattle.ft_norm.specs.declared.entry.Entry.{Entry}
 use Rattle.ft_norm.specs.Packing.{unpacked}
@@ -40,11 +40,7 @@ updates_agree n fs gs h k l = ap (λ (o : Option Form). updates_of (unwrap_or o 
 pub atom_agree : (n : ℕ) (fs gs hs : List Form) → Agree n fs gs → (a : Factor) → reach hs a ≤ n → atom_form fs a
     ≡ atom_form gs a
 atom_agree n fs gs hs h (Variable i) l = refl
-atom_agree n fs gs hs h (Operation o p q) l = let x = polynomials_agree n fs gs h p (omega arith) in
-    let y = polynomials_agree n fs gs h q (omega arith) in cc
-atom_agree n fs gs hs h (Rem p m) l = let x = polynomials_agree n fs gs h p (omega arith) in cc
-atom_agree n fs gs hs h (Sel p q) l = let x = updates_agree n fs gs h p (omega arith) in
-    let y = polynomials_agree n fs gs h q (omega arith) in cc
+atom_agree n fs gs hs h a l = grind (arith, polynomials_agree n fs gs h, updates_agree n fs gs h)
 
 -- so is one of a number
 with_atom_agree : (n : ℕ) (fs gs hs : List Form) → Agree n fs gs → (x : ℕ) → atom_reach hs x ≤ n → (m : Monomial) →
@@ -176,11 +172,7 @@ memory_reach_agree n m fs gs h l k i r = go (is_memory_form (slice_get fs i)) (i
 reach_agree : (n m : ℕ) (fs gs : List Form) → Agree n fs gs → n ≤ length fs → m ≤ n → (a : Factor) → reach fs a ≤ m →
     reach gs a ≤ m
 reach_agree n m fs gs h l k (Variable i) r = r
-reach_agree n m fs gs h l k (Operation o p q) r = let x = integer_reach_agree n m fs gs h l k p (omega arith) in
-    let y = integer_reach_agree n m fs gs h l k q (omega arith) in omega arith
-reach_agree n m fs gs h l k (Rem p q) r = integer_reach_agree n m fs gs h l k p (omega (arith, r))
-reach_agree n m fs gs h l k (Sel p q) r = let x = memory_reach_agree n m fs gs h l k p (omega arith) in
-    let y = integer_reach_agree n m fs gs h l k q (omega arith) in omega arith
+reach_agree n m fs gs h l k a r = omega (arith, integer_reach_agree n m fs gs h l k, memory_reach_agree n m fs gs h l k)
 
 -- so is one that is an atom's
 atom_reach_agree : (n m : ℕ) (fs gs : List Form) → Agree n fs gs → n ≤ length fs → m ≤ n → (x : ℕ) →
@@ -268,7 +260,7 @@ memory_reached fs n i l r = go (slice_get fs i) refl r
     go (Some (memory_form u)) e r = e ∙ ap (λ (q : Option Form).
         Some (memory_form (updates_of (unwrap_or q (integer_form nought))))) (sym e)
 
--- or that of one atom alone
+-- or that of a single atom
 pub atom_reached : (fs : List Form) (n i : ℕ) → n ≤ length fs → atom_reach fs (suc i) ≤ n → IsAtomAt fs i
 atom_reached fs n i l r = go (slice_get fs i) refl r
   where
@@ -340,7 +332,7 @@ pub link_value : (es : List Entry) (m : ℕ) (e : Entry) (at value older : ℕ) 
 link_value es m e at value older h l r k = let x = link_sorts es m e at value older h l r k in
     let n = length-forms_of es in integer_reached (forms_of es) m value (omega arith) (omega (arith, x))
 
--- where no update is linked, the memory is unchanged
+-- if no update is linked, the memory is unchanged
 pub no_link : (es : List Entry) (m : ℕ) (e : Entry) → NamesEarlier es → m < length es → e ≡ get_or es m e →
     ((at value older : ℕ) → e ≡ Update at value older → ⊥) → updates_at (forms_of es) m ≡ unchanged
 no_link es m e h l r k = updates_read es m e e h l r refl ∙ go e k

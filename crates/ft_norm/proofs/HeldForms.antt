@@ -61,7 +61,7 @@ integer_from gs f p h = record { found = h ∙ ap (λ q. Some (integer_form q)) 
 pub memory_from : (gs : List Normal) (f : Form) (u : Updates) → held gs f ≡ Some (memory_form u) → IsMemory gs f
 memory_from gs f u h = record { found = h ∙ ap (λ w. Some (memory_form w)) (sym (updates_found gs f.0 u h)) }
 
--- where each form stays, so do sorts and parts
+-- if each form stays, so do sorts and parts
 keeps_from : (fs gs : List Normal) → ((f : Form) (x : Normal) → held fs f ≡ Some x → held gs f ≡ Some x) → Keeps fs gs
 keeps_from fs gs k = record {
   forms_stay = k;

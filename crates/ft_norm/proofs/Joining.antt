@@ -126,7 +126,7 @@ join_atoms fs a b c d n =
     ∙ (ap (λ k. with_atom fs a (with_atom fs b k)) (join_atom fs c (monomial_form fs (d ∷ [])) n)
     ∙ ap (λ k. with_atom fs a (with_atom fs b (with_atom fs c k))) (join_atom fs d one n)))
 
--- a monomial has as many atoms as its numbers tell
+-- a monomial has as many atoms as its numbers say
 pub factors-monomial_form : (fs : List Form) (xs : List ℕ) → factors (monomial_form fs xs) ≡ size xs
 factors-monomial_form fs [] = refl
 factors-monomial_form fs (zero ∷ xs) = factors-monomial_form fs xs ∙ sym (zero-add (size xs))

@@ -1,4 +1,4 @@
--- Where sums and products stay within the limits, and where they are atoms.
+-- When sums and products stay within the limits, and when they are atoms.
 use Rattle.std.proofs.Common.{ℕ, zero, suc, ◌≡◌, ◌+◌, ◌*◌, ◌<◌, ◌≤◌, min, List, [], ◌∷◌, refl, sym, ap, ◌∙◌, subst}
 use Rattle.std.proofs.Common.{arith, Bool, nat_le, true, false, ◌&&◌, inl, inr, Some, None, length, ◌^◌}
 use Rattle.std.proofs.Math.Nat.{mod-eq_of_lt}
@@ -73,7 +73,7 @@ pub no_atom_constant : (fs : List Normal) (xs : List ℕ) (c : ℕ) → size xs 
     ≡ constant_of (plus (monomial_form fs xs) c nought)
 no_atom_constant fs xs c e w = rw (no_atom fs xs e) (ap Some (sym (mod-eq_of_lt w)))
 
--- a monomial with an atom is no constant
+-- a monomial with an atom is not constant
 no_constant : (m : Monomial) (c : ℕ) → 0 < factors m → None ≡ constant_of (plus m c nought)
 no_constant one c l = absurd (omega arith)
 no_constant (times a m) c l = refl
@@ -97,7 +97,7 @@ sum_with_none fs a b p o l e f =
     let t : terms a ≡ length p = ap terms (sym e) ∙ terms_over fs p o in
     norm_add_small a b a (length p) (sym (ap (total a) f ∙ total_none a w)) t l
 
--- where no terms are
+-- if there are no terms
 pub sum_with_empty : (fs : List Normal) (a b : Polynomial) (p q : List Term) → AreOver fs p → length p ≤ 64 →
     polynomial_form fs p ≡ a → polynomial_form fs q ≡ b → length q ≡ 0 → a ≡ norm_add a b
 sum_with_empty fs a b p q o l e f z = sum_with_none fs a b p o l e (sym f ∙ nothing fs q z)

@@ -70,7 +70,7 @@ linear_more ts d x xs i h g e l a c =
     map-append full xs (x ∷ []) ∙ (ap (λ q. map full xs ++ q ∷ []) f
     ∙ taken_more ts (map full xs) t i e l (sym (get_or_default ts i t d l)))
 
--- where the first term is no atom alone, the terms are none
+-- if the first term is not a single atom, neither are the terms
 pub lone_other : (o : Option ℕ) (ts : List Term) (d : Term) → IfNone o ((k : ℕ) → get_or ts 0 d ≢ alone_term (k + 1)) →
     IfNone o ((k : ℕ) → ts ≢ alone_term (k + 1) ∷ [])
 lone_other None ts d h = λ k e. h k (ap (λ (us : List Term). get_or us 0 d) e)

@@ -1,6 +1,6 @@
 -- The forms that were made of nodes are those of their trees.
 use Rattle.std.proofs.Common.{ℕ, suc, zero, ◌≡◌, ◌+◌, ◌<◌, ◌≤◌, ◌==◌, nat_eq, Bool, true, false, cond, List, map, refl}
-use Rattle.std.proofs.Common.{sym, ap, ◌∙◌, subst, arith, Option, Some, slice_get, inl, inr}
+use Rattle.std.proofs.Common.{sym, ap, ◌∙◌, subst, arith, Option, Some, slice_get}
 use Rattle.std.specs.Option.{unwrap_or}
 use Rattle.std.proofs.lemmas.Bool.Decides.{Decides-eqb}
 use Rattle.indexmap.specs.IndexMap.{IndexMap, get}
@@ -10,67 +10,32 @@ use Rattle.ft_static.specs.Form.{updates_of, unchanged, update, updates}
 use Rattle.ft_static.specs.FormOrder.{same_polynomial}
 use Rattle.ft_static.specs.FormUnder.{form_of, form_under, integer_in, memory_in, updates_or}
 use Rattle.ft_static.specs.NormalForm.{norm_upd}
-use Rattle.ft_static.specs.NodeRules.{AreNodes, IsLength, IsShape, MayName, is_memory}
+use Rattle.ft_static.specs.NodeParts.{EachPart, renamed}
+use Rattle.ft_static.specs.NodeRules.{AreNodes, IsShape, MayName, is_memory}
 use Rattle.ft_static.specs.NodeTree.{tree_at, trees}
 use Rattle.ft_static.specs.declared.node.Node.{Node}
 use Rattle.ft_static.specs.declared.node.Shape.{Shape}
 use Rattle.ft_static.specs.declared.node.Shape.TheVariants as shape
 use Rattle.ft_static.proofs.Denote.{node_form}
+use Rattle.ft_static.proofs.NodeTrees.{each_part_both, each_renamed, parts_named}
 use Rattle.ft_static.proofs.Under.{get_or-map}
 use Rattle.ft_norm.specs.declared.form.Form.{Form}
-use Rattle.ft_norm.specs.declared.parts.Parts.{Parts}
-use Rattle.ft_norm.specs.declared.parts.Parts.TheVariants as part
-use Rattle.ft_norm.specs.Held.{held, updates_held, Keeps}
-use Rattle.ft_norm.specs.Parts.{AreMade, HaveSorts, IsPart, form_of_parts, updates_of_parts}
+use Rattle.ft_norm.specs.Held.{held, polynomial_at, updates_at, updates_held, Keeps}
+use Rattle.ft_norm.specs.Parts.{AreMade, HasLength, HaveSorts, IsMade, IsOfSort, form_of_parts, number_in}
+use Rattle.ft_norm.specs.Parts.{updates_of_parts}
 use Rattle.ft_norm.proofs.HeldForms.{integer_from, memory_from, polynomial_found, updates_found}
 
 -- the sort of a node's form is that of its shape
 integer_shape : (ps : List Polynomial) (u : Updates) (fs : List Normal) (s : Shape) → is_memory s ≡ false →
     form_of ps u fs s ≡ integer_form (polynomial_of (form_of ps u fs s))
 integer_shape ps u fs (shape.Word w) e = refl
-integer_shape ps u fs (shape.Var i) e = refl
-integer_shape ps u fs (shape.Op o a b) e = refl
-integer_shape ps u fs (shape.Sel m a) e = refl
-integer_shape ps u fs shape.Memory e = cc
-integer_shape ps u fs (shape.Upd m a v) e = cc
-integer_shape ps u fs (shape.Rem a l) e = refl
+integer_shape ps u fs s e = cc
 
 -- of a memory too
 memory_shape : (ps : List Polynomial) (u : Updates) (fs : List Normal) (s : Shape) → is_memory s ≡ true →
     form_of ps u fs s ≡ memory_form (updates_of (form_of ps u fs s))
 memory_shape ps u fs (shape.Word w) e = cc
-memory_shape ps u fs (shape.Var i) e = cc
-memory_shape ps u fs (shape.Op o a b) e = cc
-memory_shape ps u fs (shape.Sel m a) e = cc
-memory_shape ps u fs shape.Memory e = refl
-memory_shape ps u fs (shape.Upd m a v) e = refl
-memory_shape ps u fs (shape.Rem a l) e = cc
-
--- a part is a lower node
-pub part_lower : (ns : List Node) (k scope j : ℕ) (x : Shape) → IsShape ns k scope x → IsPart x j → j < k
-part_lower ns k scope j (shape.Word w) h p = absurd p
-part_lower ns k scope j (shape.Var i) h p = absurd p
-part_lower ns k scope j (shape.Op o a b) h p = elim p [
-  | inl e ↦ let l = h.0.lower in
-      omega arith
-  | inr e ↦ let l = h.1.lower in omega arith
-]
-part_lower ns k scope j (shape.Sel m a) h p = elim p [
-  | inl e ↦ let l = h.0.lower in
-      omega arith
-  | inr e ↦ let l = h.1.lower in omega arith
-]
-part_lower ns k scope j shape.Memory h p = absurd p
-part_lower ns k scope j (shape.Upd m a v) h p = elim p [
-  | inl e ↦ let l = h.0.lower in
-      omega arith
-  | inr q ↦ elim q [
-    | inl e ↦ let l = h.1.lower in omega arith
-    | inr e ↦ let l = h.2.lower in
-        omega arith
-  ]
-]
-part_lower ns k scope j (shape.Rem a m) h p = let l = h.0.lower in omega (arith, l, p)
+memory_shape ps u fs s e = cc
 
 -- an update adds one at the most
 pub updates-norm_upd : (u : Updates) (p v : Polynomial) → updates (norm_upd u p v) ≤ updates u + 1
@@ -146,58 +111,49 @@ module _ (ps : List Polynomial) (u : Updates) (ns : List Node) (h : AreNodes ns)
 
   -- the parts that were made are of their sorts
   pub parts_sorts : {S : Type 0} (m : IndexMap ℕ Form S) (fs : List Normal) → Stands fs (get nat_eq m) →
-      (k scope : ℕ) (x : Shape) (p : Parts) → IsShape ns k scope x → AreMade m x p → HaveSorts fs p
-  parts_sorts m fs s k scope (shape.Word w) (part.Word v) i e = tt
-  parts_sorts m fs s k scope (shape.Var j) (part.Var v) i e = tt
-  parts_sorts m fs s k scope (shape.Op o a b) (part.Op q f g) i e = (
-    integer_from fs f _ (made_integer fs (get nat_eq m) s k scope a f i.0 e.1),
-    integer_from fs g _ (made_integer fs (get nat_eq m) s k scope b g i.1 e.2),
+      (k scope : ℕ) (x p : Shape) → IsShape ns k scope x → AreMade m x p → HaveSorts fs p
+  parts_sorts m fs s k scope x p i e = subst (HaveSorts fs) (sym e.named) (
+    each_renamed (IsOfSort fs) (number_in m) x (each_part_both (MayName ns k scope) (λ b j. IsMade m j)
+        (λ b j. IsOfSort fs b (number_in m j)) sorted x (parts_named ns k scope x i) e.found),
+    has_length x i,
   )
-  parts_sorts m fs s k scope (shape.Sel a b) (part.Sel f g) i e = (
-    memory_from fs f _ (made_memory fs (get nat_eq m) s k scope a f i.0 e.0),
-    integer_from fs g _ (made_integer fs (get nat_eq m) s k scope b g i.1 e.1),
-  )
-  parts_sorts m fs s k scope shape.Memory part.Memory i e = tt
-  parts_sorts m fs s k scope (shape.Upd a b c) (part.Upd f g d) i e = (
-    memory_from fs f _ (made_memory fs (get nat_eq m) s k scope a f i.0 e.0),
-    integer_from fs g _ (made_integer fs (get nat_eq m) s k scope b g i.1 e.1),
-    integer_from fs d _ (made_integer fs (get nat_eq m) s k scope c d i.2 e.2),
-  )
-  parts_sorts m fs s k scope (shape.Rem a l) (part.Rem f n) i e =
-      (integer_from fs f _ (made_integer fs (get nat_eq m) s k scope a f i.0 e.0), subst IsLength e.1 i.1)
-  parts_sorts m fs s k scope x p i e = absurd e
+    where
+      sorted : (b : Bool) (j : ℕ) → MayName ns k scope b j → IsMade m j → IsOfSort fs b (number_in m j)
+      sorted true j n f = rw f.found (memory_from fs f.form _ (made_memory fs (get nat_eq m) s k scope j f.form n
+          f.found))
+      sorted false j n f = rw f.found (integer_from fs f.form _ (made_integer fs (get nat_eq m) s k scope j f.form n
+          f.found))
+
+      has_length : (y : Shape) → IsShape ns k scope y → HasLength (renamed (number_in m) y)
+      has_length (shape.Rem a l) h = h.1
+      has_length y h = tt
+
+  -- a form where a part is named is that of the node's part
+  abbrev IsSame : List Normal → ℕ → Bool → ℕ → Type 0
+  IsSame fs i true j = updates_at fs i ≡ memory_in u tree_forms j
+  IsSame fs i false j = polynomial_at fs i ≡ integer_in tree_forms j
 
   -- they make the form of the node
   pub parts_form : {S : Type 0} (m : IndexMap ℕ Form S) (fs : List Normal) → Stands fs (get nat_eq m) →
-      (k scope : ℕ) (x : Shape) (p : Parts) → IsShape ns k scope x → AreMade m x p → form_of_parts ps u fs p
+      (k scope : ℕ) (x p : Shape) → IsShape ns k scope x → AreMade m x p → form_of_parts ps u fs p
       ≡ form_of ps u tree_forms x
-  parts_form m fs s k scope (shape.Word w) (part.Word v) i e = rw e refl
-  parts_form m fs s k scope (shape.Var j) (part.Var v) i e = rw e refl
-  parts_form m fs s k scope (shape.Op o a b) (part.Op q f g) i e =
-      rw (
-        e.0,
-        polynomial_found fs f.0 _ (made_integer fs (get nat_eq m) s k scope a f i.0 e.1),
-        polynomial_found fs g.0 _ (made_integer fs (get nat_eq m) s k scope b g i.1 e.2),
-      ) refl
-  parts_form m fs s k scope (shape.Sel a b) (part.Sel f g) i e =
-      rw (
-        updates_found fs f.0 _ (made_memory fs (get nat_eq m) s k scope a f i.0 e.0),
-        polynomial_found fs g.0 _ (made_integer fs (get nat_eq m) s k scope b g i.1 e.1),
-      ) refl
-  parts_form m fs s k scope shape.Memory part.Memory i e = refl
-  parts_form m fs s k scope (shape.Upd a b c) (part.Upd f g d) i e =
-      rw (
-        updates_found fs f.0 _ (made_memory fs (get nat_eq m) s k scope a f i.0 e.0),
-        polynomial_found fs g.0 _ (made_integer fs (get nat_eq m) s k scope b g i.1 e.1),
-        polynomial_found fs d.0 _ (made_integer fs (get nat_eq m) s k scope c d i.2 e.2),
-      ) refl
-  parts_form m fs s k scope (shape.Rem a l) (part.Rem f n) i e =
-      rw (e.1, polynomial_found fs f.0 _ (made_integer fs (get nat_eq m) s k scope a f i.0 e.0)) refl
-  parts_form m fs s k scope x p i e = absurd e
+  parts_form m fs s k scope x p i e = ap (form_of_parts ps u fs) e.named ∙ go x (each_part_both (MayName ns k scope)
+      (λ b j. IsMade m j) (λ b j. IsSame fs (number_in m j) b j) same x (parts_named ns k scope x i) e.found)
+    where
+      same : (b : Bool) (j : ℕ) → MayName ns k scope b j → IsMade m j → IsSame fs (number_in m j) b j
+      same true j n f = rw f.found (updates_found fs f.form.0 _ (made_memory fs (get nat_eq m) s k scope j f.form n
+          f.found))
+      same false j n f = rw f.found (polynomial_found fs f.form.0 _ (made_integer fs (get nat_eq m) s k scope j f.form
+          n f.found))
+
+      go : (y : Shape) → EachPart (λ b j. IsSame fs (number_in m j) b j) y →
+          form_of_parts ps u fs (renamed (number_in m) y) ≡ form_of ps u tree_forms y
+      go (shape.Word w) h = refl
+      go y h = cc
 
   -- so the form is that of the node's tree
   pub node_made : {S : Type 0} (m : IndexMap ℕ Form S) (fs : List Normal) → Stands fs (get nat_eq m) →
-      (k : ℕ) (x : Node) (p : Parts) → slice_get ns k ≡ Some x → AreMade m x.shape p → form_of_parts ps u fs p
+      (k : ℕ) (x : Node) (p : Shape) → slice_get ns k ≡ Some x → AreMade m x.shape p → form_of_parts ps u fs p
       ≡ tree_form k
   node_made m fs s k x p f e = parts_form m fs s k x.scope x.shape p (h.each k x f).shape e
       ∙ sym (node_form ps u ns k x h f)
@@ -206,18 +162,13 @@ module _ (ps : List Polynomial) (u : Updates) (ns : List Node) (h : AreNodes ns)
   shape_count : (k scope : ℕ) → ((m : ℕ) → m < k → (x : Node) → slice_get ns m ≡ Some x →
       updates (updates_of (tree_form m)) ≤ updates u + m) → (s : Shape) → IsShape ns k scope s →
       updates (updates_of (form_of ps u tree_forms s)) ≤ updates u + k
-  shape_count k scope lower (shape.Word w) i = omega arith
-  shape_count k scope lower (shape.Var j) i = omega arith
-  shape_count k scope lower (shape.Op o a c) i = omega arith
-  shape_count k scope lower (shape.Sel m a) i = omega arith
-  shape_count k scope lower (shape.Rem a m) i = omega arith
-  shape_count k scope lower shape.Memory i = omega arith
   shape_count k scope lower (shape.Upd m a v) i =
       let x = updates-norm_upd (memory_in u tree_forms m) (integer_in tree_forms a) (integer_in tree_forms v) in
       let c = lower m i.0.lower i.0.node i.0.found in
       let e = ap updates (memory_in_tree k scope m i.0) in
       let w = i.0.lower in
       omega (arith, x, c, e, w)
+  shape_count k scope lower s i = omega arith
 
   pub tree_count : (b k : ℕ) → k < b → (x : Node) → slice_get ns k ≡ Some x →
       updates (updates_of (tree_form k)) ≤ updates u + k
@@ -235,18 +186,16 @@ module _ (ps : List Polynomial) (u : Updates) (ns : List Node) (h : AreNodes ns)
 
   -- so has each part
   pub parts_count : {S : Type 0} (m : IndexMap ℕ Form S) (fs : List Normal) → Stands fs (get nat_eq m) →
-      (k scope : ℕ) (x : Shape) (p : Parts) → IsShape ns k scope x → AreMade m x p →
-      updates_of_parts fs p ≤ updates u + k
-  parts_count m fs s k scope (shape.Word w) (part.Word v) i e = omega arith
-  parts_count m fs s k scope (shape.Var j) (part.Var v) i e = omega arith
-  parts_count m fs s k scope (shape.Op o a b) (part.Op q f g) i e = omega arith
-  parts_count m fs s k scope (shape.Sel a b) (part.Sel f g) i e =
-      let z = ap updates (updates_found fs f.0 _ (made_memory fs (get nat_eq m) s k scope a f i.0 e.0)
-      ∙ memory_in_tree k scope a i.0) in
-      let c = tree_count (suc a) a (omega arith) i.0.node i.0.found in
-      let w = i.0.lower in
-      omega (arith, z, c, w)
-  parts_count m fs s k scope shape.Memory part.Memory i e = omega arith
-  parts_count m fs s k scope (shape.Upd a b c) (part.Upd f g d) i e = omega arith
-  parts_count m fs s k scope (shape.Rem a l) (part.Rem f n) i e = omega arith
-  parts_count m fs s k scope x p i e = absurd e
+      (k scope : ℕ) (x p : Shape) → IsShape ns k scope x → AreMade m x p → updates_of_parts fs p ≤ updates u + k
+  parts_count m fs s k scope x p i e = rw e.named (go x i e.found)
+    where
+      go : (y : Shape) → IsShape ns k scope y → EachPart (λ b j. IsMade m j) y →
+          updates_of_parts fs (renamed (number_in m) y) ≤ updates u + k
+      go (shape.Sel a b) i f =
+          let z : updates (updates_at fs (number_in m a)) ≡ updates (updates_of (tree_form a)) = ap updates
+          (rw f.0.found (updates_found fs f.0.form.0 _ (made_memory fs (get nat_eq m) s k scope a f.0.form i.0
+          f.0.found)) ∙ memory_in_tree k scope a i.0) in
+          let c = tree_count (suc a) a (omega arith) i.0.node i.0.found in
+          let w = i.0.lower in
+          omega (arith, z, c, w)
+      go y i f = omega arith

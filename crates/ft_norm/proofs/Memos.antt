@@ -20,7 +20,7 @@ pub remembers_none : (ns : List Node) (fs : List Normal) (ints : List Form) (mem
     Remembers ns fs ints memory m
 remembers_none ns fs ints memory m n = record { each = λ k f e. let z : Some f ≡ None = sym e ∙ n k in cc }
 
--- what is remembered stays right where the list of forms grows
+-- what is remembered stays right if the list of forms grows
 pub remembers_kept : (ns : List Node) (fs gs : List Normal) (ints : List Form) (memory : Form) (m : Memo) →
     Keeps fs gs → AreIntegers fs ints → IsMemory fs memory → Remembers ns fs ints memory m →
     Remembers ns gs ints memory m
@@ -33,7 +33,7 @@ remembers_kept ns fs gs ints memory m k i w r = record {
       ∙ ap (λ (v : Updates). Some (form_under (polynomials gs ints) v (tree_at ns n))) (sym u);
 }
 
--- so does what is remembered where no entry changes
+-- so does what is remembered if no entry changes
 pub remembers_same : (ns : List Node) (fs : List Normal) (ints : List Form) (memory : Form) (m l : Memo) →
     IsUnchanged m.made l.made → Remembers ns fs ints memory m → Remembers ns fs ints memory l
 remembers_same ns fs ints memory m l u r = record { each = λ k f e. r.each k f (rw u at e) }
@@ -78,7 +78,7 @@ told ns h fs gs ints memory n f x e q =
       count = held_count ps u ns h gs f n x e q;
     }
 
--- so does an answer that is held so
+-- so does a result that is held like this
 pub told_answer : {E : Type 0} (ns : List Node) (h : AreNodes ns) (fs gs : List Normal) (ints : List Form)
     (memory : Form) (n : ℕ) (r : Result Form E) (x : Node) → slice_get ns n ≡ Some x →
     IfOk r (λ f. held gs f ≡ Some (form_under (polynomials fs ints) (updates_held fs memory) (tree_at ns n))) →
@@ -86,7 +86,7 @@ pub told_answer : {E : Type 0} (ns : List Node) (h : AreNodes ns) (fs gs : List 
 told_answer ns h fs gs ints memory n (Ok f) x e q = told ns h fs gs ints memory n f x e q
 told_answer ns h fs gs ints memory n (Err d) x e q = tt
 
--- the sorts and the count that an answer tells
+-- the sorts and the count that a result gives
 pub integer_told : {E : Type 0} (ns : List Node) (fs gs : List Normal) (ints : List Form) (memory : Form) (n : ℕ)
     (r : Result Form E) → IfOk r (λ f. Tells ns fs gs ints memory n f) → (x : Node) → slice_get ns n ≡ Some x →
     is_memory x.shape ≡ false → IfOk r (λ f. IsInteger gs f)

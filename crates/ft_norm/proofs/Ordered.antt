@@ -127,7 +127,7 @@ read_compares : (ts : List Term) (xs : List ℕ) (t : Term) (k : ℕ) (o : Order
     ≡ cmp_atoms (get_or ts k t).atoms xs → (d : Term) → cmp_atoms (get_or ts k d).atoms xs ≡ o
 read_compares ts xs t k o l e d = ap (λ (u : Term). cmp_atoms u.atoms xs) (get_or_default ts k d t l) ∙ sym e
 
--- a search ends where the term stands
+-- a search ends at the term's place
 pub search_there : (ts : List Term) (xs : List ℕ) (t : Term) (k : ℕ) (o : Ordering) → k < length ts → o
     ≡ cmp_atoms (get_or ts k t).atoms xs → o ≡ Equal → IsThere ts xs k
 search_there ts xs t k o l e g = record {

@@ -73,7 +73,7 @@ none_small [] e = tt
 none_small (zero ∷ xs) e = (omega arith, none_small xs (omega (arith, e)))
 none_small (suc x ∷ xs) e = absurd (omega (arith, e))
 
--- what stands beyond terms
+-- what is beyond terms
 abbrev pub blank : Term
 blank = record { atoms = []; coefficient = 0 }
 

@@ -28,7 +28,7 @@ count_same : {A : Type 0} (look more : ℕ → Option A) (n : ℕ) → ((q : ℕ
 count_same look more zero h = refl
 count_same look more (suc n) h = rw (count_same look more n (λ q l. h q (omega arith)), h n (omega arith)) refl
 
--- one more where there was none
+-- one more if there was none
 pub count_more : {A : Type 0} (look more : ℕ → Option A) (x : A) (k n : ℕ) → k < n → look k ≡ None →
     ((q : ℕ) → more q ≡ cond (k == q) (Some x) (look q)) → count more n ≡ count look n + 1
 count_more look more x k zero l e h = absurd (omega arith)
@@ -132,7 +132,7 @@ path_pop look more y n k x ys xs p' e h = record {
         go true e = let z = (Decides-eqb k q).0 e in absurd (omega arith)
         go false e = e
 
--- where no node waits, the next is the last
+-- if no node waits, the next is the last
 pub path_end : {A : Type 0} (look : ℕ → Option A) (n k : ℕ) (xs : List ℕ) → Path look n k xs → length xs ≡ 0 → k ≡ n
 path_end look n k [] p e = p.bottom 0
 path_end look n k (x ∷ xs) p e = absurd (omega arith)

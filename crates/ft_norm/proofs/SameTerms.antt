@@ -1,12 +1,11 @@
 -- The tests of factors and of terms for equality find the same ones.
-use Rattle.std.proofs.Common.{◌≡◌, Bool, List, refl, sym, ap, ◌∙◌, Decides, true≢false}
-use Rattle.std.proofs.lemmas.Bool.Decides.{Decides-and, Decides-eqb, Decides-like}
+use Rattle.std.proofs.Common.{◌≡◌, Bool, List, refl, ap, ◌∙◌, Decides, arith}
+use Rattle.std.proofs.lemmas.Bool.Decides.{nat_tests, Decides-and, Decides-eqb, Decides-like}
 use Rattle.std.proofs.lemmas.Slice.Eq.{slice_eq-Decides}
 use lib.Pointwise.{pointwise}
-use Rattle.ft_isa.specs.contracts.op.Op as op
 use Rattle.ft_isa.proofs.Decided.{op_decides}
 use Rattle.ft_norm.specs.declared.entry.Factor.{Factor}
-use Rattle.ft_norm.specs.declared.entry.Factor.TheVariants.{Variable, Operation, Sel, Rem}
+use Rattle.ft_norm.specs.declared.entry.Factor.TheVariants.{Variable}
 use Rattle.ft_norm.specs.declared.entry.LinearTerm.{LinearTerm}
 use Rattle.ft_norm.specs.declared.entry.Term.{Term}
 use Rattle.ft_norm.specs.declared.packed.PackedTerm.{PackedTerm}
@@ -19,24 +18,7 @@ use Rattle.ft_norm.specs.contracts.packed.PackedTermPartialEq.TheImpl as packed
 -- the test of two factors
 pub factor_decides : (a b : Factor) → Decides ((factor.ghosts).eq a b) (a ≡ b)
 factor_decides (Variable i) (Variable j) = Decides-like _ (λ e. ap Variable e) (λ e. cc) (Decides-eqb i j)
-factor_decides (Operation o p q) (Operation n r s) = Decides-like _ (λ h. rw (h.0, h.1.0, h.1.1) refl) (λ e.
-    (cc, (cc, cc))) (Decides-and _ _ (op_decides o n) (Decides-and _ _ (Decides-eqb p r) (Decides-eqb q s)))
-factor_decides (Sel p q) (Sel r s) = Decides-like _ (λ h. rw (h.0, h.1) refl) (λ e.
-    (cc, cc)) (Decides-and _ _ (Decides-eqb p r) (Decides-eqb q s))
-factor_decides (Rem p m) (Rem r n) = Decides-like _ (λ h. rw (h.0, h.1) refl) (λ e.
-    (cc, cc)) (Decides-and _ _ (Decides-eqb p r) (Decides-eqb m n))
-factor_decides (Variable i) (Rem r s) = (λ t. absurd (true≢false (sym t)), λ e. cc)
-factor_decides (Operation o p q) (Rem r s) = (λ t. absurd (true≢false (sym t)), λ e. cc)
-factor_decides (Sel p q) (Rem r s) = (λ t. absurd (true≢false (sym t)), λ e. cc)
-factor_decides (Rem p q) (Variable j) = (λ t. absurd (true≢false (sym t)), λ e. cc)
-factor_decides (Rem p q) (Operation n r s) = (λ t. absurd (true≢false (sym t)), λ e. cc)
-factor_decides (Rem p q) (Sel r s) = (λ t. absurd (true≢false (sym t)), λ e. cc)
-factor_decides (Variable i) (Operation n r s) = (λ t. absurd (true≢false (sym t)), λ e. cc)
-factor_decides (Variable i) (Sel r s) = (λ t. absurd (true≢false (sym t)), λ e. cc)
-factor_decides (Operation o p q) (Variable j) = (λ t. absurd (true≢false (sym t)), λ e. cc)
-factor_decides (Operation o p q) (Sel r s) = (λ t. absurd (true≢false (sym t)), λ e. cc)
-factor_decides (Sel p q) (Variable j) = (λ t. absurd (true≢false (sym t)), λ e. cc)
-factor_decides (Sel p q) (Operation n r s) = (λ t. absurd (true≢false (sym t)), λ e. cc)
+factor_decides a b = (λ t. grind (arith, nat_tests, op_decides), λ e. grind (arith, nat_tests, op_decides))
 
 -- that of two terms
 term_decides : (a b : Term) → Decides ((term.ghosts).eq a b) (a ≡ b)

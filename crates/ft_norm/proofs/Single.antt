@@ -17,7 +17,7 @@ use Rattle.ft_static.proofs.Counts.{count_join}
 use Rattle.ft_static.proofs.Spelled.{atom_equal, cmp_atom_total, cmp_monomial_total, monomial_equal}
 use Rattle.ft_static.proofs.Coefficients.{order_split}
 use Rattle.ft_norm.specs.declared.entry.Factor.{Factor}
-use Rattle.ft_norm.specs.declared.entry.Factor.TheVariants.{Variable, Operation, Sel, Rem}
+use Rattle.ft_norm.specs.declared.entry.Factor.TheVariants.{Variable}
 use Rattle.ft_norm.specs.declared.entry.Term.{Term}
 use Rattle.ft_norm.specs.Held.{polynomial_at, updates_at}
 use Rattle.ft_norm.specs.Entries.{IsDistinct, alone_term, atom_at, atom_form, atom_reach, greatest, integer_reach}
@@ -45,7 +45,7 @@ alike_not x y n = go (x == y) refl
     go true e = absurd (n ((Decides-eqb x y).0 e))
     go false e = refl
 
--- how often a number stands among these
+-- how often a number occurs among these
 abbrev pub times_in : ℕ → List ℕ → ℕ
 times_in x [] = 0
 times_in x (y ∷ ys) = alike x y + times_in x ys
@@ -54,7 +54,7 @@ times_in x (y ∷ ys) = alike x y + times_in x ys
 abbrev meets : Atom → Atom → ℕ
 meets k a = by_order (cmp_atom k a) 0 1 0
 
--- a number below those in order does not stand there
+-- a number below those in order does not occur there
 times_none : (x y : ℕ) (ys : List ℕ) → x < y → AreOrdered (y ∷ ys) → times_in x (y ∷ ys) ≡ 0
 times_none x y [] e h = let a = alike_not x y (omega arith) in omega (arith, a)
 times_none x y (z ∷ ys) e h =
@@ -79,7 +79,7 @@ begin_alike : (k : ℕ) (xs ys : List ℕ) → length xs ≡ length ys → AreOr
     ≡ size (suc k ∷ ys) → ⊥
 begin_alike k xs ys l h e = let a = size_bound xs in let b = size_full k ys h in omega (arith, a, b, e, l)
 
--- numbers in order in which each atom stands as often are the same
+-- numbers in order in which each atom occurs as often are the same
 same_times : (fs : List Form) (n : ℕ) (xs ys : List ℕ) → AreOrdered xs → AreOrdered ys → length xs ≡ length ys → size xs
     ≡ size ys → reach_of_atoms fs xs ≤ n → reach_of_atoms fs ys ≤ n
     → ((k : ℕ) → atom_reach fs (suc k) ≤ n → times_in (suc k) xs ≡ times_in (suc k) ys) → xs ≡ ys
@@ -185,15 +185,7 @@ module _ (fs : List Form) (d : IsDistinct fs) where
   pub one_factor : (a b : Factor) → reach fs a ≤ length fs → reach fs b ≤ length fs → atom_form fs a ≡ atom_form fs b →
       a ≡ b
   one_factor (Variable i) (Variable j) a b e = let t : i ≡ j = cc in ap Variable t
-  one_factor (Operation o p q) (Operation n r s) a b e = let t : polynomial_at fs p ≡ polynomial_at fs r = cc in
-      let u : polynomial_at fs q ≡ polynomial_at fs s = cc in let w : o ≡ n = cc in
-      rw (w, one_integer p r (omega arith) (omega arith) t, one_integer q s (omega arith) (omega arith) u) refl
-  one_factor (Sel p q) (Sel r s) a b e = let t : updates_at fs p ≡ updates_at fs r = cc in
-      let u : polynomial_at fs q ≡ polynomial_at fs s = cc in
-      rw (one_memory p r (omega arith) (omega arith) t, one_integer q s (omega arith) (omega arith) u) refl
-  one_factor (Rem p m) (Rem r n) a b e = let t : polynomial_at fs p ≡ polynomial_at fs r = cc in let u : m ≡ n = cc in
-      rw (u, one_integer p r (omega (arith, a)) (omega (arith, b)) t) refl
-  one_factor x y a b e = cc
+  one_factor x y a b e = grind (arith, one_integer, one_memory)
 
   -- and one number
   one_atom : (i j : ℕ) → atom_reach fs (suc i) ≤ length fs → atom_reach fs (suc j) ≤ length fs → atom_at fs i
@@ -201,7 +193,7 @@ module _ (fs : List Form) (d : IsDistinct fs) where
   one_atom i j a b e = d.one i j (integer_form (alone (atom_at fs j))) (atom_reached fs (length fs) i (omega arith) a
       ∙ ap (λ x. Some (integer_form (alone x))) e) (atom_reached fs (length fs) j (omega arith) b)
 
-  -- so an atom is another one where the numbers are the same
+  -- so an atom is another one if the numbers are the same
   meets_alike : (i j : ℕ) → atom_reach fs (suc i) ≤ length fs → atom_reach fs (suc j) ≤ length fs →
       meets (atom_at fs i) (atom_at fs j) ≡ alike (suc i) (suc j)
   meets_alike i j a b = order_split (meets (atom_at fs i) (atom_at fs j)
@@ -214,7 +206,7 @@ module _ (fs : List Form) (d : IsDistinct fs) where
       unlike n e = n (let f : i ≡ j = omega (arith, e) in ap (λ k. cmp_atom (atom_at fs i) (atom_at fs k)) (sym f)
           ∙ tied_itself cmp_atom_total (atom_at fs i))
 
-  -- an atom stands in a monomial as often as its number among the numbers
+  -- an atom occurs in a monomial as often as its number among the numbers
   count_is : (i : ℕ) (xs : List ℕ) → atom_reach fs (suc i) ≤ length fs → reach_of_atoms fs xs ≤ length fs →
       count (atom_at fs i) (monomial_form fs xs) ≡ times_in (suc i) xs
   count_is i [] a b = refl
@@ -358,7 +350,7 @@ degree_over fs (t ∷ ts) h =
     let z = degree_over fs ts (rest_over fs t ts h) in
     omega (arith, x, y, z)
 
--- a polynomial of two monomials or more is no constant
+-- a polynomial of two monomials or more is not constant
 not_constant : (p : Polynomial) → 2 ≤ terms p → None ≡ constant_of p
 not_constant nought l = absurd (omega arith)
 not_constant (plus one c nought) l = absurd (omega arith)
@@ -370,7 +362,7 @@ pub many_constant : (fs : List Form) (ts : List Term) → AreOver fs ts → 2 �
     ≡ constant_of (polynomial_form fs ts)
 many_constant fs ts h l = not_constant (polynomial_form fs ts) (let e = terms_over fs ts h in omega (arith, e, l))
 
--- terms of degree at most 1 that are an atom alone are one term with the coefficient 1
+-- terms of degree at most 1 that are a single atom are one term with the coefficient 1
 pub alone_is : (fs : List Form) (a : Atom) (ts : List Term) → AreOver fs ts → greatest ts ≤ 1 → alone a
     ≡ polynomial_form fs ts → (k : ℕ) × (ts ≡ alone_term (k + 1) ∷ [])
 alone_is fs a [] h g e = cc

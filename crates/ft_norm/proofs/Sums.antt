@@ -14,7 +14,7 @@ use Rattle.ft_norm.proofs.Adding.{add_merge, add_none, add_swap, multiple_add, n
 use Rattle.ft_norm.proofs.Ordered.{term_word, terms_drop}
 use Rattle.ft_norm.proofs.Weights.{Rises, rises_add}
 
--- the polynomial of terms rises
+-- the polynomial of terms is in increasing order
 pub form_rises : (fs : List Form) (ts : List Term) → AreTerms ts → Rises (polynomial_form fs ts)
 form_rises fs [] h = tt
 form_rises fs (t ∷ ts) h = rises_add (monomial_form fs t.atoms) t.coefficient (polynomial_form fs ts) h.2
@@ -46,7 +46,7 @@ form_set fs (t ∷ ts) (suc i) y d c h l w f e =
     ∙ add_swap (monomial_form fs t.atoms) (monomial_form fs (get_or ts i d).atoms) t.coefficient c
     (polynomial_form fs ts) h.2 w (form_rises fs ts h.4)
 
--- a coefficient raised to 0: its term is gone
+-- a coefficient that becomes 0: its term is dropped
 pub form_remove : (fs : List Form) (ts : List Term) (i : ℕ) (d : Term) (c : ℕ) → AreTerms ts → i < length ts →
     c < 2 ^ 64 → (c + (get_or ts i d).coefficient) % 2 ^ 64 ≡ 0
     → polynomial_form fs (take i ts ++ drop (suc i) ts)
@@ -82,7 +82,7 @@ form_negated fs [] h = refl
 form_negated fs (t ∷ ts) h = rw (form_negated fs ts h.4)
     (sym (negation_add (monomial_form fs t.atoms) t.coefficient (polynomial_form fs ts) h.2 (form_rises fs ts h.4)))
 
--- the terms from place i on
+-- the terms from place i
 dropped : (xs : List Term) (x : Term) (i : ℕ) → i < length xs → x ≡ get_or xs i x → drop i xs
     ≡ get_or xs i x ∷ drop (i + 1) xs
 dropped xs x i l r = rw (add-one, drop-cons xs i x) refl

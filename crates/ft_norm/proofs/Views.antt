@@ -25,7 +25,7 @@ packed_full ps ts h n e = n (subst HaveSmall e (have_small_unpacked ps h))
 pub atom_full : (x : ℕ) (ts : List Term) → 2 ≤ greatest ts → terms_of (Atom x) ≡ ts → ⊥
 atom_full x ts h e = let g = ap greatest e in let l = present_bound x in omega (arith, g, l, h)
 
--- an atom alone is the terms of no view of more
+-- a single atom is the terms of no view of more
 pub atom_other : (x : ℕ) (q : Terms) → IsView q → ((y : ℕ) → q ≡ Atom y → ⊥) → ((us : _) → q ≡ Linear us → ⊥) →
     terms_of (Atom x) ≡ terms_of q → ⊥
 atom_other x (Atom y) v m n e = m y refl

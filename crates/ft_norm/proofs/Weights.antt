@@ -15,7 +15,7 @@ use Rattle.ft_static.proofs.Proper.{below_more, turned, below_led, below_negatio
 use Rattle.ft_static.proofs.Spelled.{cmp_monomial_total, monomial_equal}
 use Rattle.ft_static.proofs.Coefficients.{order_split}
 
--- monomials rise strictly, and coefficients are words other than 0
+-- monomials increase strictly, and coefficients are words other than 0
 abbrev pub Rises : Polynomial → Type 0
 Rises nought = Unit {0}
 Rises (plus m c p) = (0 < c) × (c < 2 ^ 64) × Below m p × Rises p
@@ -30,7 +30,7 @@ below_add k m c (plus n d p) h g w = by_cases (λ q. Below k q) (cmp_monomial m 
     (λ e. below_led k n ((c + d) % 2 ^ 64) p g (below_more k n p g w.2))
     (λ e. g)
 
--- a lower term first keeps the rise
+-- a lower term in front keeps the order
 rises_led : (m : Monomial) (c : ℕ) (p : Polynomial) → c < 2 ^ 64 → Below m p → Rises p → Rises (led_by m c p)
 rises_led m c p l b w = if_cases (λ q. Rises q) (c == 0) p (plus m c p) (λ e. w) (λ e.
     ((let n = eqb-false c 0 e in omega arith), l, b, w))
@@ -44,7 +44,7 @@ rises_add m c (plus n d p) l w = by_cases (λ q. Rises q) (cmp_monomial m n) (le
     (λ e. rises_led n ((c + d) % 2 ^ 64) p (mod-lt _ (lit< tt)) w.2 w.3)
     (λ e. (w.0, w.1, below_add n m c p (turned _ _ (cmp_monomial_total.antisymm n m) e) w.2 w.3, rises_add m c p l w.3))
 
--- a sum rises
+-- a sum is in increasing order
 pub rises_total : (p q : Polynomial) → Rises p → Rises q → Rises (total p q)
 rises_total nought q h k = k
 rises_total (plus m c p) q h k = rises_total p (add_term m c q) h.3 (rises_add m c q h.1 k)
@@ -64,7 +64,7 @@ rises_products (plus m c p) q r k = rises_products p q (add_multiple m c q r) (r
 pub negative : (c : ℕ) → 0 < c → c < 2 ^ 64 → (2 ^ 64 - c % 2 ^ 64) % 2 ^ 64 ≡ 2 ^ 64 - c
 negative c h l = let e : c % 18446744073709551616 ≡ c = mod-eq_of_lt l in rw e (mod-eq_of_lt (omega (arith, h, l)))
 
--- a negation rises
+-- a negation is in increasing order
 pub rises_negation : (p : Polynomial) → Rises p → Rises (negation p)
 rises_negation nought h = tt
 rises_negation (plus m c p) h = (
@@ -210,7 +210,7 @@ words_same a b e l m = sym (mod-eq_of_lt l) ∙ (e ∙ mod-eq_of_lt m)
 pub mods_less : (a b c : ℕ) → (c + a) % 2 ^ 64 ≡ (c + b) % 2 ^ 64 → a % 2 ^ 64 ≡ b % 2 ^ 64
 mods_less a b c e = omega (arith, e)
 
--- polynomials that rise and give each monomial the same are the same
+-- polynomials in increasing order that give each monomial the same are the same
 pub known : (p q : Polynomial) → Rises p → Rises q →
     ((k : Monomial) → weigh (share k) p % 2 ^ 64 ≡ weigh (share k) q % 2 ^ 64) → p ≡ q
 known nought nought h w e = refl

@@ -12,14 +12,14 @@ use Rattle.ft_norm.specs.declared.entry.Entry.TheVariants as entry
 use Rattle.ft_norm.specs.Orders.{AreTerms}
 use Rattle.ft_norm.specs.Packing.{ArePacked, HaveSmall, unpacked}
 
--- the atom of a factor, where the forms of the entries are these
+-- the atom of a factor, if the forms of the entries are these
 abbrev pub atom_form : List Form → Factor → Atom
 atom_form fs (Variable i) = variable_atom i
 atom_form fs (Operation o p q) = operation_atom o (polynomial_at fs p) (polynomial_at fs q)
 atom_form fs (Sel m p) = sel_atom (updates_at fs m) (polynomial_at fs p)
 atom_form fs (Rem p m) = rem_atom (polynomial_at fs p) m
 
--- the atom that a polynomial is alone
+-- the atom of a polynomial that consists of it
 abbrev pub atom_of : Polynomial → Atom
 atom_of (plus (times a one) c nought) = a
 atom_of p = variable_atom 0
@@ -33,12 +33,12 @@ abbrev pub with_atom : List Form → ℕ → Monomial → Monomial
 with_atom fs zero m = m
 with_atom fs (suc k) m = with_factor (atom_at fs k) m
 
--- the monomial of atoms, whatever their order
+-- the monomial of atoms, in any order
 abbrev pub monomial_form : List Form → List ℕ → Monomial
 monomial_form fs [] = one
 monomial_form fs (x ∷ xs) = with_atom fs x (monomial_form fs xs)
 
--- the polynomial of terms, whatever their order
+-- the polynomial of terms, in any order
 abbrev pub polynomial_form : List Form → List Term → Polynomial
 polynomial_form fs [] = nought
 polynomial_form fs (t ∷ ts) = add_term (monomial_form fs t.atoms) t.coefficient (polynomial_form fs ts)
@@ -69,27 +69,27 @@ forms_onto fs (e ∷ es) = forms_onto (fs ++ (entry_form fs e ∷ [])) es
 abbrev pub forms_of : List Entry → List Form
 forms_of es = forms_onto [] es
 
--- whether an integer's form is there
+-- whether an integer's form exists
 abbrev pub is_integer_form : Option Form → Bool
 is_integer_form None = false
 is_integer_form (Some (integer_form p)) = true
 is_integer_form (Some (memory_form u)) = false
 
--- whether a memory's form is there
+-- whether a memory's form exists
 abbrev pub is_memory_form : Option Form → Bool
 is_memory_form None = false
 is_memory_form (Some (integer_form p)) = false
 is_memory_form (Some (memory_form u)) = true
 
--- one more than the number of a part that is to be an integer's form; one of the other sort reaches beyond the list
+-- one more than the number of a part that must be an integer's form; one of the other sort is beyond the list
 abbrev pub integer_reach : List Form → ℕ → ℕ
 integer_reach fs i = i + 1 + (if is_integer_form (slice_get fs i) then 0 else length fs)
 
--- the same of a part that is to be a memory's form
+-- the same of a part that must be a memory's form
 abbrev pub memory_reach : List Form → ℕ → ℕ
 memory_reach fs i = i + 1 + (if is_memory_form (slice_get fs i) then 0 else length fs)
 
--- whether the polynomial of one atom alone is there
+-- whether the polynomial that consists of one atom exists
 abbrev pub is_atom_form : Option Form → Bool
 is_atom_form (Some (integer_form (plus (times a one) (suc zero) nought))) = true
 is_atom_form o = false
@@ -133,7 +133,7 @@ NamesEarlier es = (k : ℕ) (e : Entry) → k < length es → reach_of_entry (fo
 abbrev pub IsIntegerAt : List Form → ℕ → Type 0
 IsIntegerAt fs i = slice_get fs i ≡ Some (integer_form (polynomial_at fs i))
 
--- the form in this place is one atom alone
+-- the form in this place consists of one atom
 abbrev pub IsAtomAt : List Form → ℕ → Type 0
 IsAtomAt fs i = slice_get fs i ≡ Some (integer_form (alone (atom_at fs i)))
 
@@ -141,7 +141,7 @@ IsAtomAt fs i = slice_get fs i ≡ Some (integer_form (alone (atom_at fs i)))
 abbrev pub IsMemoryAt : List Form → ℕ → Type 0
 IsMemoryAt fs i = slice_get fs i ≡ Some (memory_form (updates_at fs i))
 
--- no form stands in two places
+-- no form is in two places
 pub record IsDistinct (fs : List Form) : Type 0 where
   pub one : (i j : ℕ) (x : Form) → slice_get fs i ≡ Some x → slice_get fs j ≡ Some x → i ≡ j
 
@@ -169,11 +169,11 @@ IsCanonical (entry.Full ts) = AreTerms ts.items × (length ts.items ≤ 64) × (
 IsCanonical entry.Unchanged = Unit {0}
 IsCanonical (entry.Update at value older) = Unit {0}
 
--- so is each entry
+-- so are all entries
 abbrev pub AreCanonical : List Entry → Type 0
 AreCanonical es = (k : ℕ) (e : Entry) → k < length es → IsCanonical (slice_index_or es k e)
 
--- what an interner's entries keep
+-- the invariant of an interner's entries
 pub record AreEntries (es : List Entry) : Type 0 where
   pub earlier : NamesEarlier es
   pub distinct : IsDistinct (forms_of es)

@@ -9,6 +9,6 @@ use Rattle.ft_norm.specs.declared.keys.KeyedFold.{KeyedFold}
 abbrev pub noted : KeyedFold → ℕ → KeyedFold
 noted h w = record h { state = folded_multiply (bit_xor h.state w) h.factor }
 
--- the state after bytes: eight are a word, so are four, and others go one by one
+-- the state after bytes: eight are a word, so are four, and others are added one by one
 abbrev pub written : KeyedFold → List ℕ → KeyedFold
 written h bs = if length bs == 8 then noted h (from_le_bytes w64 bs) else (if length bs == 4 then noted h (from_le_bytes w32 bs) else fold noted h bs)

@@ -12,7 +12,7 @@ polynomial_at fs i = polynomial_of (unwrap_or (slice_get fs i) (integer_form nou
 abbrev pub updates_at : List Normal → ℕ → Updates
 updates_at fs i = updates_of (unwrap_or (slice_get fs i) (integer_form nought))
 
--- the normal form that a `Form` stands for; none where the list does not hold it
+-- the normal form that a `Form` stands for; none if the list does not hold it
 abbrev pub held : List Normal → Form → Option Normal
 held fs f = slice_get fs f.0
 
@@ -44,7 +44,7 @@ AreIntegers fs xs = (i : ℕ) (f : Form) → slice_get xs i ≡ Some f → IsInt
 abbrev pub polynomials : List Normal → List Form → List Polynomial
 polynomials fs xs = map (polynomial fs) xs
 
--- what the first list holds, the second holds as the same
+-- the second list holds what the first does, unchanged
 pub record Keeps (fs gs : List Normal) : Type 0 where
   pub forms_stay : (f : Form) (x : Normal) → held fs f ≡ Some x → held gs f ≡ Some x
   pub integers_stay : (f : Form) → IsInteger fs f → IsInteger gs f

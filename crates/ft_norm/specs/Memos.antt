@@ -13,6 +13,6 @@ use Rattle.ft_norm.specs.Held.{held, polynomials, updates_held}
 abbrev pub IsFresh : Memo → Type 0
 IsFresh m = (k : ℕ) → get nat_eq m.made k ≡ None
 
--- the form that it remembers of a node is that of the node's tree after these are put for the variables
+-- the form that it remembers of a node is that of the node's tree after these are substituted for the variables
 pub record Remembers (ns : List Node) (fs : List Normal) (ints : List Form) (memory : Form) (m : Memo) : Type 0 where
   pub each : (k : ℕ) (f : Form) → get nat_eq m.made k ≡ Some f → held fs f ≡ Some (form_under (polynomials fs ints) (updates_held fs memory) (tree_at ns k))

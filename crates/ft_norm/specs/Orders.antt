@@ -1,4 +1,4 @@
--- The order in which entries keep terms. It goes by numbers, and so never into a form.
+-- The order in which entries keep terms. It is by numbers, so it never affects a form.
 use Rattle.std.specs.Prelude.{ℕ, ◌<◌, ◌≤◌, ◌^◌, ◌≡◌, List, [], ◌∷◌, length}
 use Rattle.std.specs.Cmp.Lexicographic.{slice_cmp}
 use Rattle.std.specs.Ordering.{nat_cmp}
@@ -15,7 +15,7 @@ abbrev pub Leads : ℕ → List ℕ → Type 0
 Leads x [] = Unit {0}
 Leads x (y ∷ ys) = x ≤ y
 
--- numbers that do not fall
+-- numbers that never decrease
 abbrev pub AreOrdered : List ℕ → Type 0
 AreOrdered [] = Unit {0}
 AreOrdered (x ∷ xs) = Leads x xs × AreOrdered xs
@@ -29,7 +29,7 @@ abbrev pub Precedes : List ℕ → List Term → Type 0
 Precedes xs [] = Unit {0}
 Precedes xs (t ∷ ts) = cmp_atoms xs t.atoms ≡ Less
 
--- terms whose monomials rise strictly, with words other than 0 as coefficients
+-- terms whose monomials increase strictly, with words other than 0 as coefficients
 abbrev pub AreTerms : List Term → Type 0
 AreTerms [] = Unit {0}
 AreTerms (t ∷ ts) = IsMonomial t.atoms × (0 < t.coefficient) × (t.coefficient < 2 ^ 64) × Precedes t.atoms ts × AreTerms ts

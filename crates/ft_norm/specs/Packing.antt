@@ -18,7 +18,7 @@ pub record IsPacked (p : PackedTerm) : Type 0 where
   pub high : p.high < 2 ^ 32
   pub low : p.low < 2 ^ 32
 
--- so is each part of each of these
+-- so are all parts of all of these
 abbrev pub ArePacked : List PackedTerm → Type 0
 ArePacked [] = Unit {0}
 ArePacked (p ∷ ps) = IsPacked p × ArePacked ps
@@ -28,7 +28,7 @@ abbrev pub AreSmall : List ℕ → Type 0
 AreSmall [] = Unit {0}
 AreSmall (x ∷ xs) = (x < 2 ^ 24) × AreSmall xs
 
--- so is each atom of these terms
+-- so are all atoms of these terms
 abbrev pub HaveSmall : List Term → Type 0
 HaveSmall [] = Unit {0}
 HaveSmall (t ∷ ts) = AreSmall t.atoms × HaveSmall ts

@@ -27,12 +27,12 @@ IsView (view.Full ts) = (2 ≤ greatest ts.now) × (HaveSmall ts.now → ⊥)
 abbrev pub negated_term : Term → Term
 negated_term t = record { atoms = t.atoms; coefficient = (2 ^ 64 - t.coefficient % 2 ^ 64) % 2 ^ 64 }
 
--- where a term of these atoms stands
+-- the place of a term with these atoms
 pub record IsThere (ts : List Term) (xs : List ℕ) (i : ℕ) : Type 0 where
   pub within : i < length ts
   pub same : (t : Term) → (slice_index_or ts i t).atoms ≡ xs
 
--- where it keeps the order, if none stands
+-- where it keeps the order, if there is none
 pub record IsPlace (ts : List Term) (xs : List ℕ) (i : ℕ) : Type 0 where
   pub within : i ≤ length ts
   pub after : (t : Term) (j : ℕ) → j + 1 ≡ i → cmp_atoms (slice_index_or ts j t).atoms xs ≡ Less

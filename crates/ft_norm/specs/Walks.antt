@@ -1,4 +1,4 @@
--- What a walk of `sel` gives: private to the code.
+-- The result of a walk of `sel`: private to the code.
 use Rattle.std.specs.Prelude.{ℕ, ◌≤◌, List, length}
 use Rattle.ft_static.specs.Form.{Form, Polynomial, sel_atom}
 use Rattle.ft_static.specs.NormalForm.{alone}

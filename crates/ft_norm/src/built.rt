@@ -55,7 +55,7 @@ fn linear(alloc: Global, terms: &[Term]) -> Result<SmallVec<LinearTerm, 1>, Allo
     Ok(list)
 }
 
-/// The entry of these terms, which are no atom with the coefficient 1.
+/// The entry of these terms, which are not an atom with the coefficient 1.
 pub fn entry_of(alloc: Global, terms: &[Term]) -> Result<Entry, AllocError>
     requires terms { AreTerms terms.now }
     requires count { length terms.now ≤ 64 }

@@ -1,6 +1,5 @@
-//! Entries: how an interner keeps a normal form. A part that is itself a form is named by its number.
-//! Terms are kept in an order that goes by these numbers: a comparison of two terms never goes into the
-//! forms that they name.
+//! Entries: how an interner keeps a normal form. A part that is itself a form is identified by its number. Terms are
+//! ordered by these numbers: comparing two terms never looks into the forms that they refer to.
 ghost use Rattle.std.specs.Prelude.{◌≡◌, List, true};
 ghost use Rattle.ft_static.specs.Form.{Form as Normal, integer_form};
 ghost use Rattle.ft_static.specs.NormalForm.{constant};
@@ -10,10 +9,10 @@ use crate::packed::PackedTerm;
 use ft_isa::Op;
 use smallvec::SmallVec;
 
-/// The greatest number of monomials of a polynomial.
+/// The maximum number of monomials of a polynomial.
 pub const MONOMIALS: usize = 64;
 
-/// The greatest number of atoms of a monomial.
+/// The maximum number of atoms of a monomial.
 pub const ATOMS: usize = 4;
 
 /// An atom: a variable, an operation on the forms of these numbers, the word of a memory there, or the
@@ -26,8 +25,8 @@ pub enum Factor {
     Rem(u32, u32),
 }
 
-/// The atoms of a monomial, in rising order of their numbers, and zeros before them. The atom that
-/// entry k is has the number k + 1.
+/// The atoms of a monomial, in increasing order of their numbers, and zeros before them. The atom that entry k is has
+/// the number k + 1.
 pub type Atoms = [u32; ATOMS];
 
 /// How many atoms these are.
@@ -45,7 +44,7 @@ pub struct Term {
     pub coefficient: u64,
 }
 
-/// Terms while they are put together. A few take no memory of their own.
+/// Terms while they are put together. A few need no memory of their own.
 pub type TermList = SmallVec<Term, 4>;
 
 /// A term of at most one atom.
@@ -68,10 +67,9 @@ impl LinearTerm {
     }
 }
 
-/// A form: an atom with the coefficient 1; the terms of any other polynomial in rising order, where
-/// each has at most one atom, or where one has more, packed where their atoms have small numbers; or
-/// the memory variable without or with a newest update over an older entry. An atom and a constant take
-/// no memory of their own.
+/// A form: an atom with the coefficient 1; the terms of any other polynomial in increasing order, if each has at most
+/// one atom, or if one has more, packed if their atoms have small numbers; or the memory variable without or with a
+/// newest update over an older entry. An atom and a constant need no memory of their own.
 #[derive(Drop, PartialEq, Eq, Hash)]
 pub enum Entry {
     Atom(Factor),
@@ -82,7 +80,7 @@ pub enum Entry {
     Update { at: u32, value: u32, older: u32 },
 }
 
-/// Whether an entry is a word's. A `false` says nothing.
+/// Whether an entry is a word's; `false` proves nothing.
 pub fn is_word(entry: &Entry, w: u64) -> bool
     ensures { (fs : List Normal) → result ≡ true → entry_form fs entry.now ≡ integer_form (constant w) }
 {

@@ -32,18 +32,17 @@ use std::sync::ledger::Ledger;
 /// How many words the interner remembers places for.
 const RECENT: usize = 64;
 
-/// The greatest number of forms: one more than the number of each fits a `u32`, and so does that number.
+/// The maximum number of forms: one more than the number of each fits a `u32`, and so does that number.
 const FORMS: usize = 4_294_967_294;
 
-/// Normal forms, of integers and of memories. The list of them only grows, and a `Form` stands for
-/// one of them through all later calls. It holds at most 4,294,967,294 forms. A call that makes a form
-/// answers `NoMemory` where memory runs out and where that many are held; all that was held stays then,
-/// too.
+/// Normal forms, of integers and of memories. The list of them only grows, and a `Form` stands for one of them through
+/// all later calls. It holds at most 4,294,967,294 forms. A call that makes a form returns `NoMemory` if memory runs
+/// out or that many are held; everything that was held stays, even then.
 #[derive(Drop)]
 pub struct Interner {
     alloc: Global,
     entries: IndexSet<Entry, Keys>,
-    /// Where a word may be among the entries, by its remainder. It is looked at before the table.
+    /// Where a word may be among the entries, by its remainder. This is tried before the table.
     recent: [u32; RECENT],
 }
 
@@ -71,8 +70,8 @@ impl Interner {
         Interner::keyed(alloc, 0, 0)
     }
 
-    /// An interner that holds no form, and whose table hashes by these two keys. The keys decide how fast
-    /// the calls are and no form: whoever does not know them cannot make the table slow.
+    /// An interner that holds no form, and whose table hashes by these two keys. The keys affect how fast the calls are
+    /// but no form: whoever does not know them cannot make the table slow.
     pub fn keyed(alloc: Global, first: u64, second: u64) -> Result<Interner, NoMemory>
         ensures { IfOk result (λ s. s ≡ []) }
     {
@@ -153,8 +152,7 @@ impl Interner {
         Ok(form)
     }
 
-    /// The form of the word of a memory at an address. It counts a step for each update that the walk
-    /// passes.
+    /// The form of the word of a memory at an address. It counts a step for each update that the walk passes.
     pub fn sel<L: Ledger>(
         &mut self,
         memory: Form,
@@ -193,10 +191,10 @@ impl Interner {
         Ok(form)
     }
 
-    /// The form of node `n` after `ints[i]` is put for integer variable `i`, and `memory` for the
-    /// memory variable. The nodes obey their rules, and the scope of node `n` is at most the number of
-    /// `ints`. Each node that the tree reaches is handled once, after its parts, without recursion, and
-    /// a step is counted for it and for each update that a walk passes.
+    /// The form of node `n` after `ints[i]` is substituted for integer variable `i`, and `memory` for the memory
+    /// variable. The nodes obey their rules, and the scope of node `n` is at most the number of `ints`. Each node that
+    /// the tree reaches is handled once, after its parts, without recursion, and a step is counted for it and for each
+    /// update that a walk passes.
     pub fn under<N: Nodes, L: Ledger>(
         &mut self,
         nodes: &N,
@@ -221,7 +219,7 @@ impl Interner {
         memo.form(self, nodes, n, ints, memory, steps)
     }
 
-    /// Whether two forms, of either sort, are equal. Then expressions that have them denote the same.
+    /// Whether two forms, of either sort, are equal. Then expressions with these forms denote the same.
     pub fn same(&self, a: Form, b: Form) -> bool
         requires first { IsHeld self.now a }
         requires second { IsHeld self.now b }
@@ -233,7 +231,7 @@ impl Interner {
         a.0 == b.0
     }
 
-    /// Interns an entry: answers the number of the equal entry that is held, or adds it under the next number.
+    /// Interns an entry.
     fn intern(&mut self, entry: Entry) -> Result<Form, AllocError>
         requires reach { reach_of_entry self.old entry ≤ length self.old }
         requires canonical { IsCanonical entry }
@@ -247,7 +245,7 @@ impl Interner {
         Ok(Form(number as u32))
     }
 
-    /// Whether the entry in this place is a word's. A `false` says nothing.
+    /// Whether the entry in this place is a word's; `false` proves nothing.
     fn is_word_at(&self, place: u32, w: u64) -> bool
         ensures { result ≡ true → slice_get self.now place ≡ Some (integer_form (constant w)) }
     {
@@ -313,7 +311,7 @@ impl Interner {
         self.intern(Entry::Atom(factor))
     }
 
-    /// The form of a sum. It is one of the two where the other is 0.
+    /// The form of a sum. If one of the two is 0, it is the other.
     fn add(&mut self, a: Form, b: Form) -> Result<Form, AllocError>
         requires first { IsInteger self.old a }
         requires second { IsInteger self.old b }
@@ -335,7 +333,7 @@ impl Interner {
         self.alone(Factor::Operation(Op::Add, a.0, b.0))
     }
 
-    /// The form of a difference. The negation becomes a form of its own only where the atom names it.
+    /// The form of a difference. The negation becomes a form of its own only if the atom refers to it.
     fn sub(&mut self, a: Form, b: Form) -> Result<Form, AllocError>
         requires first { IsInteger self.old a }
         requires second { IsInteger self.old b }
@@ -372,8 +370,7 @@ impl Interner {
         self.integer(product.as_slice())
     }
 
-    /// The form of an operation that no polynomial tells: what it gives where both are constants, and the
-    /// atom otherwise.
+    /// The form of an operation that is not a polynomial: its result if both are constants, else the atom.
     fn folded(&mut self, op: Op, a: Form, b: Form) -> Result<Form, AllocError>
         requires first { IsInteger self.old a }
         requires second { IsInteger self.old b }

@@ -5,7 +5,7 @@ ghost use Rattle.ft_norm.specs.Packing.{ArePacked, AreSmall, HaveSmall, IsPacked
 use crate::entry::{Atoms, Term};
 use std::alloc::{AllocError, Global};
 
-/// The least number of an atom that is too great for a packed term.
+/// The least number of an atom that is too large for a packed term.
 const LARGE: u32 = 1 << 24;
 
 /// A term whose atoms have numbers below 2^24: each of the first three atoms, with a byte of the last one

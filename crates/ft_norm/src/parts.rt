@@ -1,63 +1,51 @@
 //! The parts of nodes, by the forms that were made of them.
-ghost use Rattle.std.specs.Prelude.{◌≡◌, nat_eq, None, Some, IfErr, IfOk};
+ghost use Rattle.std.specs.Prelude.{◌≡◌, ◌<◌, ℕ, nat_eq, None, IfErr, IfOk};
 ghost use Rattle.indexmap.specs.IndexMap.{get};
-ghost use Rattle.ft_norm.specs.Parts.{AreMade, IsPart};
+ghost use Rattle.ft_static.specs.NodeTree.{HasPartsBelow};
+ghost use Rattle.ft_norm.specs.Parts.{AreMade, IsMade, number_in};
 
 use crate::form::Form;
-use ft_isa::Op;
 use ft_static::Shape;
 use indexmap::IndexMap;
 
-/// A node whose parts are forms.
-#[derive(Clone, Copy)]
-pub enum Parts {
-    Word(u64),
-    Var(u8),
-    Op { op: Op, a: Form, b: Form },
-    Sel { memory: Form, at: Form },
-    Memory,
-    Upd { memory: Form, at: Form, value: Form },
-    Rem { a: Form, length: u32 },
-}
-
-/// The form of node `n`, or `n` where none was made.
-fn part(made: &IndexMap<u32, Form>, n: u32) -> Result<Form, u32>
-    ensures made { IfOk result (λ f. get nat_eq made.now n ≡ Some f) }
+/// The number of the form of node `n`, or `n` where none was made.
+fn part(made: &IndexMap<u32, Form>, n: u32) -> Result<u32, u32>
+    ensures number { IfOk result (λ i. i ≡ number_in made.now n) }
+    ensures made { IfOk result (λ i. IsMade made.now n) }
     ensures missing { IfErr result (λ k. (k ≡ n) × (get nat_eq made.now n ≡ None)) }
 {
     match made.get(&n) {
-        Some(form) => Ok(*form),
+        Some(form) => Ok(form.0),
         None => Err(n),
     }
 }
 
-/// The forms of the parts of a node of this shape, or the first part of which none was made.
-pub fn parts_of(made: &IndexMap<u32, Form>, shape: Shape) -> Result<Parts, u32>
+/// A node of this shape with the numbers of their forms in the places of its parts, or the first part
+/// of which no form was made.
+pub fn parts_of(made: &IndexMap<u32, Form>, shape: Shape) -> Result<Shape, u32>
     ensures made { IfOk result (AreMade made.now shape) }
-    ensures missing { IfErr result (λ k. IsPart shape k × (get nat_eq made.now k ≡ None)) }
+    ensures missing { IfErr result (λ k. ((n : ℕ) → HasPartsBelow n shape → k < n) × (get nat_eq made.now k ≡ None)) }
 {
     let parts = match shape {
-        Shape::Word(w) => Parts::Word(w),
-        Shape::Var(i) => Parts::Var(i),
-        Shape::Op { op, a, b } => Parts::Op {
+        Shape::Op { op, a, b } => Shape::Op {
             op,
             a: part(made, a)?,
             b: part(made, b)?,
         },
-        Shape::Sel { memory, at } => Parts::Sel {
+        Shape::Sel { memory, at } => Shape::Sel {
             memory: part(made, memory)?,
             at: part(made, at)?,
         },
-        Shape::Memory => Parts::Memory,
-        Shape::Upd { memory, at, value } => Parts::Upd {
+        Shape::Upd { memory, at, value } => Shape::Upd {
             memory: part(made, memory)?,
             at: part(made, at)?,
             value: part(made, value)?,
         },
-        Shape::Rem { a, length } => Parts::Rem {
+        Shape::Rem { a, length } => Shape::Rem {
             a: part(made, a)?,
             length,
         },
+        _ => shape,
     };
     Ok(parts)
 }

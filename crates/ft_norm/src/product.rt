@@ -12,7 +12,7 @@ use crate::terms::{Terms, degree_of};
 use smallvec::SmallVec;
 use std::alloc::{AllocError, Global};
 
-/// The atoms of a monomial and one more, in its place. The number 0 is none.
+/// The atoms of a monomial and one more, in its place. The number 0 is not an atom.
 #[inline]
 fn with_atom(atoms: Atoms, atom: u32) -> Atoms
     requires monomial { IsMonomial atoms }

@@ -11,7 +11,7 @@ ghost use Rattle.ft_norm.specs.Parts.{HaveSorts, form_of_parts, updates_of_parts
 
 use crate::form::Form;
 use crate::interner::Interner;
-use crate::parts::{Parts, parts_of};
+use crate::parts::parts_of;
 use ft_isa::{NoMemory, Steps};
 use ft_static::{Nodes, Shape};
 use indexmap::IndexMap;
@@ -21,15 +21,15 @@ use std::sync::ledger::Ledger;
 /// How many nodes' memory is kept when they are forgotten.
 const FEW: usize = 64;
 
-/// The forms of the nodes that were made so far, while the same forms are put for the variables. It
-/// serves many calls: a node is made at most once.
+/// The forms of the nodes that were made so far, while the same forms are substituted for the variables. It serves many
+/// calls: a node is made at most once.
 #[derive(Drop)]
 pub struct Memo {
     alloc: Global,
     made: IndexMap<u32, Form>,
 }
 
-/// The form of a variable after `ints[i]` is put for integer variable `i`, and `memory` for the memory
+/// The form of a variable after `ints[i]` is substituted for integer variable `i`, and `memory` for the memory
 /// variable. Any other node, and a variable beyond `ints`, has none here.
 fn leaf(shape: Shape, ints: &[Form], memory: Form) -> Option<Form>
     ensures { (fs gs : List Normal) → AreIntegers fs ints.now → IsMemory fs memory → IfSome result (λ f. held fs f ≡ Some (form_of (polynomials fs ints.now) (updates_held fs memory) gs shape)) }
@@ -44,10 +44,11 @@ fn leaf(shape: Shape, ints: &[Form], memory: Form) -> Option<Form>
     }
 }
 
-/// The form of a node from the forms of its parts. A variable beyond `ints` is the word 0.
+/// The form of a node with these forms, by their numbers, in the places of its parts. A variable beyond
+/// `ints` is the word 0.
 fn form_from<L: Ledger>(
     forms: &mut Interner,
-    parts: Parts,
+    parts: Shape,
     ints: &[Form],
     memory: Form,
     steps: &mut Steps<L>,
@@ -60,20 +61,20 @@ fn form_from<L: Ledger>(
     ensures steps { steps.new ≤ steps.old + updates_of_parts forms.old parts }
 {
     match parts {
-        Parts::Word(w) => forms.word(w),
-        Parts::Var(i) => match ints.get(i as usize) {
+        Shape::Word(w) => forms.word(w),
+        Shape::Var(i) => match ints.get(i as usize) {
             Some(form) => Ok(*form),
             None => forms.word(0),
         },
-        Parts::Op { op, a, b } => forms.op(op, a, b),
-        Parts::Sel { memory: m, at } => forms.sel(m, at, steps),
-        Parts::Memory => Ok(memory),
-        Parts::Upd {
+        Shape::Op { op, a, b } => forms.op(op, Form(a), Form(b)),
+        Shape::Sel { memory: m, at } => forms.sel(Form(m), Form(at), steps),
+        Shape::Memory => Ok(memory),
+        Shape::Upd {
             memory: m,
             at,
             value,
-        } => forms.upd(m, at, value),
-        Parts::Rem { a, length } => forms.rem(a, length),
+        } => forms.upd(Form(m), Form(at), Form(value)),
+        Shape::Rem { a, length } => forms.rem(Form(a), length),
     }
 }
 
@@ -102,9 +103,9 @@ impl Memo {
         }
     }
 
-    /// The form of node `n` after `ints[i]` is put for integer variable `i`, and `memory` for the
-    /// memory variable, as `Interner::under` gives it. What was made before is not made again. A
-    /// variable and a node that was made before take no memory. After an error what was made stays.
+    /// The form of node `n` after `ints[i]` is substituted for integer variable `i`, and `memory` for the memory
+    /// variable, as `Interner::under` gives it. What was made before is not made again. A variable and a node that was
+    /// made before take no memory. After an error what was made stays.
     #[inline]
     pub fn form<N: Nodes, L: Ledger>(
         &mut self,

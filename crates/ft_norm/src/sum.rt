@@ -31,7 +31,7 @@ fn compare(a: Atoms, b: Atoms) -> Ordering
     a[3].cmp(&b[3])
 }
 
-/// Where the term of these atoms stands, or where it would stand.
+/// The place of the term with these atoms, or where it would be.
 fn place_of(sum: &[Term], atoms: Atoms) -> Result<usize, usize>
     requires sum { AreTerms sum.now }
     requires atoms { length atoms ≡ 4 }
@@ -119,7 +119,7 @@ fn add_terms(sum: &mut TermList, terms: Terms<'_>) -> Result<(), AllocError>
     Ok(())
 }
 
-/// A copy of these terms, with room for `more` beside them.
+/// A copy of these terms, with room for `more` more.
 fn copy_terms(alloc: Global, terms: Terms<'_>, more: usize) -> Result<TermList, AllocError>
     ensures { IfOk result (λ v. v.items ≡ terms_of terms.entry) }
 {
@@ -142,7 +142,7 @@ fn negated(term: Term) -> Term
     }
 }
 
-/// These terms with each coefficient negated, with room for `more` beside them.
+/// These terms with each coefficient negated, with room for `more` more.
 pub fn negated_terms(alloc: Global, terms: Terms<'_>, more: usize) -> Result<TermList, AllocError>
     ensures { IfOk result (λ v. v.items ≡ map negated_term (terms_of terms.entry)) }
 {

@@ -78,7 +78,7 @@ pub fn terms_at(entries: &[Entry], i: u32) -> Terms<'_>
     }
 }
 
-/// The greatest number of atoms in a monomial.
+/// The maximum number of atoms in a monomial.
 pub fn degree_of(terms: Terms<'_>) -> usize
     ensures { result ≡ greatest (terms_of terms.entry) }
 {

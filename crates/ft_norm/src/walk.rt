@@ -20,7 +20,7 @@ pub enum Walk {
     Stop(u32),
 }
 
-/// The number that a polynomial with no monomial but the empty one is.
+/// The value of a constant polynomial.
 pub fn constant_in(terms: Terms<'_>) -> Option<u64>
     ensures { (fs : List Normal) → AreOver fs (terms_of terms.entry) → result ≡ constant_of (polynomial_form fs (terms_of terms.entry)) }
 {
@@ -34,7 +34,7 @@ pub fn constant_in(terms: Terms<'_>) -> Option<u64>
     constant_of_term(term.atoms, term.coefficient)
 }
 
-/// The number that a polynomial of one term is, where that has no atom.
+/// The value of a polynomial of one term, if that has no atom.
 fn constant_of_term(atoms: Atoms, coefficient: u64) -> Option<u64>
     ensures { (fs : List Normal) → result ≡ constant_of (plus (monomial_form fs atoms) coefficient nought) }
 {
@@ -156,8 +156,8 @@ pub fn walk_from<L: Ledger>(entries: &[Entry], memory: u32, p: u32, steps: &mut 
     }
 }
 
-/// What an update at the address `at` goes over: `memory` itself, or, where its newest update has that
-/// address, what is below it.
+/// What is below an update at the address `at`: `memory` itself, or, if its newest update has that address, what is
+/// below that one.
 pub fn below_newest(entries: &[Entry], memory: u32, at: u32) -> u32
     requires within { memory < length entries.now }
     requires memory { IsMemoryAt (forms_of entries.now) memory }

@@ -1,4 +1,4 @@
-//! Where a form changes the way in which it is kept: an atom alone, terms of at most one atom, and terms of more.
+//! Where the representation of a form changes: a single atom, terms of at most one atom, and terms of more.
 ghost use Rattle.std.specs.Prelude.{◌≡◌, IfOk};
 ghost use Rattle.ft_norm.specs.Held.{IsInteger, IsMemory, Keeps};
 

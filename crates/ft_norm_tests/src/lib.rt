@@ -1,6 +1,6 @@
 //! Tests of the interner: forms whose equality is known by hand.
 //!
-//! The crate holds tests alone, since a crate with tests is proved twice.
+//! The crate has only tests, since a crate with tests is proved twice.
 #![tactic(auto)]
 
 #[cfg(test)]

@@ -8,7 +8,7 @@ use std::marker::Brand;
 use std::sync::ledger::{Blank, Ledger};
 use std::test::Fail;
 
-/// The sum of `count` variables from `first` on, each added on the right or on the left.
+/// The sum of `count` variables from `first`, each added on the right or on the left.
 #[tactic(auto, using(ft_norm::proofs::HeldForms::keeps_both))]
 fn sum(forms: &mut Interner, first: u8, count: u8, on_right: bool) -> Result<Form, NoMemory>
     requires { first + count ≤ 255 }

@@ -1,4 +1,4 @@
--- What decoding answers, from what was read.
+-- What decoding returns, from what was read.
 use Rattle.std.proofs.Common.{◌≡◌, ℕ, List, Result, Ok, Err, sym, ◌∙◌, subst}
 use Rattle.std.specs.Prelude.{IfOk}
 use Rattle.ft_types.specs.declared.object.Object.{Object}

@@ -1,4 +1,4 @@
--- What a reader answers, against the rules.
+-- What a reader returns, against the rules.
 use Rattle.std.specs.Prelude.{◌≡◌, Option, None, Some, Result, Ok, Err}
 use Rattle.ft_format.specs.declared.object_error.ObjectError.{ObjectError}
 use Rattle.ft_object.specs.declared.decode_error.DecodeError.{DecodeError}
@@ -9,7 +9,7 @@ abbrev pub IsError : DecodeError → Option ObjectError → Type 0
 IsError (Object e) broken = broken ≡ Some e
 IsError NoMemory broken = Unit {0}
 
--- no rule is broken, or an error tells the first that is
+-- no rule is broken, or an error is the first that is
 abbrev pub Judges : {X : Type 0} → Result X DecodeError → Option ObjectError → Type 0
 Judges (Ok x) broken = broken ≡ None
 Judges (Err e) broken = IsError e broken

@@ -8,7 +8,7 @@ pub enum DecodeError {
     /// The bytes spell no object.
     #[error("{0}")]
     Object(ObjectError),
-    /// There was no memory left.
+    /// Memory ran out.
     #[error("out of memory")]
     NoMemory,
 }

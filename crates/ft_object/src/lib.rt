@@ -1,9 +1,8 @@
 //! Objects as bytes, read.
 //!
-//! The crate promises that `decode` gives the one object that bytes spell, or else the first rule of
-//! the format that they break with its place. The format's definitions and laws are those of
-//! `ft_format`; `specs/Judged.antt` says what a reader may answer. Writing is `encode` and
-//! `spell` of `ft_encode`.
+//! The crate promises that `decode` returns the one object that bytes spell, or else the first rule of the
+//! format that they break, with its place. The format's definitions and laws are those of `ft_format`;
+//! `specs/Judged.antt` says what a reader may return. Writing is `encode` and `spell` of `ft_encode`.
 #![tactic(auto)]
 
 mod copying;

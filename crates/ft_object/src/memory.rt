@@ -14,7 +14,7 @@ pub(crate) fn reserve<T>(alloc: Global, count: u32) -> Result<Vec<T>, DecodeErro
     Vec::with_capacity(alloc, count as usize).map_err(|_| DecodeError::NoMemory)
 }
 
-/// Puts a value at the end.
+/// Appends a value.
 pub(crate) fn push<T: Drop>(values: &mut Vec<T>, value: T) -> Result<(), DecodeError>
     ensures ok { OnOk result (values.new.items ≡ values.old.items ++ value ∷ []) }
     ensures err { OnlyMemory result }

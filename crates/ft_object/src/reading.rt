@@ -29,16 +29,16 @@ fn read_object(alloc: Global, bytes: &[u8]) -> Result<Object, DecodeError>
 /// The object that the bytes spell; or the first rule of the format that they break, with its place; or
 /// out of memory.
 pub fn decode(alloc: Global, bytes: &[u8]) -> Result<Object, DecodeError>
-    // What is given is the object that the bytes spell, in the version that they name.
+    // The result is the object that the bytes spell, in the version that they name.
     ensures spelled { IfOk result (Spells bytes.now (version_at bytes.now)) }
-    // An object that the bytes spell is given, unless memory runs out.
+    // An object that the bytes spell is returned, unless memory runs out.
     ensures given { (v : Version) (o : Object) → Spells bytes.now v o → Gives result o }
-    // An error is the first rule broken, and none is broken where an object is given.
+    // An error is the first rule broken, and none is broken if an object is returned.
     ensures judged { Judges result (broken bytes.now) }
-    // No rule is broken exactly when some object is spelled, and that object is one.
+    // No rule is broken exactly if some object is spelled, and there is only one.
     ensures exact { (broken bytes.now ≡ None) ↔ ((v : Version) × (o : Object) × Spells bytes.now v o) }
     ensures one { (v w : Version) (o other : Object) → Spells bytes.now v o → Spells bytes.now w other → o ≡ other }
-    // A rule of the length, the header or the total that is broken is the answer, whatever memory there is.
+    // If a rule of the length, the header or the total is broken, it is returned, however much memory there is.
     ensures front { (e : ObjectError) → front_broken bytes.now ≡ Some e → IsErrOf result (DecodeError.Object e) }
 {
     read_object(alloc, bytes)

@@ -16,7 +16,7 @@ pub(crate) use versions::{BEYOND_FIRST, LAWFUL_RUNS, LAWFUL_SECOND, RUNS, SECOND
 /// A field, or a rule of it; places with the bytes that are put there; and the error with its place.
 pub(crate) type Row = (&'static str, &'static [(usize, u8)], ObjectError);
 
-/// A lawful alteration: what it shows, and places with the bytes that are put there.
+/// A valid alteration: what it shows, and places with the bytes that are put there.
 pub(crate) type Lawful = (&'static str, &'static [(usize, u8)]);
 
 /// Rows over `A`, one for each error but the length.
@@ -39,7 +39,7 @@ pub(crate) const EACH_ERROR: &[Row] = &[
     ("entry", &[(47, 1)], ObjectError::Entry { at: 44 }),
 ];
 
-/// Lawful alterations of `J`.
+/// Valid alterations of `J`.
 pub(crate) const LAWFUL: &[Lawful] = &[
     ("refs, the most", &[(52, 8)]),
     ("variables, the most", &[(124, 128)]),

@@ -1,4 +1,4 @@
-//! Texts, with what they are refused for.
+//! Texts, and why they are refused.
 use ft_asm::AsmError;
 use ft_object::ObjectError;
 
@@ -18,7 +18,7 @@ pub(crate) const RUN: &[u8] =
 pub(crate) const FIVE_COMMENTED: &[u8] =
     b"# stores 5\n\n\t cell\tout  int 0 \n #\nnode 0 memory\n#x y\ntype 0 0\nblock 0\n  mov r0 G 1048576 ref:int\n  mov r1 G 5 int\n\n  mov r32 B 1048576 ref:int\n  mov r33 B 5 int\n  st_G r0 r1\n  st_B r32 r33\n  halt\n\nentry 0";
 
-/// Texts of which a line is none of the forms, with its number.
+/// Texts with a line of no form, with its number.
 pub(crate) const FORMLESS: &[(&[u8], u32)] = &[
     (b"cel out int 0\n", 1),
     (b"cell out int\n", 1),
@@ -58,8 +58,7 @@ pub(crate) const FORMLESS: &[(&[u8], u32)] = &[
     (b"entry 0\nentry\n", 2),
 ];
 
-/// Texts of which a line, of some form, may not stand where it does, or which lack a line, with its
-/// number.
+/// Texts with a line, of some form, that is not allowed where it is, or that lack a line, with its number.
 pub(crate) const DISORDERED: &[(&[u8], u32)] = &[
     (b"", 1),
     (b"\n", 2),
@@ -81,7 +80,7 @@ pub(crate) const DISORDERED: &[(&[u8], u32)] = &[
     (b"entry 0\n\n#\nhalt\nx\n", 4),
 ];
 
-/// Texts of the order whose tables break a rule of the format, with the first one.
+/// Texts in order whose tables break a rule of the format, with the first one.
 pub(crate) const BROKEN: &[(&[u8], ObjectError)] = &[
     (b"entry 0\n", ObjectError::Count { at: 16 }),
     (b"type 0 0\nentry 0\n", ObjectError::Count { at: 28 }),
@@ -127,12 +126,12 @@ pub(crate) const BROKEN: &[(&[u8], ObjectError)] = &[
     ),
 ];
 
-/// The refusal of a text by a line that is none of the forms.
+/// The refusal of a text because of a line of no form.
 pub(crate) fn formless(line: u32) -> AsmError {
     AsmError::Text { line }
 }
 
-/// The refusal of a text by a line that may not stand there, or is missing.
+/// The refusal of a text because of a line that is not allowed there, or is missing.
 pub(crate) fn disordered(line: u32) -> AsmError {
     AsmError::Order { line }
 }

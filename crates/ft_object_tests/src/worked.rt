@@ -58,7 +58,7 @@ fn first_name(bytes: &[u8]) -> Option<&[u8]> {
     }
 }
 
-/// The bytes with others at these places, all of which are there.
+/// The bytes with others at these places, all of which exist.
 fn altered(rt: &impl AllocGlobal, bytes: &[u8], changes: &[(usize, u8)]) -> Result<Vec<u8>, Fail> {
     let mut bytes = Vec::from_slice(rt.alloc(), bytes)?;
     for change in changes {
@@ -130,7 +130,7 @@ fn prefixes_are_refused_by_their_length(rt: HostRuntime) {
     }
 }
 
-/// Whether decoding gives what the view over the bytes gives: the object that is spelled so, or the same error.
+/// Whether decoding returns what the view over the bytes does: the object that is spelled, or the same error.
 fn answers_are_the_same(rt: &impl AllocGlobal, bytes: &[u8]) -> Result<bool, Fail> {
     match View::over(bytes) {
         Ok(_) => is_written_again(rt, bytes),

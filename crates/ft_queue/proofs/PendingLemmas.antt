@@ -22,7 +22,7 @@ newest_at-append (f ∷ q) e a =
     let p = cond (nat_eq f.0 a) (Some f.1) None in
     ap (λ o. option_or o p) (newest_at-append q e a) ∙ option_or-cond (nat_eq e.0 a) e.1 (newest_at q a) p
 
--- one more entry of a queue that is gone over, oldest first
+-- one more entry of a queue that is traversed, oldest first
 newest_at-take : (q : Pending) (i a : ℕ) (d : ℕ × ℕ) → i < length q
     → newest_at (take (i + 1) q) a ≡ cond (nat_eq (slice_index_or q i d).0 a) (Some (slice_index_or q i d).1)
     (newest_at (take i q) a)
@@ -57,7 +57,7 @@ set-with_value [] i v e below is = absurd (omega arith)
 set-with_value (f ∷ q) zero v e below is = ap (λ (x : ℕ × ℕ). (x.0, v) ∷ q) is
 set-with_value (f ∷ q) (suc i) v e below is = ap (λ r. f ∷ r) (set-with_value q i v e (omega arith) is)
 
--- where there is no such entry, nothing changes
+-- if there is no such entry, nothing changes
 pub with_address-beyond : (q : Pending) (i v : ℕ) → length q ≤ i → with_address q i v ≡ q
 unfolding with_address
 with_address-beyond [] i v beyond = refl
@@ -70,14 +70,14 @@ with_value-beyond [] i v beyond = refl
 with_value-beyond (f ∷ q) zero v beyond = absurd (omega arith)
 with_value-beyond (f ∷ q) (suc i) v beyond = ap (λ r. f ∷ r) (with_value-beyond q i v (omega arith))
 
--- the entry that is gone over has the address
+-- the current entry has the address
 pub newest_now : (q : Pending) (i a : ℕ) (e : ℕ × ℕ) → i < length q → slice_get q i ≡ Some e → e.0 ≡ a → Some e.1
     ≡ newest_at (take (i + 1) q) a
 newest_now q i a e below h here =
     let g = get_or_from_slice_get q i e (0, 0) h in
     ap (λ (x : ℕ × ℕ). Some x.1) (sym g) ∙ newest_at-take_here q i a (0, 0) below (ap (λ (x : ℕ × ℕ). x.0) g ∙ here)
 
--- the entry that is gone over has another address
+-- the current entry has another address
 pub newest_before : (q : Pending) (i a : ℕ) (e : ℕ × ℕ) → i < length q → slice_get q i ≡ Some e → e.0 ≢ a →
     newest_at (take i q) a ≡ newest_at (take (i + 1) q) a
 newest_before q i a e below h other =

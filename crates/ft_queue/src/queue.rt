@@ -8,7 +8,7 @@ use std::alloc::Global;
 use std::marker::Model;
 use thiserror::Error;
 
-/// How many pairs a queue holds at the most.
+/// The maximum number of pairs in a queue.
 pub const ROOM: usize = 8;
 
 /// The queue holds as many pairs as it can.
@@ -43,7 +43,7 @@ impl StoreQueue {
         })
     }
 
-    /// Takes over another queue's pairs, which takes no memory.
+    /// Copies another queue's pairs, without allocating.
     pub fn copy_from(&mut self, other: &StoreQueue)
         ensures { self.new ≡ other.now }
     {
@@ -88,7 +88,7 @@ impl StoreQueue {
         self.pairs.is_empty()
     }
 
-    /// Pair `i`, counted from the oldest as 0; `None` exactly when there is none.
+    /// Pair `i`, counted from the oldest as 0; `None` exactly if there is none.
     #[inline]
     pub fn get(&self, i: usize) -> Option<(u64, u64)>
         ensures { result ≡ slice_get self.now i }
@@ -96,7 +96,7 @@ impl StoreQueue {
         self.pairs.get(i).copied()
     }
 
-    /// Adds a pair as the newest. `Full` comes exactly at eight pairs, and then nothing changes.
+    /// Adds a pair as the newest. `Full` is returned exactly at eight pairs, and then nothing changes.
     #[inline]
     pub fn push(&mut self, addr: u64, value: u64) -> Result<(), Full>
         ensures full { IsErr result ↔ (length self.old ≡ ROOM) }
@@ -113,7 +113,7 @@ impl StoreQueue {
         }
     }
 
-    /// Takes the oldest pair; `None` exactly when the queue is empty.
+    /// Removes the oldest pair; `None` exactly if the queue is empty.
     #[inline]
     pub fn pop_oldest(&mut self) -> Option<(u64, u64)>
         ensures oldest { self.old ≡ option_to_list result ++ self.new }
@@ -122,7 +122,7 @@ impl StoreQueue {
         self.pairs.pop_front()
     }
 
-    /// The value of the newest pair with this address; `None` exactly when there is none.
+    /// The value of the newest pair with this address; `None` exactly if there is none.
     #[inline]
     pub fn newest_at(&self, addr: u64) -> Option<u64>
         ensures { result ≡ newest_at self.now addr }
@@ -138,8 +138,7 @@ impl StoreQueue {
         newest
     }
 
-    /// Puts another address into pair `i`; `false` exactly when there is none, and then nothing
-    /// changes.
+    /// Puts another address into pair `i`; `false` exactly if there is none, and then nothing changes.
     pub fn strike_addr(&mut self, i: u8, addr: u64) -> bool
         ensures there { IsTrue result ↔ (i < length self.old) }
         ensures struck { self.new ≡ with_address self.old i addr }
@@ -153,8 +152,7 @@ impl StoreQueue {
         }
     }
 
-    /// Puts another value into pair `i`; `false` exactly when there is none, and then nothing
-    /// changes.
+    /// Puts another value into pair `i`; `false` exactly if there is none, and then nothing changes.
     pub fn strike_value(&mut self, i: u8, value: u64) -> bool
         ensures there { IsTrue result ↔ (i < length self.old) }
         ensures struck { self.new ≡ with_value self.old i value }

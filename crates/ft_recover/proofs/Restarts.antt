@@ -1,4 +1,4 @@
--- Runs under a plan of which the first outputs get no line, and what a recovery comes to by them.
+-- Runs under a plan whose first outputs get no line, and how they end a recovery.
 use Rattle.std.proofs.Common.{◌≡◌, ◌≢◌, ℕ, ◌+◌, ◌-◌, ◌^◌, ◌<◌, ◌≤◌, List, [], ◌++◌, length, Option, None, Result, refl}
 use Rattle.std.proofs.Common.{ap, sym, subst, ◌∙◌, arith}
 use Rattle.std.specs.Prelude.{drop}

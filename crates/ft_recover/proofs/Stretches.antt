@@ -1,4 +1,4 @@
--- Outputs of which the first get no line.
+-- Outputs the first of which get no line.
 use Rattle.std.proofs.Common.{◌≡◌, ℕ, zero, suc, ◌+◌, ◌-◌, ◌%◌, ◌^◌, ◌<◌, List, [], ◌∷◌, ◌++◌, length, Result, is_ok}
 use Rattle.std.proofs.Common.{true, refl, ap, sym, subst, ◌∙◌, arith}
 use Rattle.std.specs.Prelude.{drop}

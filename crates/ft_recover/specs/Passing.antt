@@ -1,4 +1,4 @@
--- Runs of which the first outputs may be left out: private to the crate.
+-- Runs whose first outputs may be left out: private to the crate.
 use Rattle.std.specs.Prelude.{◌≡◌, ℕ, zero, suc, ◌+◌, ◌-◌, ◌^◌, ◌<◌, Bool, true, List, [], length, drop, Option}
 use Rattle.std.proofs.Common.{sym, add-zero}
 use Rattle.std.proofs.Math.Nat.{sub-zero}
@@ -17,7 +17,7 @@ use Rattle.ft_machine.specs.Drives.{output_lines, end_of_going}
 use Rattle.ft_recover.specs.declared.recover_end.RecoverEnd.{RecoverEnd}
 use Rattle.ft_recover.specs.declared.recover_end.RecoverEnd.TheVariants as ending
 
--- outputs were counted, where their number fits, and a line was put for each but the first ones, of which so many are left
+-- outputs were counted, if their number fits, and a line was put for each but the first ones, `left` of which remain
 pub record Passes (o : Object) (passed count : ℕ) (outputs : List Output) (goes : Bool) (left now : ℕ) (old new : SinkLog) : Type 0 where
   pub left_is : left ≡ passed - length outputs
   pub count_is : count + length outputs < 2 ^ 64 → now ≡ count + length outputs
@@ -31,12 +31,12 @@ no_lines o (suc passed) log = lines_none log
 pub passes_none : (o : Object) (passed count : ℕ) (log : SinkLog) → Passes o passed count [] true passed count log log
 passes_none o passed count log = record { left_is = sym (sub-zero passed); count_is = λ few. sym (add-zero count); lines = no_lines o passed log }
 
--- a run under a plan was taken for n steps, and had so many outputs
+-- n steps of a run under a plan were taken, with this many outputs
 pub record RunsTo (o : Object) (strike : Option Strike) (w : List Wild) (n : ℕ) (s' : State) (count : ℕ) : Type 0 where
   pub state_is : s' ≡ state_after o strike w n
   pub count_is : count ≡ length (outputs_after o strike w n)
 
--- a recovery came to its end: the run without a fault has this status, and this is the restart
+-- a recovery finished: the run without a fault has this status, and this is the restart
 abbrev pub Finishes : RecoverEnd → Status → Option ℕ → Type 0
 Finishes (ending.Done again) s restart = (s ≡ status.Done) × (again ≡ restart)
 Finishes (ending.OutOfSteps again) s restart = (s ≡ status.Running) × (again ≡ restart)

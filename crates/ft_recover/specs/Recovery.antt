@@ -1,4 +1,4 @@
--- What a recovery answers and puts.
+-- What a recovery returns and writes.
 use Rattle.std.specs.Prelude.{◌≡◌, ℕ, List, length, Option, Some, None}
 use Rattle.ft_edge.specs.Lines.{PutEnd, AllPut, PutFailed, NothingPut}
 use Rattle.ft_isa.specs.declared.output.Output.{Output}
@@ -12,13 +12,13 @@ use Rattle.ft_machine.specs.Drives.{output_lines}
 use Rattle.ft_recover.specs.declared.recover_end.RecoverEnd.{RecoverEnd}
 use Rattle.ft_recover.specs.declared.recover_end.RecoverEnd.TheVariants.{Done, OutOfSteps, WriteFault, NoMemory}
 
--- how many outputs a run with this status has committed, where it is detected
+-- how many outputs a run with this status has committed, if it is detected
 abbrev pub count_at : Status → List Output → Option ℕ
 count_at status.Running outputs = None
 count_at status.Done outputs = None
 count_at status.Detected outputs = Some (length outputs)
 
--- the number of outputs that the run under a plan has committed after n steps, where it is detected then
+-- the number of outputs that the run under a plan has committed after n steps, if it is detected then
 abbrev pub restart_output : Object → Option Strike → List Wild → ℕ → Option ℕ
 restart_output o strike w n = count_at (status_after o strike w n) (outputs_after o strike w n)
 
@@ -26,21 +26,21 @@ restart_output o strike w n = count_at (status_after o strike w n) (outputs_afte
 abbrev pub whole_output : Object → List Wild → ℕ → List (List ℕ)
 whole_output o w n = output_lines o (outputs_after o None w n)
 
--- a recovery that ended so, where the run without a fault has this status
+-- a recovery with this end, if the run without a fault has this status
 abbrev pub EndsAs : RecoverEnd → Status → Type 0
 EndsAs (Done again) s = s ≡ status.Done
 EndsAs (OutOfSteps again) s = s ≡ status.Running
 EndsAs WriteFault s = Unit {0}
 EndsAs NoMemory s = Unit {0}
 
--- a recovery tells this restart, or none
+-- a recovery reports this restart, or none
 abbrev pub Restarts : RecoverEnd → Option ℕ → Type 0
 Restarts (Done again) restart = again ≡ restart
 Restarts (OutOfSteps again) restart = again ≡ restart
 Restarts WriteFault restart = Unit {0}
 Restarts NoMemory restart = Unit {0}
 
--- how the puts of a recovery ended that ended so
+-- how the puts of a recovery with this end ended
 abbrev pub put_end : RecoverEnd → PutEnd
 put_end (Done again) = AllPut
 put_end (OutOfSteps again) = AllPut

@@ -1,16 +1,15 @@
 //! How a recovery ended.
 
-/// How a recovery ended. `again` is the number of outputs that the first run had committed when it
-/// detected the fault, and so the number that the second run left out; `None` where there was no second
-/// run.
+/// How a recovery ended. `again` is the number of outputs that the first run had committed when it detected the fault,
+/// and so the number that the second run left out; `None` if there was no second run.
 #[derive(Clone, Copy, Debug, PartialEq, Eq)]
 pub enum RecoverEnd {
     /// The program came to its end.
     Done { again: Option<u64> },
-    /// The program still runs after the last step.
+    /// The program is still running after the last step.
     OutOfSteps { again: Option<u64> },
     /// A line could not be written.
     WriteFault,
-    /// There was no memory left. Nothing was written.
+    /// Memory ran out. Nothing was written.
     NoMemory,
 }

@@ -17,7 +17,7 @@ use ft_machine::{Machine, Pause, run_under};
 use ft_semantics::Status;
 use ft_types::Program;
 
-/// Whether a put failed where a run ended so.
+/// Whether a put failed, from how a run ended.
 fn broke_off(pause: Pause) -> bool
     ensures { Decides result (pause ≡ Pause.Refused) }
 {
@@ -30,7 +30,7 @@ fn broke_off(pause: Pause) -> bool
 }
 
 /// Runs a machine from its start under a plan, for at most `steps` steps, and puts a line for each output but the first
-/// `passed`. Tells how many outputs there were.
+/// `passed`. Returns how many outputs there were.
 fn run_past<P: Program, K: Sink>(
     machine: &mut Machine,
     program: &P,
@@ -85,8 +85,8 @@ fn run_again<P: Program, K: Sink>(
     }
 }
 
-/// Runs an accepted program under a plan, for at most `steps` steps. Where the fault is detected, runs it
-/// again on the second machine.
+/// Runs an accepted program under a plan, for at most `steps` steps. If the fault is detected, runs it again on the
+/// second machine.
 fn run_both<P: Program, K: Sink>(
     first: &mut Machine,
     second: &mut Machine,
@@ -112,7 +112,7 @@ fn run_both<P: Program, K: Sink>(
     }
 }
 
-/// As `run_both`, with a failed put as an end.
+/// Like `run_both`, with a failed put as an end.
 pub(crate) fn recover_on<P: Program, K: Sink>(
     first: &mut Machine,
     second: &mut Machine,

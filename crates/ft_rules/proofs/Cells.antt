@@ -24,7 +24,7 @@ cell_found o k h e = found (slice_get o.cells k) refl e
     found None f e = cc
     found (Some x) f e = (x, (f, (let same : cell_head_of x ≡ h = cc in same)))
 
--- the types of the cells from one on
+-- the types of the cells from one
 pub types_there : (o : Object) (k past : ℕ) (h : CellHead) → k < past → option_map cell_head_of (slice_get o.cells k)
     ≡ Some h → map basic_of (slice_range o.cells k past) ≡ h.basic ∷ map basic_of (slice_range o.cells (k + 1) past)
 types_there o k past h l e =

@@ -138,7 +138,7 @@ does_note x o fs gs c d rd k p goes made base keeps held types noted still named
 
 -- THE STATIC QUEUE
 
--- the queue is empty where it has no pair
+-- the queue is empty if it has no pair
 pub empty_is : (q : List FormPair) (n : ℕ) → length q ≡ n → eqb n 0 ≡ is_empty q
 unfolding is_empty
 empty_is [] n e = rw (sym e) refl
@@ -180,7 +180,7 @@ pub steps_of : (o : Object) (k : Defined) (i j : Instr) (s t : ℕ) → i ≡ j 
     t ≤ s + rule_cost o k i
 steps_of o k i j s t e h = subst (λ (x : Instr). t ≤ s + rule_cost o k x) (sym e) h
 
--- a pair more, where there was room
+-- one more pair, if there was room
 pub grows_pair : (fs : List Normal) (c d : Context) (p : FormPair) (n : ℕ) → context_in fs d
     ≡ record (context_in fs c) { queue = (context_in fs c).queue ++ p ∷ [] } → length (context_in fs c).queue ≡ n →
     ltb n 8 ≡ true → Grows fs fs c d
@@ -193,7 +193,7 @@ grows_pair fs c d p n e l h =
 
 -- OVER MORE FORMS
 
--- a row from a context that stays where the list of forms has grown
+-- a row from a context that stays if the list of forms has grown
 pub row_on : (o : Object) (fs gs hs : List Normal) (c d : Context) (i : Instr) (r : Result Next RuleError) →
     Keeps fs gs → HoldsForms fs c → Answers (row o (context_in gs c) i) hs d r →
     Answers (row o (context_in fs c) i) hs d r

@@ -1,4 +1,4 @@
--- What the answers of the rules say of a typing row.
+-- What the results of the rules say about a typing row.
 use Rattle.std.specs.Prelude.{◌≡◌, ◌+◌, ◌*◌, ◌≤◌, ℕ, List, length, Result, Ok, Err, OnErr, Some, slice_get}
 use Rattle.ft_isa.specs.declared.instr.Instr.{Instr}
 use Rattle.ft_static.specs.Form.{Form as Normal, updates}
@@ -15,17 +15,17 @@ use Rattle.ft_typing.specs.Context.{Context as Defined}
 use Rattle.ft_contexts.specs.Costs.{tree_cost}
 use Rattle.ft_contexts.specs.Contexts.{context_in, HoldsForms, NamesTypes}
 
--- what an error says of what a row gives: a refusal names the first failing premise; out of memory says nothing
+-- what an error says about a row: a refusal names the first failing premise; out of memory claims nothing
 abbrev pub IsRefusal : Outcome → RuleError → Type 0
 IsRefusal x (Refused why) = x ≡ Fails why
 IsRefusal x NoMemory = Unit {0}
 
--- what an answer of one premise says of what a row gives: what comes after it, or a refusal
+-- what the result of one premise says about a row: the rest decides, or it is refused
 abbrev pub Passes : {A : Type 0} → Outcome → (A → Outcome) → Result A RuleError → Type 0
 Passes x after (Ok a) = x ≡ after a
 Passes x after (Err e) = IsRefusal x e
 
--- what the answer of a whole row says of it, where this is the context afterwards
+-- what the result of a whole row says about it, if this is the context afterwards
 abbrev pub GoesOn : Outcome → List Normal → Context → Next → Type 0
 GoesOn x fs c next.On = x ≡ Goes (context_in fs c)
 GoesOn x fs c next.Ends = x ≡ Ends
@@ -39,7 +39,7 @@ pub record IsInstrOf (o : Object) (i : Instr) : Type 0 where
   pub index : ℕ
   pub found : slice_get o.instrs index ≡ Some i
 
--- the memory has at most one update more, and the static queue no more than 8 pairs where it had no more before
+-- the memory has at most one update more, and the static queue no more than 8 pairs if it had no more before
 pub record Grows (fs gs : List Normal) (c d : Context) : Type 0 where
   pub memory : updates (context_in gs d).memory ≤ updates (context_in fs c).memory + 1
   pub queue : length (context_in fs c).queue ≤ 8 → length (context_in gs d).queue ≤ 8
@@ -51,8 +51,8 @@ rule_cost o c (BzB rz rd subst) = 210 * tree_cost o (length o.nodes)
 rule_cost o c (Ld colour rd rs) = updates c.memory + 2 * length c.queue
 rule_cost o c i = 0
 
--- what a row does: it answers so, from the context before and the one afterwards; an error leaves the context; what
--- was held is held; the context's forms are held, and its code types are the object's
+-- the contract of a row: its result, given both contexts; an error leaves the context unchanged; held forms stay held;
+-- the context's forms are held, and its code types are the object's
 pub record Does (x : Outcome) (o : Object) (fs gs : List Normal) (c d : Context) (r : Result Next RuleError) : Type 0 where
   pub row : Answers x gs d r
   pub before : OnErr r (d ≡ c)

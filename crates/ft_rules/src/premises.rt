@@ -1,4 +1,4 @@
-//! The premises that need no form to be made: each is a word of the typing rows.
+//! The premises that need no new form: each is a word of the typing rows.
 ghost use Rattle.std.specs.Prelude.{◌≡◌, ◌<◌, IfOk, IsTrue, OnOk, List, ℕ, drop, length};
 ghost use Rattle.ft_static.specs.Form.{Form as Normal, Polynomial};
 ghost use Rattle.ft_norm.specs.Held.{IsInteger, polynomial};
@@ -71,7 +71,7 @@ pub fn code_type(basic: Basic) -> Result<u16, RuleError>
     }
 }
 
-/// Nothing, where d is 0.
+/// Nothing, if d is 0.
 #[tactic(auto, unfolding(ft_typing::specs::TypingRow::for_zero))]
 pub fn zero(context: &Context) -> Result<(), RuleError>
     ensures { (fs : List Normal) (next : Outcome) → Passes (for_zero (context_in fs context.now).d next) (λ _. next) result }
@@ -82,7 +82,7 @@ pub fn zero(context: &Context) -> Result<(), RuleError>
     }
 }
 
-/// The code type and the form of d, where d is a target.
+/// The code type and the form of d, if d is a target.
 #[tactic(auto, unfolding(ft_typing::specs::TypingRow::for_target))]
 pub fn target(context: &Context) -> Result<(u16, Form), RuleError>
     ensures passes { (fs : List Normal) (next : ℕ → Polynomial → Outcome) → Passes (for_target (context_in fs context.now).d next) (λ x. next x.0 (polynomial fs x.1)) result }
@@ -94,7 +94,7 @@ pub fn target(context: &Context) -> Result<(u16, Form), RuleError>
     }
 }
 
-/// The test, the code type and the form of d, where d is a target or 0 by a test.
+/// The test, the code type and the form of d, if d is a target or 0 by a test.
 #[tactic(auto, unfolding(ft_typing::specs::TypingRow::for_conditional))]
 pub fn conditional(context: &Context) -> Result<(Form, u16, Form), RuleError>
     ensures passes { (fs : List Normal) (next : Polynomial → ℕ → Polynomial → Outcome) → Passes (for_conditional (context_in fs context.now).d next) (λ x. next (polynomial fs x.0) x.1 (polynomial fs x.2)) result }

@@ -14,10 +14,10 @@ ghost use Rattle.ft_contexts.specs.Contexts.{HoldsForms, NamesTypes, context_in,
 
 use crate::premises::{code_type, need, referred, typed};
 use crate::why::RuleError;
-use ft_contexts::{Context, RegForm, is_seen_as, same_colour, same_integers};
+use ft_contexts::{Context, RegForm, same_integers};
 use ft_isa::{Colour, Reg};
 use ft_norm::{Form, Interner};
-use ft_typing::Why;
+use ft_typing::{Why, is_seen_as, same_colour};
 
 /// A register of this colour.
 pub fn one(context: &Context, r: Reg, colour: Colour) -> Result<RegForm, RuleError>

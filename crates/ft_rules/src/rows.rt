@@ -15,11 +15,11 @@ use crate::runs::index;
 use crate::transfer::leads;
 use crate::typed_words::has_type;
 use crate::why::{Next, RuleError};
-use ft_contexts::{Context, QUEUE_ROOM, RegForm, Shared, StateD, same_colour, same_integers};
+use ft_contexts::{Context, QUEUE_ROOM, RegForm, Shared, StateD, same_integers};
 use ft_isa::{Basic, Colour, Coloured, INT, Instr, Op, Reg, Steps, Subst};
 use ft_norm::Interner;
 use ft_types::Program;
-use ft_typing::Why;
+use ft_typing::{Why, same_colour};
 use std::sync::ledger::Ledger;
 
 /// An operation on two registers.
@@ -301,10 +301,9 @@ fn halt(context: &Context, forms: &Interner) -> Result<Next, RuleError>
     Ok(Next::Ends)
 }
 
-/// Types one instruction. `On` comes where the block goes on after it, and the context is then that of
-/// the next instruction; `Ends` where the block ends with it, a blue jump or `halt`. `Refused` names
-/// the first failing premise, never `BlockEnd`, and leaves the context as before. When out of memory,
-/// the context stays as before, too.
+/// Types one instruction. `On` is returned if the block goes on after it, and the context is then that of the next
+/// instruction; `Ends` if the block ends with it, a blue jump or `halt`. `Refused` names the first failing premise,
+/// never `BlockEnd`, and leaves the context unchanged. If memory runs out, the context stays unchanged, too.
 pub fn apply_rule<P: Program, L: Ledger>(
     ctx: &mut Context,
     forms: &mut Interner,

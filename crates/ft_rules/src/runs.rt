@@ -14,16 +14,16 @@ ghost use Rattle.ft_rules.specs.Answers.{Does, Passes};
 
 use crate::premises::typed;
 use crate::why::{Next, RuleError};
-use ft_contexts::{Context, RegForm, same_basic};
+use ft_contexts::{Context, RegForm};
 use ft_isa::{Basic, FIRST_CELL, Instr, NoMemory, Op, Reg};
 use ft_norm::{Form, Interner};
 use ft_types::Program;
-use ft_typing::Why;
+use ft_typing::{Why, same_basic};
 
-/// The greatest number of `ref` of a basic type.
+/// The maximum number of `ref` in a basic type.
 const REFS: u8 = 8;
 
-/// Whether the cells `from` on, up to `past`, are all of this basic type.
+/// Whether the cells from `from` up to `past` are all of this basic type.
 fn are_all<P: Program>(program: &P, basic: Basic, from: u32, past: u32) -> bool
     requires spellable { IsSpellable (P.object program.now) }
     requires within { past ≤ length (P.object program.now).cells }
@@ -39,7 +39,7 @@ fn are_all<P: Program>(program: &P, basic: Basic, from: u32, past: u32) -> bool
     true
 }
 
-/// The type of the cells of a run, where they are all of one and a `ref` can refer to it.
+/// The type of the cells of a run, if they are all of one and a `ref` can refer to it.
 fn run_type<P: Program>(program: &P, first: u32, count: u32) -> Option<Basic>
     requires spellable { IsSpellable (P.object program.now) }
     requires run { IsRun (length (P.object program.now).cells) first count }
@@ -84,7 +84,7 @@ fn array<P: Program>(program: &P, first: u32, count: u32) -> Result<Basic, RuleE
     }
 }
 
-/// The form of the address of the cell of a run that a word names, by the form of that word.
+/// The form of the address of the cell of a run that a word selects, by the form of that word.
 fn run_form(forms: &mut Interner, first: u32, count: u32, named: Form) -> Result<Form, NoMemory>
     requires named { IsInteger forms.old named }
     requires some { 1 ≤ count }
@@ -97,7 +97,7 @@ fn run_form(forms: &mut Interner, first: u32, count: u32, named: Form) -> Result
     forms.op(Op::Add, base, place)
 }
 
-/// The address of the cell of a run that a register names.
+/// The address of the cell of a run that a register selects.
 pub fn index<P: Program>(
     context: &mut Context,
     program: &P,

@@ -1,5 +1,5 @@
-//! The premises on the target of a transfer: what holds here is as the target's code type wants it,
-//! after the substitution.
+//! The premises on the target of a transfer: what holds here is as the target's code type requires, after the
+//! substitution.
 ghost use Rattle.std.specs.Prelude.{◌+◌, ◌*◌, ◌<◌, ◌≤◌, length};
 ghost use Rattle.ft_norm.specs.Held.{Keeps};
 ghost use Rattle.ft_types.specs.Spellable.{IsSpellable, IsSubst};

@@ -3,9 +3,9 @@ ghost use Rattle.std.specs.Prelude.{◌≡◌, ◌<◌, length};
 ghost use Rattle.ft_types.specs.Spellable.{IsSpellable};
 ghost use Rattle.ft_typing.specs.TypedWord.{block_at, cell_type, has_type, has_type_over};
 
-use ft_contexts::same_basic;
 use ft_isa::{Base, Basic, FIRST_CELL};
 use ft_types::{Block, Program};
+use ft_typing::same_basic;
 
 /// Whether a word has a basic type: every word has `int`, the code address of a block's first
 /// instruction has that block's code type, and the address of a cell has `ref` of the cell's type.
@@ -41,7 +41,7 @@ fn has_base<P: Program>(program: &P, word: u64, base: Base) -> bool
     }
 }
 
-/// The basic type of the cell at an address; `None` exactly when no cell is there.
+/// The basic type of the cell at an address; `None` exactly if no cell is there.
 #[tactic(auto, unfolding(ft_typing::specs::TypedWord::cell_of))]
 fn cell_type<P: Program>(program: &P, address: u64) -> Option<Basic>
     requires { IsSpellable (P.object program.now) }
@@ -57,8 +57,8 @@ fn cell_type<P: Program>(program: &P, address: u64) -> Option<Basic>
     Some(program.cell(k as u32).basic)
 }
 
-/// The block whose first instruction is at a code address; `None` exactly when there is none. Blocks
-/// begin one after the other, so each look halves the places that are left.
+/// The block whose first instruction is at a code address; `None` exactly if there is none. Blocks begin one after the
+/// other, so each look halves the places that are left.
 fn block_at<P: Program>(program: &P, address: u64) -> Option<Block>
     requires { IsSpellable (P.object program.now) }
     ensures { result ≡ block_at (P.object program.now) address }

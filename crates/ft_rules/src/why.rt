@@ -1,10 +1,10 @@
-//! Why a row does not apply, and what it gives where it does.
+//! Why a row does not apply, and its result if it does.
 use ft_isa::NoMemory as OutOfMemory;
 use ft_typing::Why;
 use std::alloc::AllocError;
 use thiserror::Error;
 
-/// Why there is no next context: a premise fails, or there is no memory left.
+/// Why there is no next context: a premise fails, or memory ran out.
 #[derive(Clone, Copy, Debug, PartialEq, Eq, Error)]
 pub enum RuleError {
     #[error("{0}")]
@@ -24,7 +24,7 @@ impl From<OutOfMemory> for RuleError {
     }
 }
 
-/// What a row gives: the block goes on after the instruction, or it ends with it.
+/// The result of a row: the block goes on after the instruction, or it ends with it.
 #[derive(Clone, Copy, Debug, PartialEq, Eq)]
 pub enum Next {
     On,

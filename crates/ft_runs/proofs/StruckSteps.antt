@@ -26,17 +26,17 @@ use Rattle.ft_tolerance.proofs.Masking.{before, alike_at_once, alike_next, follo
 
 -- WHAT A STEP TELLS
 
--- a state that was detected answers so
+-- a state that was detected gives this result
 detected_told : (o : Object) (t : State) (v : List Wild) → t.status ≡ Detected → told (step o t v) ≡ stepped.Detected
 detected_told o t v d = ap told (stays_at o t.status t v (subst HasStopped (sym d) tt)) ∙ ap told_status d
 
--- a step that follows another tells the same, or that it is detected
+-- a step that follows another has the same result, or is detected
 follows_told : (c : Colour) (x y : Stepping) → Follows c x y → (told y ≡ told x) ⊎ (told y ≡ stepped.Detected)
 follows_told c x y (keeps_alike h e) = inl (ap (λ s. told_output y.output s) (sym h.status)
     ∙ ap (λ z. told_output z x.state.status) (sym e))
 follows_told c x y (is_detected d e) = inr (ap (λ z. told_output z y.state.status) e ∙ ap told_status d)
 
--- a step from a state that is alike or detected tells what the other tells, or that it is detected
+-- a step from a state that is alike or detected has the other's result, or is detected
 told_next : (c : Colour) (o : Object) (p : Place) (s t : State) (w v : List Wild) → IsSpellable o → IsAccepted o →
     EndsOrFits o p s → IsAlikeOrDetected c s t
     → (told (step o t v) ≡ told (step o s w)) ⊎ (told (step o t v) ≡ stepped.Detected)
@@ -114,7 +114,7 @@ struck_next r s t left left' h es el =
           (along r.object r.wild r.taken h.spellable h.accepted).after h.alike));
     }
 
--- a step answers as that of the run without the fault, or that the run is detected
+-- a step has the result of the run without the fault, or the run is detected
 pub struck_told : (r : StruckRun) (s : State) (left : List Wild) → IsStruckRun r s left
     → (told (step r.object s left) ≡ told (step r.object (state_after r.object None r.wild r.taken) r.wild)) ⊎
     (told (step r.object s left) ≡ stepped.Detected)

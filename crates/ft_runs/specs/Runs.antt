@@ -1,4 +1,4 @@
--- Runs of accepted programs, as their types keep them.
+-- Runs of accepted programs, with the invariants of their types.
 use Rattle.std.specs.Prelude.{◌≡◌, ℕ, ◌≤◌, true, List, None, Some}
 use Rattle.ft_isa.specs.declared.plan.Strike.{Strike}
 use Rattle.ft_isa.specs.declared.plan.Wild.{Wild}
@@ -15,8 +15,8 @@ pub record CleanRun : Type 0 where
   pub object : Object
   pub taken : ℕ
 
--- the machine of a run without a fault: an accepted object's state after the steps taken, whatever answers to wild
--- loads there are
+-- the machine of a run without a fault: an accepted object's state after the steps taken, whatever the answers to wild
+-- loads
 pub record IsClean (r : CleanRun) (s : State) : Type 0 where
   pub spellable : IsSpellable r.object
   pub accepted : IsAccepted r.object
@@ -29,13 +29,13 @@ pub record StruckRun : Type 0 where
   pub wild : List Wild
   pub taken : ℕ
 
--- the state in which the next step is taken: the state after the steps taken, struck where the strike comes before
--- the next step
+-- the state in which the next step is taken: the state after the steps taken, struck if the strike is due before the
+-- next step
 abbrev pub struck_now : StruckRun → State
 struck_now r = struck_before (Some r.strike) r.taken (state_after r.object (Some r.strike) r.wild r.taken)
 
--- the machine of a run that was struck, at a site that was there, and the answers that are left; the machine is alike to
--- that of the run without the strike after as many steps, or it is detected
+-- the machine of a run that was struck, at an existing site, and the answers that are left; the machine is like that of
+-- the run without the strike after the same number of steps, or it is detected
 pub record IsStruckRun (r : StruckRun) (s : State) (left : List Wild) : Type 0 where
   pub spellable : IsSpellable r.object
   pub accepted : IsAccepted r.object

@@ -48,7 +48,7 @@ impl<'a, P: Program> Clean<'a, P> {
         })
     }
 
-    /// Takes one step, which never detects a fault. A run that is done stays as it is.
+    /// Takes one step, which never detects a fault. A run that is done does not change.
     pub fn step(&mut self) -> Stepped
         requires { self.old.taken < 2 ^ 63 }
         ensures taken { self.new ≡ record self.old { taken = self.old.taken + 1 } }
@@ -61,9 +61,8 @@ impl<'a, P: Program> Clean<'a, P> {
         stepped
     }
 
-    /// Strikes the run before its next step: the word at the site becomes `value`. `Idle` exactly when
-    /// the run has stopped or the site is not there, with the run as it was. The run that is struck takes
-    /// these answers to wild loads.
+    /// Strikes the run before its next step: the word at the site becomes `value`. `Idle` exactly if the run has
+    /// stopped or the site does not exist, with the run unchanged. The struck run takes these answers to wild loads.
     pub fn strike<'w>(self, site: Site, value: u64, wild: &'w [Wild]) -> Hit<'a, 'w, P>
         ensures struck { (s : _) → result ≡ Hit.Struck s →
             (s ≡ record { object = self.entry.object; strike = record { step = self.entry.taken; site = site; value = value }; wild = wild.now; taken = self.entry.taken })

@@ -1,9 +1,9 @@
-//! What a strike of a run does.
+//! The result of a strike.
 use crate::clean::Clean;
 use crate::struck::Struck;
 use ft_types::Program;
 
-/// What a strike of a run does: the run is struck, or nothing is there to strike.
+/// The result of a strike: the run is struck, or nothing is there to strike.
 #[derive(Drop)]
 pub enum Hit<'a, 'w, P: Program> {
     /// The run that was struck.

@@ -1,9 +1,9 @@
 //! Runs of accepted objects, without a fault and struck once, as types.
 //!
 //! The crate promises that a run without a fault fits its types as long as it is running and is never
-//! detected, and that a struck run stays alike to it or is detected. The main theorem of `ft_tolerance` is
-//! handed on here, for whoever uses these runs. The definitions are in `specs/Runs.antt`, over those of the
-//! main theorem.
+//! detected, and that a struck run stays like it or is detected. It restates the main theorem of
+//! `ft_tolerance` for users of these runs. The definitions are in `specs/Runs.antt`, over those of the main
+//! theorem.
 #![tactic(auto)]
 
 mod clean;

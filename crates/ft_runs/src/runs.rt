@@ -14,9 +14,9 @@ use ft_isa::Plan;
 use ft_machine::{Gone, Outlet, Pause, RunEnd, drive, run_under};
 use ft_types::Program;
 
-/// Runs an accepted program from its start under a plan, for at most `steps` steps, and puts a line for
-/// each output, each in one put. `WriteFault` comes only where a put failed, and nothing is put after it;
-/// `Detected` only where the plan has a strike.
+/// Runs an accepted program from its start under a plan, for at most `steps` steps, and writes a line for each output,
+/// each with one put. `WriteFault` comes only if a put failed, and nothing is put after it; `Detected` only if the plan
+/// has a strike.
 pub fn run<'a, P: Program, K: Sink>(
     start: Clean<'a, P>,
     plan: Plan,
@@ -35,7 +35,7 @@ pub fn run<'a, P: Program, K: Sink>(
         (outputs_after start.entry.object None plan.entry.wild.now steps)
         (status_after start.entry.object None plan.entry.wild.now steps) }
 
-    // The run without a strike is never detected; so where the plan has none, neither is this run.
+    // The run without a strike is never detected; so if the plan has none, neither is this run.
     ensures sound { IsNeverDetected start.entry.object plan.entry.wild.now }
     ensures undetected { plan.entry.strike ≡ None → result ≢ RunEnd.Detected }
 {
@@ -47,8 +47,8 @@ pub fn run<'a, P: Program, K: Sink>(
     drive(&mut machine, program, plan, steps, out)
 }
 
-/// Runs an accepted program from its start without a fault, for at most `steps` steps, and gives each output to an
-/// outlet. Ends early where the program ends or the outlet does not go on.
+/// Runs an accepted program from its start without a fault, for at most `steps` steps, and passes each output to an
+/// outlet. Ends early if the program ends or the outlet does not go on.
 pub fn run_clean<'a, P: Program, T: Outlet>(start: Clean<'a, P>, steps: u64, outlet: &mut T) -> Gone
     requires taken { start.taken ≡ 0 }
     requires may { (output : Committed) → IsOfCell start.object output → T.may outlet.old output }

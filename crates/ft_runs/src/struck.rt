@@ -12,10 +12,9 @@ use ft_machine::{Machine, Stepped, WildLeft};
 use ft_types::Program;
 use std::marker::Model;
 
-/// The run of an accepted program that was struck once. It has no call that strikes again. It keeps that
-/// its machine is alike to that of the run without the strike after as many steps, or detected. Contracts
-/// see it as the program's object, the strike, the answers to wild loads and the number of steps that
-/// were taken.
+/// The run of an accepted program that was struck once. It cannot be struck again. By its invariant, its machine is
+/// like the unstruck run's after the same number of steps, or detected. Contracts see it as the program's object, the
+/// strike, the answers to wild loads and the number of steps that were taken.
 #[derive(Drop)]
 pub struct Struck<'a, 'w, P: Program> {
     pub(crate) program: &'a P,
@@ -37,8 +36,8 @@ impl<'a, 'w, P: Program> Model for Struck<'a, 'w, P> {
 }
 
 impl<'a, 'w, P: Program> Struck<'a, 'w, P> {
-    /// Takes one step. A run that has stopped stays as it is. The answer is that of the run without the
-    /// strike after as many steps, or `Detected`.
+    /// Takes one step. A stopped run does not change. The result is that of the run without the strike after the same
+    /// number of steps, or `Detected`.
     pub fn step(&mut self) -> Stepped
         requires { self.old.taken < 2 ^ 63 }
         ensures taken { self.new ≡ record self.old { taken = self.old.taken + 1 } }
@@ -51,8 +50,8 @@ impl<'a, 'w, P: Program> Struck<'a, 'w, P> {
         stepped
     }
 
-    /// The machine: after the strike and before the next step where none was taken since, and else
-    /// after the steps that were taken. The site that was struck was there.
+    /// The machine: after the strike and before the next step if none was taken since, else after the steps that were
+    /// taken. The site that was struck existed.
     pub fn machine(&self) -> &Machine
         ensures now { result.now ≡ struck_now self.now }
         ensures there { is_there (state_after self.now.object None self.now.wild self.now.strike.step) self.now.strike.site ≡ true }
@@ -62,7 +61,7 @@ impl<'a, 'w, P: Program> Struck<'a, 'w, P> {
         &self.machine
     }
 
-    /// How many steps were taken, those before the strike among them.
+    /// The number of steps taken, including those before the strike.
     pub fn taken(&self) -> u64
         ensures { result ≡ self.now.taken }
     {

@@ -201,7 +201,7 @@ either_any s t u (i ∷ is) h = (λ j. h i j || either_any s t u is h j)
     crossed false false true d = refl
     crossed false false false d = refl
 
--- an instruction leaves a register alone that is written, by the registers that it reads and writes
+-- an instruction does not use a register that is written, by the registers that it reads and writes
 alone_by : Option ℕ → Option ℕ → Option ℕ → Option ℕ → Bool
 alone_by f s v None = true
 alone_by f s v (Some q) = not ((is_register f q || is_register s q) || is_register v q)

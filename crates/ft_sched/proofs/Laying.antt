@@ -42,7 +42,7 @@ leading_trails i h = ap (λ b. not (is_fixed i) && not b) h ∙ and_none (not (i
 neither_trails : (i : Instr) → is_leading i ≡ false → is_fixed i ≡ false → is_trailing i ≡ true
 neither_trails i l f = (λ j. not (f j) && not (l j))
 
--- where the last that is laid down doesn't trail, nothing is stuck behind it
+-- if the last that is written isn't trailing, nothing is stuck behind it
 pub stuck_settled : (rows start : ℕ) (laid : List Instr) (i : Instr) → IsSettled start laid → Stuck rows start laid i
 unfolding Stuck
 stuck_settled rows start laid i settled = λ front l e low may. (let t = (permits _ l i may).first_trails in
@@ -70,7 +70,7 @@ leading_begins i rows start past base rest laid waiting q c h a = record {
 
 -- LISTS
 
--- the first that waits is the last that is laid down
+-- the first that waits becomes the last that is written
 shifted : (laid : List Instr) (w : Instr) (ws : List Instr) → (laid ++ w ∷ []) ++ ws ≡ laid ++ w ∷ ws
 shifted laid w ws = append_assoc laid (w ∷ []) ws
 
@@ -106,7 +106,7 @@ module _ (rows start past : ℕ) (base : List Instr) where
         settled = a.settled;
       }
 
-  -- what is queued and committed by what is laid down
+  -- what is queued and committed by what is written
   record Tallies (laid : List Instr) (q c : ℕ) : Type 0 where
     begins : start ≤ length laid
     queued_is : q ≡ rows + count_by is_green_store (drop start laid)
@@ -136,7 +136,7 @@ module _ (rows start past : ℕ) (base : List Instr) where
         committed_is = committed ∙ ap (λ z. count_by is_blue_store (drop start z)) (sym lays.laid_is);
       }
 
-  -- the first that waits is laid down
+  -- the first that waits is written
   pub arranged_first : (rest laid laid' ws : List Instr) (w : Instr) (q q' c c' : ℕ) → Lays w laid laid' q q' c c' →
       Arranges rows start past base rest laid (w ∷ ws) q c → Arranges rows start past base rest laid' ws q' c'
   arranged_first rest laid laid' ws w q q' c c' lays x =
@@ -151,7 +151,7 @@ module _ (rows start past : ℕ) (base : List Instr) where
         committed_is = t.committed_is;
       }
 
-  -- one that stands fixed is laid down where none waits
+  -- a fixed one is written if none waits
   pub arranged_fixed : (i : Instr) (rest laid laid' : List Instr) (q q' c c' : ℕ) → is_fixed i ≡ true →
       Lays i laid laid' q q' c c' → Arranges rows start past base (i ∷ rest) laid [] q c →
       IsArranged rows start past base rest laid' [] q' c'
@@ -180,7 +180,7 @@ module _ (rows start past : ℕ) (base : List Instr) where
         settled = subst (IsSettled start) (sym lays.laid_is) (settled_by start laid i (fixed_trails i h));
       }
 
-  -- a leading one is laid down where nothing holds it back
+  -- a leading one is written if nothing holds it back
   pub arranged_leading : (i : Instr) (rest laid laid' ws : List Instr) (q q' c c' : ℕ) → is_leading i ≡ true →
       holds_back (q - c) ws i ≡ false → Lays i laid laid' q q' c c' → Leading i rows start past base rest laid ws q c →
       IsArranged rows start past base rest laid' ws q' c'
@@ -212,7 +212,7 @@ module _ (rows start past : ℕ) (base : List Instr) where
         settled = subst (IsSettled start) (sym lays.laid_is) (settled_by start laid i (leading_trails i l));
       }
 
-  -- the first that waits is laid down before a leading one that is held back
+  -- the first that waits is written before a leading one that is held back
   pub leading_on : (i : Instr) (rest laid laid' ws : List Instr) (w : Instr) (q q' c c' : ℕ) →
       Lays w laid laid' q q' c c' → holds_back (q - c) (w ∷ ws) i ≡ true →
       Leading i rows start past base rest laid (w ∷ ws) q c → Leading i rows start past base rest laid' ws q' c'
@@ -237,7 +237,7 @@ module _ (rows start past : ℕ) (base : List Instr) where
             ∙ ap (λ z. may_exchange (queue_after rows (drop start z)) l i) ends.0 ∙ may);
       }
 
--- the first of those that wait is laid down, by what the call says of it
+-- the first of those that wait is written, by what the call says about it
 pub first_laid : (rows start past : ℕ) (base rest laid laid' ws ws' : List Instr) (q q' c c' : ℕ) →
     LaysFirst laid laid' ws ws' q q' c c' → Arranges rows start past base rest laid ws q c →
     Arranges rows start past base rest laid' ws' q' c'

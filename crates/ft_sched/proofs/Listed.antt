@@ -92,7 +92,7 @@ exchanged_seam (x ∷ xs) a b ys = ap (λ z. x ∷ z) (exchanged_seam xs a b ys)
 
 -- COUNTS
 
--- one more in the part from a place on
+-- one more in the part from a place
 pub count_more : (test : Instr → Bool) (xs : List Instr) (a : ℕ) (x : Instr) → a ≤ length xs →
     count_by test (drop a (xs ++ x ∷ [])) ≡ count_by test (drop a xs) + cond (test x) 1 0
 count_more test xs a x l =

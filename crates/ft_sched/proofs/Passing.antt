@@ -20,7 +20,7 @@ use Rattle.ft_sched.proofs.Listed.{rest_of_front, exchanged_seam, count_more}
 
 -- KINDS
 
--- a trailing one is no green store
+-- a trailing one is not a green store
 pub trailing_store : (i : Instr) → is_trailing i ≡ true → is_green_store i ≡ false
 trailing_store (St Green rd rs) h = cc
 trailing_store i h = refl
@@ -77,7 +77,7 @@ full_by true false true h e f = cc
 full_by g n false h e f = cc
 full_by false n b h e f = cc
 
--- where nothing holds the instruction back, it passes all
+-- if nothing holds the instruction back, it passes all
 pub passes_all : (q c : ℕ) (ws : List Instr) (i : Instr) → list_all is_trailing ws ≡ true → is_leading i ≡ true →
     holds_back (q - c) ws i ≡ false → Passes q c ws i
 passes_all q c ws i t l h =
@@ -108,7 +108,7 @@ conflict_free true true h k = refl
 conflict_free true false h k = cc
 conflict_free false b h k = cc
 
--- where one that waits is the last that holds it back, it may not be passed
+-- if one that waits is the last that holds it back, it may not be passed
 pub stuck_behind : (q c : ℕ) (w : Instr) (ws : List Instr) (i : Instr) → holds_back (q - c) (w ∷ ws) i ≡ true →
     holds_back (q - (c + cond (is_blue_store w) 1 0)) ws i ≡ false → may_exchange (q - c) w i ≡ true → ⊥
 stuck_behind q c w ws i h k may =

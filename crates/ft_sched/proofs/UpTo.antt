@@ -105,7 +105,7 @@ module _ (o : Object) (spelled : IsSpellable o) (b start past rows : ℕ) (f : O
             absurd (omega arith));
       }
 
-  -- where the loop has come in the block
+  -- where the loop is in the block
   pub block_within : (i : ℕ) (rest laid' ws : List Instr) (q c : ℕ) → i < past → rest ≡ drop i o.instrs →
       Arranges rows start past (laid_before o b laid) rest laid' ws q c → length laid' + length ws < past
   block_within i rest laid' ws q c l e x =

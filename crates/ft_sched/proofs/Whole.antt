@@ -202,7 +202,7 @@ module _ (o : Object) (spelled : IsSpellable o) where
   pub type_is : (b : ℕ) (x : Block) → slice_get o.blocks b ≡ Some x → block_type o b ≡ x.code_type
   type_is b x e = ap (λ u. unwrap_or (option_map code_type_of u) 0) e
 
--- the number of queue rows that a code type's head tells
+-- the number of queue rows that a code type's head gives
 rows_of_head : (u : Option CodeType) (h : TypeHead) → option_map type_head_of u ≡ Some h → h.queue
     ≡ length (unwrap_or (option_map queue_of u) [])
 rows_of_head None h e = cc

@@ -5,9 +5,9 @@ use Rattle.ft_isa.specs.declared.instr.Instr.{Instr}
 use Rattle.ft_exchange.specs.Exchange.{is_trailing, is_green_store, is_blue_store}
 use Rattle.ft_sched.specs.Inside.{Reaches, HasNone}
 
--- the block goes from one place up to another, its code type has so many queue rows, and the code was the base when it
--- began. What is laid down, what waits and the rest come from the base by permitted exchanges, and none is left in the
--- first two; and so many pairs were queued and committed by what is laid down
+-- the block goes from one place up to another, its code type has `rows` queue rows, and the code was the base when it
+-- began. What is written, what waits and the rest come from the base by permitted exchanges, and none is left in the
+-- first two; and this many pairs were queued and committed by what is written
 pub record Arranges (rows start past : ℕ) (base rest laid waiting : List Instr) (queued committed : ℕ) : Type 0 where
   pub begins : start ≤ length laid
   pub reached : Reaches rows start past base ((laid ++ waiting) ++ rest)
@@ -16,31 +16,31 @@ pub record Arranges (rows start past : ℕ) (base rest laid waiting : List Instr
   pub queued_is : queued ≡ rows + count_by is_green_store (drop start laid)
   pub committed_is : committed ≡ count_by is_blue_store (drop start laid)
 
--- the last instruction of the block that is laid down doesn't trail
+-- the last instruction of the block that is written isn't trailing
 abbrev pub IsSettled : ℕ → List Instr → Type 0
 IsSettled start laid = (front : List Instr) (i : Instr) → laid ≡ front ++ i ∷ [] → start ≤ length front → is_trailing i ≡ false
 
--- both
+-- the block is arranged, and its last written instruction isn't trailing
 pub record IsArranged (rows start past : ℕ) (base rest laid waiting : List Instr) (queued committed : ℕ) : Type 0 where
   pub arranged : Arranges rows start past base rest laid waiting queued committed
   pub settled : IsSettled start laid
 
--- an instruction is laid down
+-- an instruction is written
 pub record Lays (i : Instr) (laid laid' : List Instr) (queued queued' committed committed' : ℕ) : Type 0 where
   pub laid_is : laid' ≡ laid ++ i ∷ []
   pub queued_is : queued' ≡ queued + cond (is_green_store i) 1 0
   pub committed_is : committed' ≡ committed + cond (is_blue_store i) 1 0
 
--- the first of those that wait is laid down
+-- the first of those that wait is written
 pub record LaysFirst (laid laid' waiting waiting' : List Instr) (queued queued' committed committed' : ℕ) : Type 0 where
   pub first : Instr
   pub waited : waiting ≡ first ∷ waiting'
   pub lays : Lays first laid laid' queued queued' committed committed'
 
--- whatever block it is, an instruction gets its place: it stood first in the rest
+-- whatever block it is, an instruction gets its place: it was first in the rest
 abbrev pub GetsPlace : Instr → List Instr → List Instr → ℕ → ℕ → List Instr → List Instr → ℕ → ℕ → Type 0
 GetsPlace i laid waiting queued committed laid' waiting' queued' committed' = (rows start past : ℕ) (base rest : List Instr) → length laid + length waiting < past → IsArranged rows start past base (i ∷ rest) laid waiting queued committed → IsArranged rows start past base rest laid' waiting' queued' committed'
 
--- whatever block it is, those that wait are laid down
+-- whatever block it is, those that wait are written
 abbrev pub LaysAll : List Instr → List Instr → ℕ → ℕ → List Instr → ℕ → ℕ → Type 0
 LaysAll laid waiting queued committed laid' queued' committed' = (rows start past : ℕ) (base rest : List Instr) → Arranges rows start past base rest laid waiting queued committed → Arranges rows start past base rest laid' [] queued' committed'

@@ -4,8 +4,8 @@ use Rattle.std.specs.List.{slice_range}
 use Rattle.ft_isa.specs.declared.instr.Instr.{Instr}
 use Rattle.ft_exchange.specs.Exchange.{queue_after, may_exchange, exchanged}
 
--- the exchange of the instructions at places k and k + 1 of a list is permitted, where a block goes from one place up to
--- another and its code type has so many queue rows
+-- the exchange of the instructions at places k and k + 1 of a list is permitted, if a block goes from one place up to
+-- another and its code type has this many queue rows
 pub record IsPermittedAt (rows start past : ℕ) (is : List Instr) (k : ℕ) : Type 0 where
   pub first : Instr
   pub second : Instr

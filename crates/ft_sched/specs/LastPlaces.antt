@@ -13,16 +13,16 @@ abbrev pub marked : List ℕ → Option ℕ → ℕ → List ℕ
 marked ps None p = ps
 marked ps (Some r) p = slice_set ps r p
 
--- where no register was met
+-- no register was met
 abbrev pub unmet : List ℕ
 unmet = replicate 64 0
 
--- the place of the last instruction that passes a test, behind one that passes it or doesn't
+-- the place of the last instruction that passes a test, with one more in front, which passes it or does not
 abbrev pub or_first : ℕ → Bool → ℕ
 or_first zero passes = cond passes 1 0
 or_first (suc n) passes = suc (suc n)
 
--- the place of the last instruction that passes a test; 0 where none does
+-- the place of the last instruction that passes a test; 0 if none does
 abbrev pub last_place : (Instr → Bool) → List Instr → ℕ
 last_place test [] = 0
 last_place test (i ∷ is) = or_first (last_place test is) (test i)

@@ -6,7 +6,7 @@ use Rattle.ft_exchange.specs.Exchange.{written, leaves_alone, is_green_store, is
 use Rattle.ft_sched.specs.Registers.{writes, meets}
 use Rattle.ft_sched.specs.LastPlaces.{last_place}
 
--- what is kept of a list of which those from the front on wait: the last places of the instructions that write each
+-- what is kept of a list whose waiting part begins at `front`: the last places of the instructions that write each
 -- register, of those that read or write it, and of the blue stores
 pub record IsKept (is : List Instr) (front : ℕ) (written_at touched_at : List ℕ) (blue_at : ℕ) : Type 0 where
   pub front_within : front ≤ length is
@@ -20,7 +20,7 @@ pub record IsKept (is : List Instr) (front : ℕ) (written_at touched_at : List 
 abbrev pub conflicts : Instr → Instr → Bool
 conflicts i w = not (leaves_alone i (written w) && leaves_alone w (written i))
 
--- whether one of those that wait holds an instruction back, where the static queue has n pairs before them: there is a
+-- whether one of those that wait holds an instruction back, if the static queue has n pairs before them: there is a
 -- conflict; or a green store finds the queue full, and a blue store waits
 abbrev pub holds_back : ℕ → List Instr → Instr → Bool
 holds_back n waiting i = list_any (conflicts i) waiting || (is_green_store i && not (nat_lt n 8) && list_any is_blue_store waiting)

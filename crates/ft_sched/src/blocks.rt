@@ -5,23 +5,10 @@ ghost use Rattle.ft_types.specs.Spellable.{IsSpellable};
 ghost use Rattle.ft_sched.specs.UpTo.{IsUpTo};
 
 use crate::order::Order;
-use ft_types::Program;
+use ft_types::{Program, end_of};
 use std::alloc::AllocError;
 
-/// Where block `b` ends: where the next block begins, or after the last instruction.
-fn end_of<P: Program>(program: &P, b: u32) -> u32
-    requires spellable { IsSpellable (P.object program.now) }
-    requires there { b < length (P.object program.now).blocks }
-    ensures { result ≡ block_end (P.object program.now) b }
-{
-    let counts = program.counts();
-    if b + 1 < counts.blocks {
-        return program.block(b + 1).start;
-    }
-    counts.instrs
-}
-
-/// Lays the instructions of block `b` down, as they are ordered where no exchange is permitted in it.
+/// Writes the instructions of block `b`, ordered so that no exchange is permitted in it.
 pub fn schedule_block<P: Program>(program: &P, order: &mut Order, b: u32) -> Result<(), AllocError>
     requires spellable { IsSpellable (P.object program.now) }
     requires there { b < length (P.object program.now).blocks }

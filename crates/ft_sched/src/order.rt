@@ -2,21 +2,19 @@
 //!
 //! Leading instructions keep their order, and so do trailing ones. So a trailing instruction waits until
 //! it is known that no leading one passes it. A leading instruction stops at the last one that it may not
-//! pass: what waits is laid down up to there, and then the leading instruction itself. Each instruction
-//! waits once at most, so the work grows with their number.
+//! pass: what waits up to there is written, and then the leading instruction itself. Each instruction waits at most
+//! once, so the work grows with their number.
 ghost use Rattle.std.specs.Prelude.{◌≡◌, ◌+◌, ◌-◌, ◌<◌, ◌≤◌, ◌^◌, [], true, not, nat_lt, length, cond, OnOk};
 ghost use Rattle.ft_exchange.specs.Exchange.{is_leading, is_fixed};
 ghost use Rattle.ft_sched.specs.Waiting.{holds_back};
 ghost use Rattle.ft_sched.specs.Arranged.{Lays, LaysFirst, LaysAll, GetsPlace};
 
-use crate::instruction::{is_blue_store, is_fixed, is_green_store, is_leading};
 use crate::waiting::Waiting;
 use ft_isa::Instr;
 use std::alloc::{AllocError, Global};
 
-/// The instructions that are laid down for good, and those that wait behind them. In the block that is
-/// being scheduled so many pairs were queued, those that wait at its start and its green stores, and so
-/// many were committed, its blue stores.
+/// The instructions that have their final place, and those that wait after them. In the block that is being scheduled,
+/// `queued` counts the pairs that waited at its start and its green stores, and `committed` its blue stores.
 #[derive(Drop)]
 pub struct Order {
     laid: Vec<Instr>,
@@ -27,7 +25,7 @@ pub struct Order {
     ghost committed_few: { committed ≤ length laid.items },
 }
 
-/// A count with one more, where it counts.
+/// A count, with one more if it counts.
 fn with(count: usize, counts: bool) -> usize
     requires { count + 1 < 2 ^ 64 }
     ensures { result ≡ count + cond counts 1 0 }
@@ -36,7 +34,7 @@ fn with(count: usize, counts: bool) -> usize
 }
 
 impl Order {
-    /// Nothing is laid down, and nothing waits.
+    /// Nothing is written, and nothing waits.
     pub fn new(alloc: Global) -> Order
         ensures laid { result.laid.items ≡ [] }
         ensures waiting { result.waiting ≡ [] }
@@ -56,7 +54,7 @@ impl Order {
         self.laid
     }
 
-    /// A block begins, at whose start so many pairs are queued.
+    /// A block begins with this many pairs in the queue.
     pub fn begin_block(&mut self, rows: u32)
         requires { rows ≤ 8 }
         ensures laid { self.new.laid.items ≡ self.old.laid.items }
@@ -68,20 +66,20 @@ impl Order {
         self.committed = 0;
     }
 
-    /// Lays an instruction down.
+    /// Writes an instruction.
     fn lay(&mut self, instr: Instr) -> Result<(), AllocError>
         ensures lays { OnOk result (Lays instr self.old.laid.items self.new.laid.items self.old.queued self.new.queued self.old.committed self.new.committed) }
         ensures waiting { OnOk result (self.new.waiting ≡ self.old.waiting) }
     {
-        let queues = is_green_store(&instr);
-        let commits = is_blue_store(&instr);
+        let queues = instr.is_green_store();
+        let commits = instr.is_blue_store();
         self.laid.push(instr)?;
         self.queued = with(self.queued, queues);
         self.committed = with(self.committed, commits);
         Ok(())
     }
 
-    /// Lays the oldest instruction that waits down.
+    /// Writes the oldest instruction that waits.
     fn lay_first(&mut self) -> Result<(), AllocError>
         requires { 0 < length self.old.waiting }
         ensures { OnOk result (LaysFirst self.old.laid.items self.new.laid.items self.old.waiting self.new.waiting self.old.queued self.new.queued self.old.committed self.new.committed) }
@@ -90,7 +88,7 @@ impl Order {
         self.lay(first)
     }
 
-    /// Whether the static queue is full behind what is laid down.
+    /// Whether the static queue is full after what is written.
     fn is_full(&self) -> bool
         ensures { result ≡ not (nat_lt (self.now.queued - self.now.committed) 8) }
     {
@@ -104,10 +102,10 @@ impl Order {
         if self.waiting.has_conflict(instr) {
             return true;
         }
-        is_green_store(instr) && self.is_full() && self.waiting.has_blue_store()
+        instr.is_green_store() && self.is_full() && self.waiting.has_blue_store()
     }
 
-    /// Lays a leading instruction down, behind the last one that it may not pass.
+    /// Writes a leading instruction, after the last one that it may not pass.
     fn lead(&mut self, instr: Instr) -> Result<(), AllocError>
         requires { is_leading instr ≡ true }
         ensures { OnOk result (GetsPlace instr self.old.laid.items self.old.waiting self.old.queued self.old.committed self.new.laid.items self.new.waiting self.new.queued self.new.committed) }
@@ -118,7 +116,7 @@ impl Order {
         self.lay(instr)
     }
 
-    /// Lays all instructions that wait down.
+    /// Writes all instructions that wait.
     pub fn lay_all(&mut self) -> Result<(), AllocError>
         ensures waiting { OnOk result (self.new.waiting ≡ []) }
         ensures lays { OnOk result (LaysAll self.old.laid.items self.old.waiting self.old.queued self.old.committed self.new.laid.items self.new.queued self.new.committed) }
@@ -129,7 +127,7 @@ impl Order {
         Ok(())
     }
 
-    /// Lays an instruction down that stands fixed, behind all that wait.
+    /// Writes a fixed instruction, after all that wait.
     fn fix(&mut self, instr: Instr) -> Result<(), AllocError>
         requires { is_fixed instr ≡ true }
         ensures { OnOk result (GetsPlace instr self.old.laid.items self.old.waiting self.old.queued self.old.committed self.new.laid.items self.new.waiting self.new.queued self.new.committed) }
@@ -142,10 +140,10 @@ impl Order {
     pub fn place(&mut self, instr: Instr) -> Result<(), AllocError>
         ensures { OnOk result (GetsPlace instr self.old.laid.items self.old.waiting self.old.queued self.old.committed self.new.laid.items self.new.waiting self.new.queued self.new.committed) }
     {
-        if is_leading(&instr) {
+        if instr.is_leading() {
             return self.lead(instr);
         }
-        if is_fixed(&instr) {
+        if instr.is_fixed() {
             return self.fix(instr);
         }
         self.waiting.push(instr)

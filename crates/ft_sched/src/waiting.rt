@@ -5,15 +5,13 @@ ghost use Rattle.ft_exchange.specs.Exchange.{is_blue_store};
 ghost use Rattle.ft_sched.specs.Registers.{number_of, writes, meets};
 ghost use Rattle.ft_sched.specs.Waiting.{conflicts};
 
-use crate::instruction::{first_read, is_blue_store, second_read, written};
 use crate::last_places::LastPlaces;
 use ft_isa::{Instr, Reg};
 use std::alloc::{AllocError, Global};
 use std::marker::Model;
 
-/// Instructions that wait behind what is laid down, the oldest first. Those that no longer wait stay
-/// in the list, before the front, so that a place once told is the place for good. An instruction waits
-/// where its place, counted from 1, is above the front.
+/// Instructions that wait after what is written, the oldest first. Those that no longer wait stay in the list, before
+/// the front, so that a place never changes. An instruction waits if its place, counted from 1, is above the front.
 #[derive(Drop)]
 pub struct Waiting {
     instrs: Vec<Instr>,
@@ -71,10 +69,10 @@ impl Waiting {
     pub fn push(&mut self, instr: Instr) -> Result<(), AllocError>
         ensures { OnOk result (self.new ≡ self.old ++ instr ∷ []) }
     {
-        let register = written(&instr);
-        let first = first_read(&instr);
-        let second = second_read(&instr);
-        let stores = is_blue_store(&instr);
+        let register = instr.written();
+        let first = instr.first_read();
+        let second = instr.second_read();
+        let stores = instr.is_blue_store();
         self.instrs.push(instr)?;
         let place = self.instrs.len();
         self.written.mark(register, place);
@@ -87,7 +85,7 @@ impl Waiting {
         Ok(())
     }
 
-    /// Takes the oldest instruction, which waits no longer.
+    /// Removes the oldest instruction, which no longer waits.
     pub fn take(&mut self) -> Instr
         requires { 0 < length self.old }
         ensures { self.old ≡ result ∷ self.new }
@@ -123,9 +121,9 @@ impl Waiting {
     pub fn has_conflict(&self, instr: &Instr) -> bool
         ensures { result ≡ list_any (conflicts instr.now) self.now }
     {
-        let first = self.is_written(first_read(instr));
-        let second = self.is_written(second_read(instr));
-        let either = self.is_touched(written(instr));
+        let first = self.is_written(instr.first_read());
+        let second = self.is_written(instr.second_read());
+        let either = self.is_touched(instr.written());
         any_of(first, second, either)
     }
 }

@@ -11,13 +11,13 @@ declared_first : (d : Decl) (ds : List Decl) → declared_list (d ∷ ds) ≡ de
 unfolding declared_list
 declared_first d ds = refl
 
--- the declarations from i on, of which the first is known
+-- the declarations from i, the first of which is known
 pub declared_drop : (all : List Decl) (i : ℕ) (d : Decl) → i < length all → declared_list (drop i all)
     ≡ declared (get_or all i d) ∷ declared_list (drop (i + 1) all)
 declared_drop all i d h = rw add-one (ap declared_list (drop-cons all i d h)
     ∙ declared_first (get_or all i d) (drop (suc i) all))
 
--- the declarations before i + 1, of which the last is known
+-- the declarations before i + 1, the last of which is known
 pub declared_take : (all : List Decl) (i : ℕ) (d : Decl) → i < length all → declared_list (take (i + 1) all)
     ≡ declared_list (take i all) ++ declared (get_or all i d) ∷ []
 declared_take all i d h = rw add-one (ap declared_list (take-suc all i d h)

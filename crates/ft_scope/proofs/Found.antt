@@ -135,7 +135,7 @@ fits_cond true p q c v x s o e h g = subst (AnyFits p q) (the_same e) h
     the_same e = cc
 fits_cond false p q c v x s o e h g = g e
 
--- a length that is no wrong one
+-- a length that is not wrong
 pub length_fine : (l at : ℕ) (o : Option ℕ) → cond (is_length l) o (Some at) ≡ None → (is_length l ≡ true) × (o ≡ None)
 length_fine l at o h = by (is_length l) refl h
   where

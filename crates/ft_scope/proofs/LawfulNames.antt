@@ -27,7 +27,7 @@ use Rattle.ft_scope.proofs.Found.{length_fine, length_few}
 
 -- LAWFUL NAMES
 
--- a byte of a declared name may stand in a name of a cell
+-- a byte of a declared name is allowed in a name of a cell
 cell_byte : (b : ℕ) → is_name_byte b ≡ true → is_cell_byte b ≡ true
 cell_byte b e = ap (λ x. x || (b == 91 || b == 93)) e
 
@@ -38,7 +38,7 @@ cell_bytes (b ∷ bs) e =
     let p = and_parts (is_name_byte b) (list_all is_name_byte bs) e in
     and_from (is_cell_byte b) (list_all is_cell_byte bs) (cell_byte b p.0) (cell_bytes bs p.1)
 
--- a digit may stand in a name
+-- a digit is allowed in a name
 digit_byte : (c : ℕ) → 48 ≤ c → c ≤ 57 → is_name_byte c ≡ true
 digit_byte c low high = or_right (is_letter c) (is_digit c)
     (and_from (nat_le 48 c) (nat_le c 57) (le-leb 48 c low) (le-leb c 57 high))
@@ -148,7 +148,7 @@ base_place (b ∷ bs) k e =
     let p = and_parts (is_name_byte b) (list_all is_name_byte bs) e in
     ap (λ x. cond x [] (b ∷ base (cell_name bs (Some k)))) (no_bracket b p.0) ∙ ap (λ v. b ∷ v) (base_place bs k p.1)
 
--- what is so of an array's name is so of the declared names of its cells
+-- what holds of an array's name holds of the declared names of its cells
 array_based : (q : List ℕ → Type 0) (t : List ℕ) (k l : ℕ) → list_all is_name_byte t ≡ true → q t →
     All (λ x. q (base x)) (array_names t k l)
 array_based q t k zero e h = All-nil (λ x. q (base x))
@@ -201,7 +201,7 @@ seen_or : (b : Bool) (s : Slot) (o : Option Slot) (c : Bool) → is_some o ≡ c
 seen_or true s o c e = refl
 seen_or false s o c e = e
 
--- a text is found where it is declared
+-- a text is found if it is declared
 found_is_seen : (c v : ℕ) (ds : List Declared) (t : List ℕ) → is_some (found_after c v ds t) ≡ is_seen ds t
 found_is_seen c v [] t = refl
 found_is_seen c v (cell n w ∷ ds) t = seen_or (bytes_eq n.text t) (Cell c) (found_after (c + 1) v ds t) (is_seen ds t)
@@ -220,8 +220,7 @@ seen_push (x ∷ xs) d t e =
     let q = seen_push xs d t p.1 in
     (or_from (bytes_eq (declared_name x).text t) (is_seen xs t) p.0 q.0, q.1)
 
--- where no name was declared before, the cells' names differ from each other, and their declared names from those
--- before
+-- if no name was declared before, the cells' names differ from each other, and their declared names from those before
 record AreNew (before ds : List Declared) : Type 0 where
   unseen : All (λ x. is_seen before (base x) ≡ false) (cell_names ds)
   differ : AllPairs (λ x y. x ≢ y) (cell_names ds)
@@ -270,7 +269,7 @@ are_new before (array n l at w ∷ ds) fit ok e =
           (seen_push before (array n l at w) (base (get_or (cell_names ds) k d)) (r.unseen k d lt)).1) r.differ;
     }
 
--- the names of the cells of fit declarations, of which none is declared twice, differ
+-- the names of the cells of fit declarations, none of which is declared twice, differ
 pub names_differ : (ds : List Declared) → AllByRecursion IsFitDeclaration ds → wrong_length ds ≡ None → repeated [] ds
     ≡ None → AllPairs (λ x y. x ≢ y) (cell_names ds)
 names_differ ds fit ok e = (are_new [] ds fit ok e).differ

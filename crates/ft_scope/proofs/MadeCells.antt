@@ -154,7 +154,7 @@ pub made_names : (c : Cells) (ds : List Declared) → Made c ds →
 made_names c ds m = ap (λ v. joined_names v c.places.items) m.names ∙ ap (joined_names (cell_texts ds)) m.places
     ∙ names_joined ds
 
--- lengths that are no wrong ones, one after the other
+-- lengths that are not wrong, one after the other
 pub wrong_first : (d : Declared) (ds : List Declared) → wrong_length (d ∷ []) ≡ None → wrong_length (d ∷ ds)
     ≡ wrong_length ds
 wrong_first (cell n w) ds h = refl
@@ -185,7 +185,7 @@ wrong_parts (array n l at w) ds h = by (is_length l) h
     by true g = (refl, g)
     by false g = cc
 
--- an array of which no cell is made yet
+-- an array none of whose cells is made yet
 pub made_none : (c : Cells) (ds : List Declared) (n : Named) (at w : ℕ) → Made c ds → Made c (ds ++ array n 0 at w ∷ [])
 made_none c ds n at w m = record {
   names = m.names ∙ sym (texts_push ds (array n 0 at w) ∙ append-nil (cell_texts ds));

@@ -24,7 +24,7 @@ need_follow (assign_at to i e rest) b = omega (arith, need_follow rest b)
 need_follow (loop e body rest) b = omega (arith, need_follow rest b)
 need_follow (choose e if_so if_not rest) b = omega (arith, need_follow rest b)
 
--- statements in a row weigh what they weigh alone
+-- statements in a row weigh what they weigh by themselves
 pub weight_follow : (a b : StatementList Slot) → statements_weight (follow a b)
     ≡ statements_weight a + statements_weight b
 weight_follow none b = omega arith

@@ -1,4 +1,4 @@
--- Misused names, one statement after the other, and what names name where none is misused.
+-- Misused names, one statement after the other, and what names refer to if none is misused.
 use Rattle.std.proofs.Common.{◌≡◌, Vec, Global, subst, ℕ, List, [], ◌∷◌, ◌++◌, Option, Some, None, Ok, refl, sym, ap}
 use Rattle.std.proofs.Common.{◌∙◌}
 use Rattle.ft_syntax.specs.Plain.{Expression, plain_expression, plain_statement, plain_list, StatementList, none}
@@ -73,7 +73,7 @@ misuse_more look first now new xs s before more =
     ∙ ap (first_of first) (sym (ap (misused look) (list_push named xs s)
     ∙ misused_follow look (plain_list named xs) (plain_statement named s none)))
 
--- what is there and is not misused without an index is no run
+-- what exists and is not misused without an index is not a run
 pub bare_fits : (c v at : ℕ) (o : Option Slot) (s : Slot) → found at o ≡ Ok s → AnyFits c v s → bare_misuse at o
     ≡ None → SlotFits c v s
 bare_fits c v at None s e h g = cc

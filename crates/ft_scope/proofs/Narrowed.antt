@@ -1,5 +1,5 @@
--- The table's numbers are the definition's, where there are at most 255 variables; and they never change need, weight
--- or place.
+-- The table's numbers are the definition's, if there are at most 255 variables; and they never change need, weight or
+-- place.
 use Rattle.std.proofs.Common.{◌≡◌, ℕ, ◌+◌, ◌-◌, ◌^◌, ◌≤◌, List, Option, Some, None, Result, Ok, Err, min, refl, sym, ap}
 use Rattle.std.proofs.Common.{◌∙◌, arith, subst}
 use Rattle.std.specs.Option.{option_map}
@@ -216,7 +216,7 @@ fails_exactly ds table b at h e = by (renamed (find ds) b) (sym (ap (λ f. renam
     by (Ok x) g = cc
     by (Err p) g = g
 
--- what the definition gives where the table gives statements
+-- the definition's result if the table gives statements
 pub record Exact (ds : List Declared) (b : StatementList Named) (by_table : StatementList Slot) : Type 0 where
   pub body : StatementList Slot
   pub is : renamed (find ds) b ≡ Ok body

@@ -6,7 +6,7 @@ use Rattle.ft_syntax.specs.declared.source_error.SourceError.{SourceError}
 use Rattle.ft_scope.specs.Resolved.{Program, resolved}
 use Rattle.ft_scope.specs.Outcome.{IsOutcome}
 
--- the outcome that follows from the answer of the grammar
+-- the outcome that follows from the grammar's
 abbrev pub judged : Result SyntaxTree SourceError → Result Program SourceError
 judged (Ok t) = resolved t
 judged (Err e) = Err e
@@ -25,7 +25,7 @@ one_outcome text one r s h g =
     let b = answer_of text s g in
     a.2 ∙ ap judged (one a.0 b.0 a.1 b.1) ∙ sym b.2
 
--- an answer gives an outcome
+-- a grammar's outcome gives an outcome
 pub outcome_from : (text : List ℕ) (a : Result SyntaxTree SourceError) → IsAnswer text a → IsOutcome text (judged a)
 outcome_from text (Err e) h = inl h
 outcome_from text (Ok t) h = by (resolved t) refl

@@ -1,4 +1,4 @@
--- What is so of a text's program: of its cells, its statements and its size.
+-- What holds of a text's program: of its cells, its statements and its size.
 use Rattle.std.proofs.Common.{◌≡◌, ℕ, ◌+◌, ◌≤◌, Bool, true, false, List, [], ◌∷◌, length, replicate, Option, Some, None}
 use Rattle.std.proofs.Common.{refl, sym, ◌∙◌, subst, arith}
 use Rattle.std.specs.Prelude.{All, Result, Ok, Err, if◌then◌else◌, nat_lt}
@@ -48,8 +48,8 @@ ok_parts (Err at) f y e = cc
 ok_same : {A : Type 0} (x y : A) → ◌≡◌ {A = Result A ℕ} (Ok x) (Ok y) → x ≡ y
 ok_same x y e = cc
 
--- where each name that is found names what is there, and none is misused, statements with each name replaced name what
--- is there
+-- if each name that is found is of an existing cell or variable, and none is misused, so are the names of statements
+-- with each name replaced
 module _ (look : List ℕ → Option Slot) (c v : ℕ) (there : (t : List ℕ) (s : Slot) → look t ≡ Some s →
     AnyFits c v s) where
   slot_fits : (at : ℕ) (t : List ℕ) (s : Slot) → found at (look t) ≡ Ok s → AnyFits c v s

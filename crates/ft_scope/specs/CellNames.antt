@@ -1,4 +1,4 @@
--- What cells are called.
+-- The names of cells.
 use Rattle.std.specs.Prelude.{ℕ, zero, suc, ◌+◌, List, [], ◌∷◌, ◌++◌, Option, Some, None, decimal, codes}
 use Rattle.ft_syntax.specs.Syntax.{Declared, cell, var, array}
 
@@ -7,7 +7,7 @@ abbrev pub cell_name : List ℕ → Option ℕ → List ℕ
 cell_name text None = text
 cell_name text (Some k) = text ++ codes "[" ++ decimal k ++ codes "]"
 
--- the names of so many cells of an array, from this place on
+-- the names of n cells of an array, from this place
 abbrev pub array_names : List ℕ → ℕ → ℕ → List (List ℕ)
 array_names text k zero = []
 array_names text k (suc l) = cell_name text (Some k) ∷ array_names text (k + 1) l

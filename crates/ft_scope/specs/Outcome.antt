@@ -9,11 +9,11 @@ use Rattle.ft_scope.specs.Resolved.{Program, resolved}
 abbrev pub IsProgramOf : List ℕ → Program → Type 0
 IsProgramOf text p = (t : SyntaxTree) × IsSource text t × (resolved t ≡ Ok p)
 
--- the text is refused so: it is no source, or its tree is refused
+-- this is the text's refusal: it is not a source, or its tree is refused
 abbrev pub IsRefusalOf : List ℕ → SourceError → Type 0
 IsRefusalOf text e = IsRefused text e ⊎ ((t : SyntaxTree) × IsSource text t × (resolved t ≡ Err e))
 
--- the text is this program, or refused so
+-- the text's outcome: this program or this refusal
 abbrev pub IsOutcome : List ℕ → Result Program SourceError → Type 0
 IsOutcome text (Ok p) = IsProgramOf text p
 IsOutcome text (Err e) = IsRefusalOf text e

@@ -1,4 +1,4 @@
--- What is so of each program of a text.
+-- What holds for every program of a text.
 use Rattle.std.specs.Prelude.{◌≡◌, ◌≢◌, ℕ, ◌≤◌, Bool, true, false, ◌&&◌, ◌||◌, ◌==◌, List, [], ◌∷◌, length, All}
 use Rattle.std.specs.List.{list_all, AllPairs}
 use Rattle.ft_isa.specs.Words.{IsWord}
@@ -6,11 +6,11 @@ use Rattle.ft_lexer.specs.Bytes.{is_letter, is_name_byte}
 use Rattle.ft_scope.specs.Resolved.{Program, program_need, program_weight}
 use Rattle.ft_scope.specs.Size.{StatementsFit}
 
--- a letter, a digit, a low line or a square bracket
+-- a letter, a digit, an underscore or a square bracket
 abbrev pub is_cell_byte : ℕ → Bool
 is_cell_byte b = is_name_byte b || (b == 91 || b == 93)
 
--- a letter or a low line, and then letters, digits, low lines and square brackets
+-- a letter or an underscore, and then letters, digits, underscores and square brackets
 abbrev pub is_cell_text : List ℕ → Bool
 is_cell_text [] = false
 is_cell_text (b ∷ bs) = is_letter b && list_all is_cell_byte bs
@@ -26,8 +26,8 @@ pub record IsWithinLimits (p : Program) : Type 0 where
   pub need : program_need p ≤ 32
   pub weight : program_weight p ≤ 65536
 
--- the cells have names that differ, and as many initial words; the statements name what is there, with an index where that is an
--- array and only there, and have words as literals; and the program is within the limits
+-- the cells have different names, and as many initial words; statements name existing cells and variables, with an
+-- index exactly for arrays, and have words as literals; and the program is within the limits
 pub record IsProper (p : Program) : Type 0 where
   pub names : All IsCellName p.names
   pub differ : AllPairs (λ x y. x ≢ y) p.names

@@ -1,4 +1,4 @@
--- The program that a syntax tree is, or the first refusal of it.
+-- The program of a syntax tree, or the tree's first refusal.
 use Rattle.std.specs.Prelude.{ℕ, List, Option, Some, None, Result, Ok, Err, length, if◌then◌else◌, nat_lt, []}
 use Rattle.ft_syntax.specs.Plain.{StatementList}
 use Rattle.ft_syntax.specs.Syntax.{SyntaxTree, Declared}
@@ -24,23 +24,24 @@ program_need p = whole_need p.vars p.body
 abbrev pub program_weight : Program → ℕ
 program_weight p = whole_weight p.vars p.body
 
--- a refusal where a number is above its limit
+-- a refusal if a number is above its limit
 abbrev pub refused_above : ℕ → ℕ → SourceError → Result Program SourceError → Result Program SourceError
 refused_above limit n e other = if nat_lt limit n then Err e else other
 
--- the program, where it has at most 1,024 cells, needs at most 32 register pairs and weighs at most 65,536
+-- the program, if it has at most 1,024 cells, needs at most 32 register pairs and weighs at most 65,536
 abbrev pub limited : Program → Result Program SourceError
 limited p =
     refused_above 1024 (length p.inits) (Cells (length p.inits))
     (refused_above 32 (program_need p) (Registers (program_need p))
     (refused_above 65536 (program_weight p) (Weight (program_weight p)) (Ok p)))
 
--- a refusal at a place, where there is one
+-- a refusal at a place, if there is one
 abbrev pub refused_at : (ℕ → SourceError) → Option ℕ → Result Program SourceError → Result Program SourceError
 refused_at e (Some at) other = Err (e at)
 refused_at e None other = other
 
--- the program with these declarations and with statements in which each name was replaced, or the place of the first unknown name; before its limits, the first misused name and the first wrong length refuse it
+-- the program with these declarations and with statements in which each name was replaced, or the place of the first
+-- unknown name; before its limits, it is refused for the first misused name and the first wrong length
 abbrev pub program_with : List Declared → Option ℕ → Result (StatementList Slot) ℕ → Result Program SourceError
 program_with ds misuse (Err at) = Err (Unknown at)
 program_with ds misuse (Ok body) =
@@ -48,6 +49,6 @@ program_with ds misuse (Ok body) =
     (refused_at Length (wrong_length ds)
     (limited (record { names = cell_names ds; inits = cell_words ds; vars = variable_count ds; body = body })))
 
--- the program that a tree is, or the first refusal of it
+-- the program of a tree, or the tree's first refusal
 abbrev pub resolved : SyntaxTree → Result Program SourceError
 resolved t = refused_at Twice (repeated [] t.decls) (program_with t.decls (misused (find t.decls) t.body) (renamed (find t.decls) t.body))

@@ -26,12 +26,12 @@ cell_words (cell n w ∷ ds) = w ∷ cell_words ds
 cell_words (var n ∷ ds) = cell_words ds
 cell_words (array n l at w ∷ ds) = replicate l w ++ cell_words ds
 
--- so many places of an array in order, from this one on
+-- n places of an array in order, from this one
 abbrev pub places_from : ℕ → ℕ → List (Option ℕ)
 places_from k zero = []
 places_from k (suc l) = Some k ∷ places_from (k + 1) l
 
--- the place of each cell in its array, and nothing for a plain one
+-- the place of each cell in its array, and none for a plain cell
 abbrev pub cell_places : List Declared → List (Option ℕ)
 cell_places [] = []
 cell_places (cell n w ∷ ds) = None ∷ cell_places ds
@@ -52,14 +52,15 @@ variable_count (cell n w ∷ ds) = variable_count ds
 variable_count (var n ∷ ds) = variable_count ds + 1
 variable_count (array n l at w ∷ ds) = variable_count ds
 
--- what a name names: the first declaration of it, by its number among the cells or among the variables, of which c and v were declared before
+-- what a name refers to: its first declaration, by its number among the cells or among the variables, of which c and v
+-- were declared before
 abbrev pub found_after : ℕ → ℕ → List Declared → List ℕ → Option Slot
 found_after c v [] text = None
 found_after c v (cell n w ∷ ds) text = cond (bytes_eq n.text text) (Some (Cell c)) (found_after (c + 1) v ds text)
 found_after c v (var n ∷ ds) text = cond (bytes_eq n.text text) (Some (Var v)) (found_after c (v + 1) ds text)
 found_after c v (array n l at w ∷ ds) text = cond (bytes_eq n.text text) (Some (Run c l)) (found_after (c + l) v ds text)
 
--- what a name names by these declarations
+-- what a name refers to by these declarations
 abbrev pub find : List Declared → List ℕ → Option Slot
 find ds text = found_after 0 0 ds text
 
@@ -79,25 +80,25 @@ abbrev pub repeated : List Declared → List Declared → Option ℕ
 repeated before [] = None
 repeated before (d ∷ ds) = cond (is_some (find before (declared_name d).text)) (Some (declared_name d).at) (repeated (before ++ d ∷ []) ds)
 
--- what a result gives, and the failure itself where it is one
+-- what follows from a result, or the failure itself
 infixl 10 ◌>>=◌
 abbrev pub ◌>>=◌ : {A B : Type 0} → Result A ℕ → (A → Result B ℕ) → Result B ℕ
 (Ok x) >>= f = f x
 (Err at) >>= f = Err at
 
--- what is found for a name, or its place
+-- what was found for a name, or its place
 abbrev pub found : ℕ → Option Slot → Result Slot ℕ
 found at (Some s) = Ok s
 found at None = Err at
 
--- the expression with each name replaced, or the place of the first name that names nothing
+-- the expression with each name replaced, or the place of the first unknown name
 abbrev pub renamed_expression : (List ℕ → Option Slot) → Expression Named → Result (Expression Slot) ℕ
 renamed_expression look (literal w) = Ok (literal w)
 renamed_expression look (name n) = found n.at (look n.text) >>= λ s. Ok (name s)
 renamed_expression look (indexed n i) = found n.at (look n.text) >>= λ s. renamed_expression look i >>= λ x. Ok (indexed s x)
 renamed_expression look (operation o a b) = renamed_expression look a >>= λ x. renamed_expression look b >>= λ y. Ok (operation o x y)
 
--- the statements with each name replaced, or the place of the first name that names nothing
+-- the statements with each name replaced, or the place of the first unknown name
 abbrev pub renamed : (List ℕ → Option Slot) → StatementList Named → Result (StatementList Slot) ℕ
 renamed look none = Ok none
 renamed look (assign to e rest) = found to.at (look to.text) >>= λ s. renamed_expression look e >>= λ x. renamed look rest >>= λ r. Ok (assign s x r)
@@ -110,12 +111,12 @@ abbrev pub first_of : Option ℕ → Option ℕ → Option ℕ
 first_of (Some at) o = Some at
 first_of None o = o
 
--- a name without an index is misused where it is an array's
+-- a name without an index is misused if it is an array's
 abbrev pub bare_misuse : ℕ → Option Slot → Option ℕ
 bare_misuse at (Some (Run c l)) = Some at
 bare_misuse at _ = None
 
--- a name with an index is misused where it is a plain cell's or a variable's
+-- a name with an index is misused if it is a plain cell's or a variable's
 abbrev pub index_misuse : ℕ → Option Slot → Option ℕ
 index_misuse at (Some (Cell k)) = Some at
 index_misuse at (Some (Var x)) = Some at

@@ -1,4 +1,4 @@
--- How many register pairs a program needs, what it weighs, and that its names are there.
+-- How many register pairs a program needs, what it weighs, and that its names exist.
 use Rattle.std.specs.Prelude.{ℕ, ◌+◌, ◌*◌, ◌<◌, ◌≤◌, max}
 use Rattle.ft_isa.specs.Words.{IsWord}
 use Rattle.ft_syntax.specs.Plain.{Expression, literal, name, indexed, operation, StatementList, none, assign, assign_at, loop, choose}
@@ -16,7 +16,8 @@ need (name n) = 1
 need (indexed n i) = need i
 need (operation o a b) = max (need a) (need b + 1)
 
--- the greatest need of an expression or of an assignment with an index, of which the index is kept while the value is computed; 0 where there is none
+-- the greatest need of an expression or of an assignment with an index, where the index is kept while the value is
+-- computed; 0 if there is none
 abbrev pub most_need : {N : Type 0} → StatementList N → ℕ
 most_need none = 0
 most_need (assign to e rest) = max (need e) (most_need rest)
@@ -53,25 +54,25 @@ statements_weight (choose e if_so if_not rest) = expression_weight e + 16 + stat
 abbrev pub whole_weight : ℕ → StatementList Slot → ℕ
 whole_weight vars body = 5 + 2 * vars + statements_weight body
 
--- the cell or the variable is there, of c cells and v variables; a run of cells is none
+-- the cell or the variable exists, with c cells and v variables; a run of cells is neither
 abbrev pub SlotFits : ℕ → ℕ → Slot → Type 0
 SlotFits c v (Cell k) = k < c
 SlotFits c v (Var x) = x < v
 SlotFits c v (Run f l) = ⊥
 
--- a run of 1 to 1,024 cells that are all there, of c cells
+-- a run of 1 to 1,024 existing cells, with c cells
 abbrev pub RunFits : ℕ → Slot → Type 0
 RunFits c (Run f l) = (0 < l) × (l ≤ 1024) × (f + l ≤ c)
 RunFits c _ = ⊥
 
--- each name names what is there, with an index where that is a run and only there, and each literal is a word
+-- each name is of an existing cell or variable, with an index exactly for a run, and each literal is a word
 abbrev pub ExpressionFits : ℕ → ℕ → Expression Slot → Type 0
 ExpressionFits c v (literal w) = IsWord w
 ExpressionFits c v (name s) = SlotFits c v s
 ExpressionFits c v (indexed s i) = RunFits c s × ExpressionFits c v i
 ExpressionFits c v (operation o a b) = ExpressionFits c v a × ExpressionFits c v b
 
--- each name names what is there, with an index where that is a run and only there, and each literal is a word
+-- each name is of an existing cell or variable, with an index exactly for a run, and each literal is a word
 abbrev pub StatementsFit : ℕ → ℕ → StatementList Slot → Type 0
 StatementsFit c v none = Unit {0}
 StatementsFit c v (assign to e rest) = SlotFits c v to × ExpressionFits c v e × StatementsFit c v rest

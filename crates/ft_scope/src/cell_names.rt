@@ -30,7 +30,7 @@ fn cell_name(alloc: Global, text: &[u8], place: Option<u32>) -> Result<Vec<u8>, 
     }
 }
 
-/// The names of cells with these declared names and places, of which there are as many.
+/// The names of cells with these declared names and as many places.
 fn joined_names(
     alloc: Global,
     texts: &[&[u8]],
@@ -47,8 +47,8 @@ fn joined_names(
 }
 
 impl Prog<'_> {
-    /// The cells' names in order: the declared name, and for a cell of an array its place there in square
-    /// brackets after it. The error comes where there is no memory for them.
+    /// The cells' names in order: the declared name, and for a cell of an array its place there in square brackets
+    /// after it. The only error is out of memory.
     pub fn cell_names(&self, alloc: Global) -> Result<Vec<Vec<u8>>, NoMemory>
         ensures { IfOk result (λ v. map (λ n. n.items) v.items ≡ (program_of self.now).names) }
     {

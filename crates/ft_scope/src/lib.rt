@@ -1,10 +1,10 @@
 //! Names, limits and size of a source.
 //!
-//! The crate promises that `resolve` gives the program that a syntax tree is, with each name replaced by
-//! the cell, the array or the variable that it names, or the first refusal of the tree; and that a program
-//! keeps the limits on cells, registers and weight. Its definitions: `specs/Scope.antt`,
-//! `specs/CellNames.antt`, `specs/Size.antt`, `specs/Resolved.antt`, and for whole texts
-//! `specs/Outcome.antt` and `specs/Proper.antt`.
+//! The crate promises that `resolve` returns a syntax tree's program, with each name replaced by the cell,
+//! the array or the variable that it names, or the tree's first refusal; and that a program is within the
+//! limits on cells, registers and weight. Its definitions: `specs/Scope.antt`, `specs/CellNames.antt`,
+//! `specs/Size.antt`, `specs/Resolved.antt`, and for whole texts `specs/Outcome.antt` and
+//! `specs/Proper.antt`.
 #![tactic(auto)]
 
 mod cell_names;

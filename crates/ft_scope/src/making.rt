@@ -8,10 +8,10 @@ ghost use Rattle.ft_scope.specs.Made.{Made};
 use ft_syntax::{Decl, SourceError};
 use std::alloc::Global;
 
-/// The most cells of an array.
+/// The maximum cells of an array.
 const LENGTH_LIMIT: u64 = 1_024;
 
-/// The place of a declaration's length, where it is 0 or above 1,024.
+/// The place of a declaration's length, if it is 0 or above 1,024.
 fn wrong(d: &Decl<'_>) -> Option<usize>
     ensures { result ≡ wrong_length (declared d.now ∷ []) }
 {

@@ -6,7 +6,7 @@ ghost use Rattle.ft_scope.specs.Size.{same_slot, slot_weight, need, most_need, e
 use crate::slot::Slot;
 use ft_syntax::{Expr, Stmt};
 
-/// The greatest need of an expression, in register pairs, and the weight. Neither goes above 2^64 - 1.
+/// The greatest need of an expression, in register pairs, and the weight. Both saturate at 2^64 - 1.
 #[derive(Clone, Copy)]
 pub struct Measure {
     pub need: u64,
@@ -117,7 +117,7 @@ fn measure_statement(s: &Stmt<Slot>) -> Measure
     }
 }
 
-/// A loop or a choice of which the parts measure so much.
+/// A loop or a choice whose parts measure this much.
 fn with_branch(parts: Measure) -> Measure
     ensures need { result.need ≡ parts.need }
     ensures weight { result.weight ≡ min (parts.weight + 16) (2 ^ 64 - 1) }

@@ -14,7 +14,7 @@ pub fn first_of(one: Option<usize>, other: Option<usize>) -> Option<usize>
     }
 }
 
-/// The place of a name without an index, where it is an array's.
+/// The place of a name without an index, if it is an array's.
 pub fn bare_misuse(slot: Slot, at: usize) -> Option<usize>
     ensures { result ≡ bare_misuse at (Some slot) }
 {
@@ -24,7 +24,7 @@ pub fn bare_misuse(slot: Slot, at: usize) -> Option<usize>
     }
 }
 
-/// The place of a name with an index, where it is a plain cell's or a variable's.
+/// The place of a name with an index, if it is a plain cell's or a variable's.
 pub fn index_misuse(slot: Slot, at: usize) -> Option<usize>
     ensures { result ≡ index_misuse at (Some slot) }
 {

@@ -10,9 +10,8 @@ use ft_syntax::{Decl, SourceError, Spot};
 use std::alloc::Global;
 use std::collections::BTreeMap;
 
-/// The declared names with what they name, how many cells there are, and how many variables. The
-/// number of cells stays at 2^64 - 1 where it would be greater. The names are kept in order, so a text
-/// of any names is looked up in the same time.
+/// The declared names with what they refer to, how many cells there are, and how many variables. The number of cells
+/// saturates at 2^64 - 1. The names are kept in order, so no choice of names makes a look-up slow.
 #[derive(Drop)]
 pub struct Names<'a> {
     pub slots: BTreeMap<&'a [u8], Slot>,
@@ -47,7 +46,7 @@ impl<'a> Names<'a> {
         }
     }
 
-    /// What a name names.
+    /// What a name refers to.
     #[tactic(auto, unfolding(crate::specs::Held::look))]
     pub fn find(&self, text: &[u8]) -> Option<Slot>
         ensures { result ≡ look self.now text.now }
@@ -55,7 +54,7 @@ impl<'a> Names<'a> {
         self.slots.get(text).copied()
     }
 
-    /// Notes what a name names, unless the name was declared before.
+    /// Notes what a name refers to, unless the name was declared before.
     fn name(&mut self, name: Spot<'a>, slot: Slot) -> Result<(), SourceError>
         ensures fresh { OnOk result (look self.old name.entry.text.now ≡ None) }
         ensures noted { OnOk result ((text : List ℕ) → look self.new text ≡ cond (bytes_eq name.entry.text.now text) (Some slot) (look self.old text)) }
@@ -128,7 +127,7 @@ impl<'a> Names<'a> {
     }
 }
 
-/// The names of declarations, of which none is declared twice.
+/// The names of declarations, none of which is declared twice.
 pub fn declared_names<'a>(alloc: Global, decls: &[Decl<'a>]) -> Result<Names<'a>, SourceError>
     requires { length decls.now < 2 ^ 32 }
     ensures ok { IfOk result (λ n. Holds n (declared_list decls.now)) }

@@ -1,4 +1,4 @@
-//! Each name replaced by what it names.
+//! Each name replaced by what it refers to.
 ghost use Rattle.std.specs.Prelude.{◌≡◌, ℕ, None, Some, Ok, IfOk, IfErr, OnOk};
 ghost use Rattle.ft_syntax.specs.Plain.{none, plain_expression, plain_statement, plain_list};
 ghost use Rattle.ft_syntax.specs.Syntax.{named};
@@ -14,7 +14,7 @@ use crate::slot::Slot;
 use ft_syntax::{Expr, SourceError, Spot, Stmt};
 use std::alloc::Global;
 
-/// What a name names.
+/// What a name refers to.
 fn slot_of(names: &Names<'_>, name: Spot<'_>) -> Result<Slot, SourceError>
     ensures is { IfOk result (λ s. look names.now name.entry.text.now ≡ Some s) }
     ensures ok { IfOk result (λ s. found name.entry.at (look names.now name.entry.text.now) ≡ Ok s) }
@@ -27,7 +27,7 @@ fn slot_of(names: &Names<'_>, name: Spot<'_>) -> Result<Slot, SourceError>
     }
 }
 
-/// What a name without an index names. The place of the first misused name is noted.
+/// What a name without an index refers to. The place of the first misused name is noted.
 fn bare_slot(
     names: &Names<'_>,
     name: Spot<'_>,
@@ -43,7 +43,7 @@ fn bare_slot(
     Ok(slot)
 }
 
-/// What a name with an index names. The place of the first misused name is noted.
+/// What a name with an index refers to. The place of the first misused name is noted.
 fn indexed_slot(
     names: &Names<'_>,
     name: Spot<'_>,

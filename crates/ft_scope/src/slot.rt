@@ -1,4 +1,4 @@
-//! What a name names.
+//! What a name refers to.
 
 /// A cell or a variable by its number, or the cells of an array; cells and variables are numbered
 /// from 0 in the order of their declarations.
@@ -8,6 +8,6 @@ pub enum Slot {
     Cell(u32),
     /// A variable.
     Var(u8),
-    /// The cells of an array, so many from the first one on.
+    /// The cells of an array, `length` of them from `first`.
     Run { first: u32, length: u32 },
 }

@@ -141,7 +141,7 @@ IsCell line = IsOf IsLineWord (λ name. codes "cell " ++ itself name) line
 abbrev IsBreak : List ℕ → ℕ × ℕ → Type 0
 IsBreak line = IsOf (BothGood IsWord IsWord) (λ p. codes "break " ++ with_space decimal decimal p) line
 
--- a line of no kind is no command's
+-- a line of no kind spells no command
 no_text : (line : List ℕ) → ((n : ℕ) → ¬ (IsCounted (codes "step ") line n)) →
     ((n : ℕ) → ¬ (IsCounted (codes "go ") line n)) → ((n : ℕ) → ¬ (IsCounted (codes "back ") line n)) →
     ((p : Site × ℕ) → ¬ (IsZap line p))

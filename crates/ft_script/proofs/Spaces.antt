@@ -10,7 +10,7 @@ use Rattle.ft_isa.specs.declared.plan.Site.{Site}
 use Rattle.ft_isa.specs.declared.plan.Site.TheVariants as sites
 use Rattle.ft_text.proofs.FirstWords.{HasNoSpace}
 
--- digits are no spaces
+-- digits are not spaces
 pub decimal_no_space : (n : ℕ) → n < 2 ^ 64 → HasNoSpace (decimal n)
 decimal_no_space n word =
     All-from_recursion (λ byte. byte ≢ 32) (decimal n)

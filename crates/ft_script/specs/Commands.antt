@@ -1,4 +1,4 @@
--- The commands of a debugging session, each by the line that gives it.
+-- The commands of a debugger session, each by the line that spells it.
 use Rattle.std.specs.Prelude.{◌≡◌, ◌≢◌, ℕ, ◌<◌, ◌≤◌, List, ◌++◌, length, decimal, codes, All}
 use Rattle.std.specs.List.{AllZip}
 use Rattle.ft_isa.specs.Words.{IsWord}
@@ -11,11 +11,11 @@ use Rattle.ft_script.specs.declared.register.Register.TheVariants as registers
 
 -- the command of a line
 pub data Command : Type 0 where
-  -- so many steps, up to the stop
+  -- n steps, up to the stop
   Step : ℕ → Command
-  -- so many steps, up to the stop or a break place
+  -- n steps, up to the stop or a breakpoint
   Go : ℕ → Command
-  -- so many steps back
+  -- n steps back
   Back : ℕ → Command
   -- a strike
   Zap : Site → ℕ → Command
@@ -27,7 +27,7 @@ pub data Command : Type 0 where
   Cell : List ℕ → Command
   -- where the machine is
   Where : Command
-  -- a break place: a block, and an instruction of it
+  -- a breakpoint: a block, and an instruction of it
   Break : ℕ → ℕ → Command
   -- any other line
   Bad : Command
@@ -47,12 +47,12 @@ register_text register = site_text (site_of register)
 abbrev pub IsCount : ℕ → Type 0
 IsCount n = n ≤ 1000000
 
--- a word of a line has a byte or more, and no space
+-- a word of a line has at least one byte, and no space
 pub record IsLineWord (word : List ℕ) : Type 0 where
   pub some : 0 < length word
   pub no_space : All (λ byte. byte ≢ 32) word
 
--- the line is a text of the command: its words, with one space between them
+-- the line spells the command: its words, with one space between them
 abbrev pub IsText : Command → List ℕ → Type 0
 IsText (Step n) line = IsCount n × (line ≡ codes "step " ++ decimal n)
 IsText (Go n) line = IsCount n × (line ≡ codes "go " ++ decimal n)
@@ -65,7 +65,7 @@ IsText Where line = line ≡ codes "where"
 IsText (Break block index) line = IsWord block × IsWord index × (line ≡ codes "break " ++ decimal block ++ codes " " ++ decimal index)
 IsText Bad line = ⊥
 
--- the line gives the command: it is its text, or no command has this text and the line is a bad command
+-- the line is read as the command: it spells it, or it spells no command and is a bad command
 abbrev pub Gives : List ℕ → Command → Type 0
 Gives line Bad = (command : Command) → ¬ (IsText command line)
 Gives line command = IsText command line

@@ -5,11 +5,11 @@ use ft_isa::Site;
 /// The command of a line.
 #[derive(Clone, Copy)]
 pub enum Command<'s> {
-    /// Takes so many steps, up to the stop.
+    /// Takes this many steps, up to the stop.
     Step(u64),
-    /// Takes so many steps, up to the stop or a break place.
+    /// Takes this many steps, up to the stop or a breakpoint.
     Go(u64),
-    /// Goes back so many steps.
+    /// Goes back this many steps.
     Back(u64),
     /// Strikes a site.
     Zap { site: Site, value: u64 },
@@ -21,7 +21,7 @@ pub enum Command<'s> {
     Cell(&'s [u8]),
     /// Shows where the machine is.
     Where,
-    /// Sets a break place: an instruction of a block.
+    /// Sets a breakpoint: an instruction of a block.
     Break { block: u64, index: u64 },
     /// Any other line.
     Bad,

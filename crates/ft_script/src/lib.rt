@@ -1,8 +1,8 @@
 //! Scripts of the debugger: their lines, read as commands.
 //!
-//! The crate promises that each line of a script is read as the command whose text it is, and as a bad
-//! command exactly when it is the text of none. The lines of a script give one list of commands. Its
-//! definitions: `specs/Commands.antt`, and for commands that were read `specs/Reads.antt`.
+//! The crate promises that each line is read as the command that it spells, and as a bad command exactly if
+//! it spells none. The lines of a script give one list of commands. Its definitions: `specs/Commands.antt`,
+//! and for commands that were read `specs/Reads.antt`.
 #![tactic(auto)]
 
 mod command;

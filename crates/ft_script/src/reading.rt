@@ -66,7 +66,7 @@ fn read_cell(line: &[u8]) -> Option<&[u8]>
     if is_line_word(name) { Some(name) } else { None }
 }
 
-/// The block and the instruction of a break place.
+/// The block and the instruction of a breakpoint.
 fn read_break(line: &[u8]) -> Option<(u64, u64)>
     ensures some { IfSome result (λ p. IsWord p.0 × IsWord p.1 × (line.now ≡ codes "break " ++ decimal p.0 ++ codes " " ++ decimal p.1)) }
     ensures none { IfNone result ((block index : ℕ) → IsWord block → IsWord index → line.now ≢ codes "break " ++ decimal block ++ codes " " ++ decimal index) }

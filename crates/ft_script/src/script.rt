@@ -9,7 +9,7 @@ use ft_isa::NoMemory;
 use ft_text::read_line;
 use std::alloc::Global;
 
-/// The commands of a script's lines, one each; `NoMemory` where there is no room for them.
+/// The commands of a script's lines, one each; `NoMemory` if there is no room for them.
 pub fn read_script(alloc: Global, script: &[u8]) -> Result<Vec<Command<'_>>, NoMemory>
     ensures commands { IfOk result (λ commands. AreCommands script.now (map command_of commands.items)) }
     ensures few { IfOk result (λ commands. length commands.items ≤ length script.now) }

@@ -7,7 +7,7 @@ use crate::register::Register;
 use ft_isa::{Site, read_number, read_site};
 use ft_text::first_space;
 
-/// The most steps of one command.
+/// The maximum steps of one command.
 const STEP_LIMIT: u64 = 1_000_000;
 
 /// Whether two texts are the same.
@@ -17,7 +17,7 @@ pub fn is_same(a: &[u8], b: &[u8]) -> bool
     a == b
 }
 
-/// Whether a text is a word of a line: it has a byte or more, and no space.
+/// Whether a text is a word of a line: it has at least one byte, and no space.
 pub fn is_line_word(text: &[u8]) -> bool
     ensures { Decides result (IsLineWord text.now) }
 {

@@ -77,7 +77,7 @@ module _ (o : Object) (strike : Option Strike) (w : List Wild) where
       → run o strike w n ≡ run o strike w m
   run_stops_once = ends_once (run o strike w) Stopped stops
 
-  -- where a run is running, it has not stopped before
+  -- if a run is running, it has not stopped before
   pub run_goes_on : (n m : ℕ) → (HasStopped (status_after o strike w n) → ⊥) → HasStopped (status_after o strike w m)
       → n < m
   run_goes_on = goes_on (run o strike w) Stopped stops

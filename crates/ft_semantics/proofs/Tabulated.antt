@@ -7,11 +7,11 @@ use Rattle.ft_isa.specs.Words.{cell_address}
 use Rattle.ft_types.proofs.Maps.{get-insert}
 use Rattle.ft_semantics.specs.State.{tabulate}
 
--- keys that tell their numbers
+-- keys that determine their numbers
 abbrev pub Tells : (ℕ → ℕ) → Type 0
 Tells key = (i j : ℕ) → (key i == key j) ≡ (i == j)
 
--- a cell's address tells its number
+-- a cell's address determines its number
 pub cells_tell : Tells cell_address
 cells_tell i j = grind (arith, nat_tests)
 

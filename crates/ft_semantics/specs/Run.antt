@@ -17,11 +17,11 @@ pub record Ran : Type 0 where
   pub wild : List Wild
   pub outputs : List Output
 
--- the run after a step that gave this
+-- the run after a step with this result
 abbrev pub extended : List Output → Stepping → Ran
 extended outputs t = record { state = t.state; wild = t.wild; outputs = outputs ++ option_to_list t.output }
 
--- step k of a run: first the strike, where the plan strikes there, and then the machine's step
+-- step k of a run: first the strike, if the plan strikes there, and then the machine's step
 abbrev pub after_step : Object → Option Strike → ℕ → Ran → Ran
 after_step o strike k r = extended r.outputs (step o (struck_before strike k r.state) r.wild)
 

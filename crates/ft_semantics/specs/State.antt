@@ -37,7 +37,7 @@ held m r = unwrap_or (map.get m r) green_zero
 abbrev pub with_held : Registers → ℕ → Coloured → Registers
 with_held m r x = map.insert m r x
 
--- the word of the cell at an address, where there is one
+-- the word of the cell at an address, if there is one
 abbrev pub cell_at : Cells → ℕ → Option ℕ
 cell_at m a = map.get m a
 
@@ -70,7 +70,7 @@ word s r = (register s r).word
 abbrev pub colour : State → Reg → Colour
 colour s r = (register s r).colour
 
--- the map with n entries, of which the one numbered i has this key and this value
+-- the map with n entries, where entry i has this key and this value
 unfoldable pub tabulate : {X : Type 0} → ℕ → (ℕ → ℕ) → (ℕ → X) → FinMap nat_cmp X
 tabulate zero key value = map.empty
 tabulate (suc n) key value = map.insert (tabulate n key value) (key n) (value n)

@@ -18,7 +18,7 @@ use Rattle.ft_types.specs.declared.object.Object.{Object}
 use Rattle.ft_types.specs.Objects.{instr_at}
 use Rattle.ft_semantics.specs.State.{State, word, colour, with_held, cell_at, is_cell, with_cell}
 
--- what a step gives: the state after it, the answers left to wild loads, and its output
+-- the result of a step: the state after it, the answers left to wild loads, and its output
 pub record Stepping : Type 0 where
   pub state : State
   pub wild : List Wild
@@ -52,12 +52,12 @@ put r x s = record s { registers = with_held s.registers r.number x }
 abbrev pub writes : Reg → Colour → ℕ → State → List Wild → Stepping
 writes rd c v s w = quiet (goes_on (put rd (record { colour = c; word = v }) s)) w
 
--- an instruction that was looked up is fetched; where there is none, the fault is detected
+-- an instruction that was looked up is fetched; if there is none, the fault is detected
 abbrev pub fetch : Option Instr → State → List Wild → Stepping
 fetch (Some i) s w = quiet (record s { fetched = Some i }) w
 fetch None s w = detected s w
 
--- what a load finds without the plan: green looks at the pending stores first, and blue at the cells alone
+-- what a load finds without the plan: green looks at the pending stores first, and blue only at the cells
 abbrev pub found : Colour → State → ℕ → Option ℕ
 found Green s a = option_or (newest_at s.queue a) (cell_at s.cells a)
 found Blue s a = cell_at s.cells a
@@ -73,7 +73,7 @@ abbrev pub load : Colour → Reg → Option ℕ → State → List Wild → Step
 load c rd (Some v) s w = writes rd c v s w
 load c rd None s w = wild_load c rd s w
 
--- a green store adds its pair as the newest entry, where there are fewer than 8
+-- a green store adds its pair as the newest entry, if there are fewer than 8
 abbrev pub store_green : ℕ → ℕ → State → List Wild → Stepping
 store_green a v s w =
     if nat_lt (length s.queue) 8
@@ -92,7 +92,7 @@ commit a v s w = record {
 abbrev pub commits : ℕ → ℕ → State → Bool
 commits a v s = is_oldest s.queue a v && is_cell s.cells a
 
--- a blue store commits the oldest entry, where that is its own pair and goes to a cell
+-- a blue store commits the oldest entry, if that is its own pair and goes to a cell
 abbrev pub store_blue : ℕ → ℕ → State → List Wild → Stepping
 store_blue a v s w = if commits a v s then commit a v s w else detected s w
 
@@ -101,15 +101,15 @@ abbrev pub store : Colour → ℕ → ℕ → State → List Wild → Stepping
 store Green a v s w = store_green a v s w
 store Blue a v s w = store_blue a v s w
 
--- a green jump sets d, where d is 0
+-- a green jump sets d, if d is 0
 abbrev pub jump_green : ℕ → State → List Wild → Stepping
 jump_green a s w = if s.d == 0 then quiet (goes_on (record s { d = a })) w else detected s w
 
--- a blue jump transfers, where d is its target and not 0
+-- a blue jump transfers, if d is its target and not 0
 abbrev pub jump_blue : ℕ → State → List Wild → Stepping
 jump_blue a s w = if not (s.d == 0) && (s.d == a) then quiet (transfers a s) w else detected s w
 
--- a branch that is not taken goes on, where d is 0
+-- a branch that is not taken goes on, if d is 0
 abbrev pub pass : State → List Wild → Stepping
 pass s w = if s.d == 0 then quiet (goes_on s) w else detected s w
 
@@ -127,12 +127,12 @@ execute (BzB rz rd subst) s w = if word s rz == 0 then jump_blue (word s rd) s w
 execute Halt s w = quiet (record s { status = Done }) w
 execute (Idx rd rs first m) s w = writes rd (colour s rs) (cell_in_run first m (word s rs)) s w
 
--- a running machine fetches where nothing is fetched, and else does what is fetched
+-- a running machine fetches if nothing is fetched, and otherwise does what is fetched
 abbrev pub advance : Object → Option Instr → State → List Wild → Stepping
 advance o None s w = if s.pc_green == s.pc_blue then fetch (instr_at o s.pc_green) s w else detected s w
 advance o (Some i) s w = execute i s w
 
--- a machine that has stopped stays as it is
+-- a stopped machine does not change
 abbrev pub step_at : Object → Status → State → List Wild → Stepping
 step_at o Running s w = advance o s.fetched s w
 step_at o Done s w = quiet s w

@@ -15,11 +15,11 @@ use Rattle.ft_types.specs.Objects.{instr_at}
 use Rattle.ft_semantics.specs.State.{State, Cells, word, colour, cell_at, is_cell}
 use Rattle.ft_semantics.specs.Step.{Stepping, step, quiet, detected, goes_on, transfers, writes, commit}
 
--- a row: the step that it gives, by what is fetched; where the row does not apply it gives none
+-- a row: its step, by what is fetched; if the row does not apply, there is none
 abbrev pub Row : Type 0
 Row = Option Instr → Object → State → List Wild → Option Stepping
 
--- the effect, where the condition holds
+-- the effect, if the condition holds
 abbrev pub given : Bool → Stepping → Option Stepping
 given condition effect = if condition then Some effect else None
 
@@ -202,10 +202,10 @@ steps_table =
 abbrev pub given_steps : Option Instr → Object → State → List Wild → List Stepping
 given_steps fetched o s w = filter_map (λ row. row fetched o s w) steps_table
 
--- exactly one row of the table applies, and the machine's step is the one that the row gives
+-- exactly one row of the table applies, and the machine's step is that row's
 abbrev pub IsTheTable : Object → State → List Wild → Type 0
 IsTheTable o s w = given_steps s.fetched o s w ≡ step o s w ∷ []
 
--- a machine that is Done or Detected stays as it is, takes no answer and has no output
+-- a machine that is Done or Detected does not change, takes no answer and has no output
 abbrev pub IsStopped : State → Type 0
 IsStopped s = (s.status ≡ Done) ⊎ (s.status ≡ Detected)

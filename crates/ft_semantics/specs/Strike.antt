@@ -15,7 +15,7 @@ is_running Running = true
 is_running Done = false
 is_running Detected = false
 
--- whether a site is there beside a queue of so many entries
+-- whether a site exists beside a queue with n entries
 abbrev pub is_site : Site → ℕ → Bool
 is_site (R r) entries = true
 is_site D entries = true
@@ -24,11 +24,11 @@ is_site PcB entries = true
 is_site (QAddr i) entries = nat_lt i entries
 is_site (QVal i) entries = nat_lt i entries
 
--- the machine runs, and the site is there
+-- the machine runs, and the site exists
 abbrev pub is_there : State → Site → Bool
 is_there s site = is_running s.status && is_site site (length s.queue)
 
--- the state with another word at a site that is there; every colour stays
+-- the state with another word at an existing site; every colour stays
 abbrev pub with_word : Site → ℕ → State → State
 with_word (R r) v s = put r (record { colour = colour s r; word = v }) s
 with_word D v s = record s { d = v }
@@ -41,7 +41,7 @@ with_word (QVal i) v s = record s { queue = with_value s.queue i v }
 abbrev pub struck_state : State → Site → ℕ → State
 struck_state s site v = if is_there s site then with_word site v s else s
 
--- the state before step k is taken, after the plan's strike where it strikes there
+-- the state in which step k is taken: struck first if the plan strikes at k
 abbrev pub struck_before : Option Strike → ℕ → State → State
 struck_before None k s = s
 struck_before (Some strike) k s = if strike.step == k then struck_state s strike.site strike.value else s

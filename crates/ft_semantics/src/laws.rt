@@ -14,7 +14,7 @@ pub fn steps_are_the_table()
     ensures { (o : Object) (s : State) (w : List Wild) → s.status ≡ Running → IsTheTable o s w }
 {}
 
-/// A machine that is Done or Detected stays as it is, takes no answer and has no output.
+/// A machine that is Done or Detected does not change, takes no answer and has no output.
 pub fn stopped_machines_stay()
     ensures { (o : Object) (s : State) (w : List Wild) → IsStopped s → step o s w ≡ quiet s w }
 {}

@@ -1,6 +1,6 @@
-//! How a machine stands.
+//! A machine's status.
 
-/// How a machine stands. One that is not running takes no more steps.
+/// The machine's status. One that is not running takes no more steps.
 #[derive(Clone, Copy, Debug, PartialEq, Eq)]
 pub enum Status {
     /// The machine takes steps.

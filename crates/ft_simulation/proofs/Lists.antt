@@ -1,11 +1,11 @@
 -- When one list begins another.
 use Rattle.std.proofs.Common.{◌≡◌, List, [], ◌++◌, sym, ap, ◌∙◌, append-nil, append_assoc}
 
--- the one list begins the other
+-- one list is a prefix of the other
 abbrev pub Begins : {A : Type 0} → List A → List A → Type 0
 Begins {A} a b = (rest : List A) × (a ++ rest ≡ b)
 
--- each begins itself
+-- each is a prefix of itself
 pub begins_itself : {A : Type 0} (a : List A) → Begins a a
 begins_itself a = ([], append-nil a)
 

@@ -2,14 +2,14 @@
 use Rattle.std.proofs.Common.{◌≡◌, ⊎_elim, ℕ, zero, suc, ◌<◌, ◌≤◌, refl, sym, ◌∙◌, subst, arith}
 use Rattle.std.proofs.lemmas.Bool.{cases_eq, cases_lt}
 
--- where each pair of steps keeps two runs related, they are related after any number of steps
+-- if each pair of steps keeps two runs related, they are related after any number of steps
 pub lockstep : {S T : Type 0} (r : ℕ → S) (x : ℕ → T) (R : ℕ → S → T → Type 0) → R 0 (r 0) (x 0) →
     ((k : ℕ) → R k (r k) (x k) → R (suc k) (r (suc k)) (x (suc k))) → (n : ℕ) → R n (r n) (x n)
 lockstep r x R begin each zero = begin
 lockstep r x R begin each (suc n) = each n (lockstep r x R begin each n)
 
 module _ {S : Type 0} (r : ℕ → S) where
-  -- a relation that goes on from state to state is kept by many steps where each keeps it
+  -- a relation from state to state is kept by many steps if each keeps it
   pub later : (Q : S → S → Type 0) → ((s : S) → Q s s) → ((s t u : S) → Q s t → Q t u → Q s u) →
       ((k : ℕ) → Q (r k) (r (suc k))) → (n m : ℕ) → n ≤ m → Q (r n) (r m)
   later Q same on each n zero le = (let e : n ≡ 0 = omega arith in subst (λ k. Q (r n) (r k)) e (same (r n)))

@@ -1,7 +1,7 @@
 -- Machines that take steps: stretches of steps, and machines that follow others.
 use Rattle.std.proofs.Common.{◌≡◌, ℕ, zero, suc, ◌+◌, refl, sym, ap, ◌∙◌, subst, zero-add, suc-add}
 
--- so many steps, the first one first
+-- n steps, the first one first
 abbrev pub iterate : {S : Type 0} → (S → S) → ℕ → S → S
 iterate step zero s = s
 iterate step (suc k) s = iterate step k (step s)
@@ -26,13 +26,13 @@ pub lead_on : {S : Type 0} (step : S → S) (i j : ℕ) (s t u : S) → Leads st
     Leads step (i + j) s u
 lead_on step i j s t u p q = record { is = iterate_on step i j s ∙ ap (iterate step j) p.is ∙ q.is }
 
--- what k steps cost, where each costs so many
+-- the cost of k steps, each with its own
 abbrev pub cost : {S : Type 0} → (S → S) → (S → ℕ) → ℕ → S → ℕ
 cost step each zero s = 0
 cost step each (suc k) s = each s + cost step each k (step s)
 
--- where a machine takes so many steps for each step of another, none or more, and comes to a related state, it does so
--- for any number of steps
+-- if one machine takes some steps, or none, for each step of another and comes to a related state, it does so for any
+-- number of steps
 pub follows : {S T : Type 0} (f : S → S) (each : S → ℕ) (g : T → T) (R : S → T → Type 0) →
     ((s : S) (t : T) → R s t → R (f s) (iterate g (each s) t)) → (k : ℕ) (s : S) (t : T) → R s t →
     R (iterate f k s) (iterate g (cost f each k s) t)

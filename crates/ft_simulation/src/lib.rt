@@ -1,8 +1,7 @@
 //! Simulations: two machines that take steps side by side, over any types of states.
 //!
-//! The crate has no code. Its lemmas stand for the inductions over steps that the proofs above share: what
-//! each step of a run keeps, many steps keep (`proofs/Sequences.antt`); runs that end, end once; and where
-//! one machine takes so many steps for each step of another and comes to a related state, it does so for
-//! any number of steps (`proofs/Steps.antt`). A clause can't speak of all types, so no function states
-//! them: what uses them is stated where it is used.
+//! The crate has no code. Its lemmas are the inductions over steps that higher crates share: an invariant
+//! of each step holds after many (`proofs/Sequences.antt`); a run ends at most once; if one machine follows
+//! each step of another, in any number of its own, it follows all of them (`proofs/Steps.antt`). A clause
+//! cannot quantify over types, so no function states them; each crate that uses one states its own result.
 #![tactic(auto)]

@@ -3,8 +3,8 @@ use ft_isa::apply;
 use ft_lower::{Flow, Step3};
 use std::test::Fail;
 
-/// Where a run is: the words of the pairs and the cells, the block and the place of the next step, the outputs
-/// so far as cells and words, and whether the run is done.
+/// The state of a run: the words of the pairs and the cells, the block and the place of the next step, the outputs so
+/// far as cells and words, and whether the run is done.
 #[derive(Drop)]
 pub struct FlowRun {
     pairs: Vec<u64>,
@@ -15,7 +15,7 @@ pub struct FlowRun {
     pub done: bool,
 }
 
-/// The word at a place, 0 where there is none.
+/// The word at a place, 0 if there is none.
 fn word_at(words: &[u64], at: usize) -> u64 {
     match words.get(at) {
         Some(word) => *word,
@@ -23,14 +23,14 @@ fn word_at(words: &[u64], at: usize) -> u64 {
     }
 }
 
-/// Puts a word at a place, where there is one.
+/// Puts a word at a place, if there is one.
 fn set(words: &mut Vec<u64>, at: usize, word: u64) {
     if at < words.len() {
         words[at] = word;
     }
 }
 
-/// The cell that a word names among so many cells from the first one on.
+/// The cell that a word selects among `length` cells from the first.
 fn cell_of_run(first: u32, length: u32, word: u64) -> u32 {
     if length == 0 {
         return first;
@@ -127,7 +127,7 @@ impl FlowRun {
         Ok(())
     }
 
-    /// Runs at most so many steps, up to the end.
+    /// Runs at most `limit` steps, up to the end.
     pub fn run(&mut self, flow: &Flow, limit: usize) -> Result<(), Fail> {
         for _ in 0..limit {
             if self.done {

@@ -12,7 +12,7 @@ fn refusal(alloc: Global, text: &[u8]) -> Option<SourceError> {
     }
 }
 
-/// The refusal of a text that is no program from this byte on.
+/// The refusal of a text that is not a program from this byte.
 fn syntax(at: usize) -> Option<SourceError> {
     Some(SourceError::Syntax { at })
 }

@@ -32,7 +32,7 @@ coefficient_is_word k nought h = lit< tt
 coefficient_is_word k (plus n d p) h = by_cases (λ t. t < 2 ^ 64) (cmp_monomial k n) (coefficient k p) d
     (coefficient k p) (λ e. coefficient_is_word k p h.5) (λ e. h.3) (λ e. coefficient_is_word k p h.5)
 
--- the coefficients where a term is put first
+-- the coefficients if a term is put first
 coefficient_led : (k m : Monomial) (c : ℕ) (p : Polynomial) → c < 2 ^ 64 → Below m p → IsProper p →
     coefficient k (led_by m c p) ≡ (share k m c + coefficient k p) % 2 ^ 64
 coefficient_led k m c p l b w = if_cases (λ q. coefficient k q ≡ (share k m c + coefficient k p) % 2 ^ 64) (c == 0) p
@@ -46,7 +46,7 @@ coefficient_led k m c p l b w = if_cases (λ q. coefficient k q ≡ (share k m c
     rw (o, z, add-zero) (sym (mod-eq_of_lt l)))
     (λ o. rw (o, zero-add) (sym (mod-eq_of_lt (coefficient_is_word k p w)))))
 
--- the coefficients where a term is added
+-- the coefficients if a term is added
 coefficient_add_term : (k m : Monomial) (c : ℕ) (p : Polynomial) → c < 2 ^ 64 → IsProper p →
     coefficient k (add_term m c p) ≡ (share k m c + coefficient k p) % 2 ^ 64
 coefficient_add_term k m c nought l w = coefficient_led k m c nought l tt tt
@@ -100,7 +100,7 @@ shares w x y z = rw (add-mod-mod x (y % w + z) w) (let e : x + (y % w + z) ≡ y
 more_shares : (w x y z : ℕ) → (x + (y + z) % w) % w ≡ (y + x + z) % w
 more_shares w x y z = rw (add-mod-mod x (y + z) w) (ap (λ t. t % w) (omega arith))
 
--- the coefficients where the products with one term are added
+-- the coefficients if the products with one term are added
 coefficient_multiple : (k m : Monomial) (c : ℕ) (q r : Polynomial) → IsProperMonomial m → factors m + degree q ≤ 4 →
     IsProper q → IsProper r → coefficient k (add_multiple m c q r)
     ≡ (share_of_multiple k m c q + coefficient k r) % 2 ^ 64
@@ -116,7 +116,7 @@ coefficient_multiple k m c (plus n d q) r h f w v =
     ∙ ap (λ t. (t + coefficient k r) % 2 ^ 64) (share_modulo k (join m n) (c * d)))
     ∙ shares (2 ^ 64) (share_of_multiple k m c q) (share k (join m n) (c * d)) (coefficient k r))
 
--- the coefficients where all products are added
+-- the coefficients if all products are added
 coefficient_onto : (k : Monomial) (p q r : Polynomial) → degree p + degree q ≤ 4 → IsProper p → IsProper q →
     IsProper r → coefficient k (add_products p q r) ≡ (share_of_products k p q + coefficient k r) % 2 ^ 64
 coefficient_onto k nought q r f h w v = rw zero-add (sym (mod-eq_of_lt (coefficient_is_word k r v)))

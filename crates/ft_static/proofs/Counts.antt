@@ -38,7 +38,7 @@ counts_join Less x y = refl
 counts_join Equal x y = omega arith
 counts_join Greater x y = refl
 
--- each atom stands in the product as often as in both
+-- each atom occurs in the product as often as in both
 pub count_join : (k : Atom) (m n : Monomial) → count k (join m n) ≡ count k m + count k n
 count_join k one n = omega arith
 count_join k (times a m) n = count_join k m (with_factor a n)

@@ -21,7 +21,7 @@ use Rattle.ft_static.specs.FormValue.{value_monomial, value_polynomial, value_up
 use Rattle.ft_static.proofs.Cases.{if_cases}
 use Rattle.ft_static.proofs.Equal.{equal_polynomials}
 use Rattle.ft_static.proofs.Words.{word_at-with_word, with_word-with_word}
-use Rattle.ft_static.proofs.Sums.{value_polynomial_is_word, value_alone, value_add, value_mul}
+use Rattle.ft_static.proofs.Sums.{value_polynomial_is_word, value_updates_are_words, value_alone, value_add, value_mul}
 
 -- minus v is 2^64 - v
 negative : (k v : ℕ) → v ≤ suc k → (k * v) % suc k ≡ (suc k - v) % suc k
@@ -86,16 +86,17 @@ value_folded : (o : Op) (p q : Polynomial) (s : Valuation) → IsLawful s → va
     ≡ apply o (value_polynomial p s) (value_polynomial q s)
 value_folded o p q s lawful = go (constant_of p) (constant_of q) refl refl
   where
+    word_given : IsWord (apply o (value_polynomial p s) (value_polynomial q s))
+    word_given = apply_is_word o _ _ (value_polynomial_is_word p s) (value_polynomial_is_word q s)
+
     go : (x y : Option ℕ) → constant_of p ≡ x → constant_of q ≡ y →
         value_polynomial (folded o x y (operation_atom o p q)) s ≡ apply o (value_polynomial p s) (value_polynomial q s)
     go (Some c) (Some d) e g =
         let x = value_constant_of p c s e in
         let y = value_constant_of q d s g in
-        rw (x, y) (value_constant (apply o c d) s ∙ mod-eq_of_lt
-        (apply_is_word o c d (subst IsWord x (value_polynomial_is_word p s))
-        (subst IsWord y (value_polynomial_is_word q s))))
-    go None y e g = value_alone (operation_atom o p q) s lawful
-    go (Some c) None e g = value_alone (operation_atom o p q) s lawful
+        rw (x, y) (value_constant (apply o c d) s ∙ mod-eq_of_lt (rw (x, y) at word_given))
+    go None y e g = value_alone (operation_atom o p q) s word_given
+    go (Some c) None e g = value_alone (operation_atom o p q) s word_given
 
 -- and so does that of each operation
 pub value_op : (o : Op) (p q : Polynomial) (s : Valuation) (lawful : IsLawful s) → value_polynomial (norm_op o p q) s
@@ -117,7 +118,8 @@ value_rem p m s lawful = go (constant_of p) refl
         let w : IsWord c = subst IsWord x (value_polynomial_is_word p s) in
         let l = mod-le c m in
         rw x (value_constant (c % m) s ∙ mod-eq_of_lt (omega (arith, w, l)))
-    go None e = value_alone (rem_atom p m) s lawful
+    go None e = value_alone (rem_atom p m) s (let h = value_polynomial_is_word p s in
+        let k = mod-le (value_polynomial p s) m in omega (arith, h, k))
 
 -- updates
 pub value_upd : (u : Updates) (p v : Polynomial) (s : Valuation) → value_updates (norm_upd u p v) s
@@ -135,7 +137,7 @@ itself : (x : ℕ) → IsWord x → apply Sub x x ≡ 0
 unfolding apply
 itself x w = let g : x + (2 ^ 64 - x) ≡ 2 ^ 64 = omega arith in rw g refl
 
--- where the difference is a nonzero constant, the two denote different words
+-- if the difference is a nonzero constant, the two denote different words
 apart : (p q : Polynomial) (s : Valuation) (lawful : IsLawful s) → is_not_zero (constant_of (norm_sub p q)) ≡ true →
     (value_polynomial p s == value_polynomial q s) ≡ false
 apart p q s lawful = go (constant_of (norm_sub p q)) refl
@@ -155,7 +157,7 @@ apart p q s lawful = go (constant_of (norm_sub p q)) refl
 -- the walk finds the word that the memory has at the address
 pub value_sel : (u : Updates) (p : Polynomial) (s : Valuation) (lawful : IsLawful s) → value_polynomial (norm_sel u p) s
     ≡ word_at (value_updates u s) (value_polynomial p s)
-value_sel unchanged p s lawful = value_alone (sel_atom unchanged p) s lawful
+value_sel unchanged p s lawful = value_alone (sel_atom unchanged p) s (lawful.memory _)
 value_sel (update a v u) p s lawful = if_cases (λ t. value_polynomial t s
     ≡ word_at (value_updates (update a v u) s) (value_polynomial p s)) (same_polynomial a p) _ _
     (λ e. rw (
@@ -172,14 +174,14 @@ value_sel (update a v u) p s lawful = if_cases (λ t. value_polynomial t s
           (value_polynomial p s),
       apart p a s lawful h,
     ) (value_sel u p s lawful))
-    (λ h. value_alone (sel_atom (update a v u) p) s lawful))
+    (λ h. value_alone (sel_atom (update a v u) p) s (value_updates_are_words (update a v u) s lawful _)))
 
 mutual
   -- the form of an integer whose numbers are words denotes what the integer does
   pub norm_value : (e : Integer) (s : Valuation) → IsLawful s → AreWords e → value_polynomial (norm_integer e) s
       ≡ value e s
   norm_value (word w) s lawful h = value_constant w s ∙ mod-eq_of_lt h
-  norm_value (variable i) s lawful h = value_alone (variable_atom i) s lawful
+  norm_value (variable i) s lawful h = value_alone (variable_atom i) s (lawful.integers i)
   norm_value (operation o a b) s lawful h = value_op o (norm_integer a) (norm_integer b) s lawful
       ∙ rw (norm_value a s lawful h.0, norm_value b s lawful h.1) refl
   norm_value (sel m a) s lawful h = value_sel (norm_memory m) (norm_integer a) s lawful

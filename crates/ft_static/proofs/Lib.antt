@@ -9,6 +9,8 @@ pub mod FormsDenote
 pub mod Proper
 pub mod Coefficients
 pub mod Under
+pub mod NodeParts
 pub mod NodeTrees
+pub mod SameTrees
 pub mod Denote
 pub mod Lawful

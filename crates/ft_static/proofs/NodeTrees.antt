@@ -1,12 +1,13 @@
--- Each node of a lawful list stands for one tree, whose numbers are words and whose variables are within the node's
+-- Each node of a valid list stands for one tree, whose numbers are words and whose variables are within the node's
 -- scope.
 use Rattle.std.proofs.Common.{ℕ, suc, zero, ◌≡◌, ◌<◌, ◌≤◌, ◌+◌, true, false, List, [], ◌∷◌, ◌++◌, length, get_or}
-use Rattle.std.proofs.Common.{slice_get, Some, refl, sym, ap, ◌∙◌, arith, subst}
+use Rattle.std.proofs.Common.{slice_get, Some, refl, sym, ap, ◌∙◌, arith, subst, Bool}
 use Rattle.std.proofs.lemmas.List.{get_or_append_left, get_or_push, length_push}
 use Rattle.ft_static.specs.Expression.{Integer, Memory, Expression, word, variable, operation, sel, rem}
 use Rattle.ft_static.specs.Expression.{memory_variable, upd, integer, memory, HasWords, HasVariablesBelow, AreWords}
 use Rattle.ft_static.specs.Expression.{AreWordsOfMemory, IsWithin, IsMemoryWithin}
 use Rattle.ft_static.specs.NodeRules.{is_memory, MayName, IsShape, AreNodes}
+use Rattle.ft_static.specs.NodeParts.{EachPart, renamed}
 use Rattle.ft_static.specs.NodeTree.{integer_part, memory_part, integer_at, memory_at, tree_of, trees_onto, trees}
 use Rattle.ft_static.specs.NodeTree.{tree_at, HasShape, StandsFor, word_node, variable_node, operation_node, sel_node}
 use Rattle.ft_static.specs.NodeTree.{rem_node, memory_node, upd_node, HasPartsBelow}
@@ -14,30 +15,105 @@ use Rattle.ft_static.specs.declared.node.Node.{Node}
 use Rattle.ft_static.specs.declared.node.Shape.{Shape}
 use Rattle.ft_static.specs.declared.node.Shape.TheVariants as shape
 
--- what stands where no tree does
+-- this holds of each part of an integer, by its sort
+abbrev pub OfParts : (Integer → Type 0) → (Memory → Type 0) → Integer → Type 0
+OfParts P M (operation o a b) = P a × P b
+OfParts P M (sel m a) = M m × P a
+OfParts P M (rem a n) = P a
+OfParts P M e = Unit {0}
+
+-- and of each part of a memory
+abbrev pub OfMemoryParts : (Integer → Type 0) → (Memory → Type 0) → Memory → Type 0
+OfMemoryParts P M (upd m a v) = M m × P a × P v
+OfMemoryParts P M m = Unit {0}
+
+-- this holds of all integers, and that of all memories
+abbrev pub OfAll : (Integer → Type 0) → (Memory → Type 0) → Type 0
+OfAll P M = ((e : Integer) → P e) × ((m : Memory) → M m)
+
+-- what follows from what holds of the parts holds of all
+module _ (P : Integer → Type 0) (M : Memory → Type 0) (f : (e : Integer) → OfParts P M e → P e)
+    (g : (m : Memory) → OfMemoryParts P M m → M m) where
+  mutual
+    whole : (e : Integer) → P e
+    whole (operation o a b) = f (operation o a b) (whole a, whole b)
+    whole (sel m a) = f (sel m a) (stored m, whole a)
+    whole (rem a n) = f (rem a n) (whole a)
+    whole e = f e tt
+
+    stored : (m : Memory) → M m
+    stored (upd m a v) = g (upd m a v) (stored m, whole a, whole v)
+    stored m = g m tt
+
+  pub by_parts : OfAll P M
+  by_parts = (whole, stored)
+
+-- the same where a condition goes over to the parts
+pub by_parts_where : (C P : Integer → Type 0) (D M : Memory → Type 0) → ((e : Integer) → C e → OfParts C D e) →
+    ((m : Memory) → D m → OfMemoryParts C D m) → ((e : Integer) → C e → OfParts P M e → P e) →
+    ((m : Memory) → D m → OfMemoryParts P M m → M m) → OfAll (λ e. C e → P e) (λ m. D m → M m)
+by_parts_where C P D M c d f g = by_parts (λ e. C e → P e) (λ m. D m → M m)
+    (λ e h k. f e k (met e (c e k) h)) (λ m h k. g m k (stored_met m (d m k) h))
+  where
+    met : (e : Integer) → OfParts C D e → OfParts (λ e. C e → P e) (λ m. D m → M m) e → OfParts P M e
+    met (operation o a b) k h = (h.0 k.0, h.1 k.1)
+    met (sel m a) k h = (h.0 k.0, h.1 k.1)
+    met (rem a n) k h = h k
+    met e k h = tt
+
+    stored_met : (m : Memory) → OfMemoryParts C D m → OfMemoryParts (λ e. C e → P e) (λ m. D m → M m) m →
+        OfMemoryParts P M m
+    stored_met (upd m a v) k h = (h.0 k.0, h.1 k.1, h.2 k.2)
+    stored_met m k h = tt
+
+-- the default if there is no tree
 abbrev none : Expression
 none = integer (word 0)
 
--- the parts of a lawful node have lower numbers
-pub parts_below : (nodes : List Node) (n scope : ℕ) (x : Shape) → IsShape nodes n scope x → HasPartsBelow n x
-parts_below nodes n scope (shape.Word w) h = tt
-parts_below nodes n scope (shape.Var i) h = tt
-parts_below nodes n scope (shape.Op o a b) h = (h.0.lower, h.1.lower)
-parts_below nodes n scope (shape.Sel m a) h = (h.0.lower, h.1.lower)
-parts_below nodes n scope shape.Memory h = tt
-parts_below nodes n scope (shape.Upd m a v) h = (h.0.lower, h.1.lower, h.2.lower)
-parts_below nodes n scope (shape.Rem a m) h = h.0.lower
+-- what follows of a part from what holds of it in two ways holds of each
+pub each_part_both : (P Q R : Bool → ℕ → Type 0) → ((s : Bool) (k : ℕ) → P s k → Q s k → R s k) → (x : Shape) →
+    EachPart P x → EachPart Q x → EachPart R x
+each_part_both P Q R f (shape.Op o a b) h g = (f false a h.0 g.0, f false b h.1 g.1)
+each_part_both P Q R f (shape.Sel m a) h g = (f true m h.0 g.0, f false a h.1 g.1)
+each_part_both P Q R f (shape.Upd m a v) h g = (f true m h.0 g.0, f false a h.1 g.1, f false v h.2 g.2)
+each_part_both P Q R f (shape.Rem a m) h g = f false a h g
+each_part_both P Q R f x h g = tt
 
--- two lists of trees that agree below n give one tree to a node whose parts are below n
-tree_of-agrees : (n : ℕ) (ts us : List Expression) (x : Shape) →
-    ((k : ℕ) → k < n → get_or ts k none ≡ get_or us k none) → HasPartsBelow n x → tree_of ts x ≡ tree_of us x
-tree_of-agrees n ts us (shape.Word w) e h = refl
-tree_of-agrees n ts us (shape.Var i) e h = refl
-tree_of-agrees n ts us (shape.Op o a b) e h = rw (e a h.0, e b h.1) refl
-tree_of-agrees n ts us (shape.Sel m a) e h = rw (e m h.0, e a h.1) refl
-tree_of-agrees n ts us shape.Memory e h = refl
-tree_of-agrees n ts us (shape.Upd m a v) e h = rw (e m h.0, e a h.1, e v h.2) refl
-tree_of-agrees n ts us (shape.Rem a m) e h = rw (e a h) refl
+-- so does what follows from what holds of it in one way
+pub each_part : (P R : Bool → ℕ → Type 0) → ((s : Bool) (k : ℕ) → P s k → R s k) → (x : Shape) → EachPart P x →
+    EachPart R x
+each_part P R f x h = each_part_both P P R (λ s k p q. f s k p) x h h
+
+-- the parts of a node with other numbers
+pub each_renamed : (P : Bool → ℕ → Type 0) (f : ℕ → ℕ) (x : Shape) → EachPart (λ s k. P s (f k)) x →
+    EachPart P (renamed f x)
+each_renamed P f (shape.Word w) h = tt
+each_renamed P f x h = h
+
+-- a lawful node names its parts as it may
+pub parts_named : (nodes : List Node) (n scope : ℕ) (x : Shape) → IsShape nodes n scope x →
+    EachPart (MayName nodes n scope) x
+parts_named nodes n scope (shape.Word w) h = tt
+parts_named nodes n scope (shape.Var i) h = tt
+parts_named nodes n scope (shape.Rem a m) h = h.0
+parts_named nodes n scope x h = h
+
+-- they have lower numbers
+pub parts_below : (nodes : List Node) (n scope : ℕ) (x : Shape) → IsShape nodes n scope x → HasPartsBelow n x
+parts_below nodes n scope x h =
+    each_part (MayName nodes n scope) (λ s k. k < n) (λ s k m. m.lower) x (parts_named nodes n scope x h)
+
+-- where the parts have the same trees, so has the node, whatever numbers they have
+pub tree_of-renamed : (ts us : List Expression) (f : ℕ → ℕ) (x : Shape) →
+    EachPart (λ s k. get_or ts (f k) none ≡ get_or us k none) x → tree_of ts (renamed f x) ≡ tree_of us x
+tree_of-renamed ts us f (shape.Word w) h = refl
+tree_of-renamed ts us f x h = cc
+
+-- two lists of trees that agree on its parts give one tree to a node
+tree_of-agrees : (ts us : List Expression) (x : Shape) → EachPart (λ s k. get_or ts k none ≡ get_or us k none) x →
+    tree_of ts x ≡ tree_of us x
+tree_of-agrees ts us (shape.Word w) h = refl
+tree_of-agrees ts us x h = cc
 
 -- further nodes keep the trees so far
 trees_onto-keeps : (ts : List Expression) (ns : List Node) (k : ℕ) → k < length ts → get_or (trees_onto ts ns) k none
@@ -59,8 +135,8 @@ trees_onto-row ts (y ∷ ns) zero n x e f h =
     trees_onto-keeps (ts ++ tree_of ts y.shape ∷ []) ns n (omega arith)
     ∙ (get_or_push ts (tree_of ts y.shape) none n m
     ∙ (ap (λ (z : Node). tree_of ts z.shape) q
-    ∙ sym (tree_of-agrees n (trees_onto ts (y ∷ ns)) ts x.shape (λ k b. trees_onto-keeps ts (y ∷ ns) k (omega arith))
-    h)))
+    ∙ sym (tree_of-agrees (trees_onto ts (y ∷ ns)) ts x.shape (each_part (λ s k. k < n) _
+    (λ s k b. trees_onto-keeps ts (y ∷ ns) k (omega arith)) x.shape h))))
 trees_onto-row ts (y ∷ ns) (suc j) n x e f h =
     let l = length_push ts (tree_of ts y.shape) in
     trees_onto-row (ts ++ tree_of ts y.shape ∷ []) ns j n x (omega arith) f h
@@ -75,23 +151,13 @@ tree_at-row nodes n x h f = trees_onto-row [] nodes n n x (omega arith) f
 pub integer_tree : (ts : List Expression) (x : Shape) → is_memory x ≡ false → tree_of ts x
     ≡ integer (integer_part (tree_of ts x))
 integer_tree ts (shape.Word w) e = refl
-integer_tree ts (shape.Var i) e = refl
-integer_tree ts (shape.Op o a b) e = refl
-integer_tree ts (shape.Sel m a) e = refl
-integer_tree ts shape.Memory e = cc
-integer_tree ts (shape.Upd m a v) e = cc
-integer_tree ts (shape.Rem a m) e = refl
+integer_tree ts x e = cc
 
 -- a memory's node has a memory's tree
 pub memory_tree : (ts : List Expression) (x : Shape) → is_memory x ≡ true → tree_of ts x
     ≡ memory (memory_part (tree_of ts x))
 memory_tree ts (shape.Word w) e = cc
-memory_tree ts (shape.Var i) e = cc
-memory_tree ts (shape.Op o a b) e = cc
-memory_tree ts (shape.Sel m a) e = cc
-memory_tree ts shape.Memory e = refl
-memory_tree ts (shape.Upd m a v) e = refl
-memory_tree ts (shape.Rem a m) e = cc
+memory_tree ts x e = cc
 
 -- the tree of a node that is named as an integer
 pub integer_named : (nodes : List Node) (n scope m : ℕ) → AreNodes nodes → MayName nodes n scope false m →
@@ -107,7 +173,7 @@ memory_named nodes n scope m h k =
     let e = tree_at-row nodes m k.node h k.found in
     subst (λ t. t ≡ memory (memory_part t)) (sym e) (memory_tree (trees nodes) k.node.shape k.sort)
 
--- a node stands for the tree of its shape where its parts stand for theirs
+-- a node stands for the tree of its shape if its parts stand for theirs
 stands_shape : (nodes : List Node) (n scope : ℕ) (x : Shape) → AreNodes nodes → HasShape nodes n x →
     IsShape nodes n scope x → ((k : ℕ) (y : Node) → k < n → slice_get nodes k ≡ Some y →
     StandsFor nodes k (tree_at nodes k)) → StandsFor nodes n (tree_of (trees nodes) x)
@@ -196,7 +262,7 @@ mutual
 abbrev Fits : ℕ → Expression → Type 0
 Fits n t = HasWords t × HasVariablesBelow n t
 
--- the tree of a shape fits where the trees of its parts do
+-- the tree of a shape fits if the trees of its parts do
 fits_shape : (nodes : List Node) (n scope : ℕ) (x : Shape) → AreNodes nodes → IsShape nodes n scope x →
     ((k : ℕ) (y : Node) → k < n → slice_get nodes k ≡ Some y → Fits y.scope (tree_at nodes k)) →
     Fits scope (tree_of (trees nodes) x)

@@ -158,7 +158,7 @@ terms_products nought q r = omega arith
 terms_products (plus m c p) q r = let h = terms_products p q (add_multiple m c q r) in let k = terms_multiple m c q r in
     let e : suc (terms p) * terms q ≡ terms p * terms q + terms q = grind arith in omega arith
 
--- an atom alone is in order
+-- a single atom is in order
 pub proper_alone : (a : Atom) → IsProperAtom a → IsProper (alone a)
 proper_alone a h = ((h, tt, tt), lit≤ tt, lit< tt, lit< tt, tt, tt)
 
@@ -208,7 +208,7 @@ normal_constant c = if_cases (λ t. IsNormal t) (c % 2 ^ 64 == 0) nought (plus o
     (λ e. (tt, lit≤ tt))
     (λ e. ((tt, lit≤ tt, (let n = eqb-false (c % 2 ^ 64) 0 e in omega arith), mod-lt _ (lit< tt), tt, tt), lit≤ tt))
 
--- an atom alone is normal
+-- a single atom is normal
 normal_alone : (a : Atom) → IsProperAtom a → IsNormal (alone a)
 normal_alone a h = (proper_alone a h, lit≤ tt)
 

@@ -221,7 +221,7 @@ mutual
       let l = then_both _ _ k.1 in let i = polynomial_equal p r k.0 in let j = polynomial_equal v w l.0 in
       let y = updates_equal u x l.1 in cc
 
--- a form is told apart by its spelling
+-- the spelling of a form determines it
 spelled_alike : (xs ys : List ℕ) → xs ≡ ys → lex xs ys ≡ Equal
 spelled_alike xs ys e = rw e (tied_itself nat_list_cmp_total ys)
 

@@ -1,16 +1,15 @@
 -- Sums and products of polynomials denote sums and products.
 use Rattle.std.proofs.Common.{ℕ, ◌≡◌, ◌+◌, ◌*◌, ◌%◌, ◌^◌, ◌<◌, ◌==◌, refl, sym, ap, ◌∙◌, arith, lit<, zero-add, ◌&&◌}
 use Rattle.std.proofs.Common.{nat_le}
-use Rattle.std.proofs.Math.Nat.{add-mod-mod, mod-add-mod, mod-le, mod-lt, mod-eq_of_lt, mod-mod, mul-add, add-mul}
+use Rattle.std.proofs.Math.Nat.{add-mod-mod, mod-add-mod, mod-lt, mod-eq_of_lt, mod-mod, mul-add, add-mul}
 use Rattle.std.proofs.Math.Nat.{zero-mul, mul-zero, one-mul, mul-one, add-zero}
 use Rattle.std.proofs.lemmas.Bool.{eqb-true}
 use Rattle.std.proofs.lemmas.Nat.{mul-mod_first, mul-mod_second}
-use Rattle.ft_isa.proofs.Operations.{apply_is_word}
 use Rattle.ft_isa.specs.declared.op.Op.TheVariants.{Add, Mul}
 use Rattle.ft_isa.specs.Words.{apply, IsWord}
 use Rattle.ft_static.specs.Expression.{word_at, Valuation, IsLawful}
-use Rattle.ft_static.specs.Form.{terms, Atom, Monomial, Polynomial, Updates, variable_atom, operation_atom, sel_atom}
-use Rattle.ft_static.specs.Form.{rem_atom, one, times, nought, plus, unchanged, update}
+use Rattle.ft_static.specs.Form.{terms, Atom, Monomial, Polynomial, Updates, operation_atom, one, times, nought, plus}
+use Rattle.ft_static.specs.Form.{unchanged, update}
 use Rattle.ft_static.specs.FormOrder.{cmp_atom, cmp_monomial}
 use Rattle.ft_static.specs.NormalForm.{with_factor, join, led_by, add_term, total, add_multiple, add_products, degree}
 use Rattle.ft_static.specs.NormalForm.{alone, norm_add, norm_mul}
@@ -89,15 +88,6 @@ value_updates_are_words unchanged s lawful x = lawful.memory x
 value_updates_are_words (update p v u) s lawful x = with_word_is_word (value_updates u s) (value_polynomial p s)
     (value_polynomial v s) x (value_polynomial_is_word v s) (value_updates_are_words u s lawful x)
 
--- an atom denotes a word
-pub value_atom_is_word : (a : Atom) (s : Valuation) (lawful : IsLawful s) → value_atom a s < 2 ^ 64
-value_atom_is_word (variable_atom i) s lawful = lawful.integers i
-value_atom_is_word (operation_atom o p q) s lawful =
-    apply_is_word o _ _ (value_polynomial_is_word p s) (value_polynomial_is_word q s)
-value_atom_is_word (sel_atom u p) s lawful = value_updates_are_words u s lawful _
-value_atom_is_word (rem_atom p m) s lawful = let h = value_polynomial_is_word p s in
-    let k = mod-le (value_polynomial p s) m in omega (arith, h, k)
-
 -- sums
 value_led : (m : Monomial) (c : ℕ) (p : Polynomial) (s : Valuation) → value_polynomial (led_by m c p) s
     ≡ (c * value_monomial m s + value_polynomial p s) % 2 ^ 64
@@ -126,9 +116,9 @@ value_total (plus m c p) q s = value_total p (add_term m c q) s
     ∙ (ap (λ t. (value_polynomial p s + t) % 2 ^ 64) (value_add_term m c q s)
     ∙ onto_sums (2 ^ 64) (c * value_monomial m s) (value_polynomial p s) (value_polynomial q s))
 
--- an atom alone denotes what the atom does
-pub value_alone : (a : Atom) (s : Valuation) (lawful : IsLawful s) → value_polynomial (alone a) s ≡ value_atom a s
-value_alone a s lawful = simp (mul-one, one-mul, add-zero, mod-mod) (mod-eq_of_lt (value_atom_is_word a s lawful))
+-- an atom alone denotes what the atom does, where that is a word
+pub value_alone : (a : Atom) (s : Valuation) → value_atom a s < 2 ^ 64 → value_polynomial (alone a) s ≡ value_atom a s
+value_alone a s h = simp (mul-one, one-mul, add-zero, mod-mod) (mod-eq_of_lt h)
 
 -- the form of add denotes the sum
 pub value_add : (p q : Polynomial) (s : Valuation) (lawful : IsLawful s) → value_polynomial (norm_add p q) s
@@ -137,7 +127,7 @@ unfolding apply
 value_add p q s lawful = if_cases (λ t. value_polynomial t s ≡ apply Add (value_polynomial p s) (value_polynomial q s))
     (nat_le (terms (total p q)) 64) _ _
     (λ e. value_total p q s)
-    (λ e. value_alone (operation_atom Add p q) s lawful)
+    (λ e. value_alone (operation_atom Add p q) s (mod-lt _ (lit< tt)))
 
 -- products
 pub value_with_factor : (a : Atom) (m : Monomial) (s : Valuation) → value_monomial (with_factor a m) s
@@ -185,4 +175,4 @@ unfolding apply
 value_mul p q s lawful = if_cases (λ t. value_polynomial t s ≡ apply Mul (value_polynomial p s) (value_polynomial q s))
     (nat_le (terms p * terms q) 64 && nat_le (degree p + degree q) 4) _ _
     (λ e. value_products p q nought s ∙ rw add-zero refl)
-    (λ e. value_alone (operation_atom Mul p q) s lawful)
+    (λ e. value_alone (operation_atom Mul p q) s (mod-lt _ (lit< tt)))

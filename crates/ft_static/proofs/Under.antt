@@ -1,11 +1,11 @@
--- Forms after a substitution: what they denote, of which expressions they are, and of numbered nodes.
+-- Forms after a substitution: what they denote, which expressions they belong to, and those of numbered nodes.
 use Rattle.std.proofs.Common.{ℕ, suc, zero, ◌≡◌, ◌<◌, List, [], ◌∷◌, ◌++◌, get_or, map, slice_index_or, refl, sym, ap}
 use Rattle.std.proofs.Common.{◌∙◌, subst}
 use Rattle.std.proofs.Math.Nat.{mod-eq_of_lt}
 use Rattle.std.proofs.lemmas.List.{map-append}
 use Rattle.ft_isa.specs.Words.{IsWord}
-use Rattle.ft_static.specs.Expression.{Integer, Memory, Expression, word, variable, operation, sel, rem}
-use Rattle.ft_static.specs.Expression.{memory_variable, upd, integer, memory, Valuation, value, memory_value, IsLawful}
+use Rattle.ft_static.specs.Expression.{Integer, Memory, Expression, word, variable, rem, memory_variable, integer}
+use Rattle.ft_static.specs.Expression.{memory, Valuation, value, memory_value, IsLawful}
 use Rattle.ft_static.specs.Expression.{AreWords, AreWordsOfMemory, IsWithin, IsMemoryWithin, substitute}
 use Rattle.ft_static.specs.Expression.{substitute_memory, valuation_after}
 use Rattle.ft_static.specs.NodeTree.{integer_part, memory_part, integer_at, memory_at, tree_of, trees_onto}
@@ -17,6 +17,7 @@ use Rattle.ft_static.specs.FormUnder.{form_of, forms_of_nodes}
 use Rattle.ft_static.specs.declared.node.Node.{Node}
 use Rattle.ft_static.specs.declared.node.Shape.{Shape}
 use Rattle.ft_static.specs.declared.node.Shape.TheVariants as shape
+use Rattle.ft_static.proofs.NodeTrees.{OfAll, OfMemoryParts, OfParts, by_parts, by_parts_where}
 use Rattle.ft_static.proofs.FormsDenote.{value_op, value_rem, value_sel, value_upd, value_constant}
 use Rattle.ft_static.proofs.Sums.{value_polynomial_is_word, value_updates_are_words}
 
@@ -27,45 +28,44 @@ get_or-map f [] k d = refl
 get_or-map f (x ∷ xs) zero d = refl
 get_or-map f (x ∷ xs) (suc k) d = get_or-map f xs k d
 
-mutual
-  -- the form of a substituted integer is the form taken under the substituted forms
-  pub norm-substitute : (e : Integer) (es : List Integer) (m : Memory) → norm_integer (substitute e es m)
-      ≡ norm_under e (map norm_integer es) (norm_memory m)
-  norm-substitute (word w) es m = refl
-  norm-substitute (variable i) es m = sym (get_or-map norm_integer es i (word 0))
-  norm-substitute (operation o a b) es m = rw (norm-substitute a es m, norm-substitute b es m) refl
-  norm-substitute (sel k a) es m = rw (norm-substitute a es m, norm_memory-substitute k es m) refl
-  norm-substitute (rem a n) es m = rw (norm-substitute a es m) refl
+-- what is put for the variables
+module _ (es : List Integer) (m : Memory) where
+  abbrev pub HasForm : Integer → Type 0
+  HasForm e = norm_integer (substitute e es m) ≡ norm_under e (map norm_integer es) (norm_memory m)
 
-  -- that of a substituted memory too
-  pub norm_memory-substitute : (k : Memory) (es : List Integer) (m : Memory) → norm_memory (substitute_memory k es m)
-      ≡ norm_memory_under k (map norm_integer es) (norm_memory m)
-  norm_memory-substitute memory_variable es m = refl
-  norm_memory-substitute (upd k a v) es m = rw (
-    norm_memory-substitute k es m,
-    norm-substitute a es m,
-    norm-substitute v es m,
-  ) refl
+  abbrev pub MemoryHasForm : Memory → Type 0
+  MemoryHasForm k = norm_memory (substitute_memory k es m) ≡ norm_memory_under k (map norm_integer es) (norm_memory m)
 
-mutual
-  -- a substituted integer denotes what the integer does in the valuation afterwards
-  pub value-substitute : (e : Integer) (es : List Integer) (m : Memory) (s : Valuation) → value (substitute e es m) s
-      ≡ value e (valuation_after es m s)
-  value-substitute (word w) es m s = refl
-  value-substitute (variable i) es m s = sym (get_or-map (λ (e : Integer). value e s) es i (word 0))
-  value-substitute (operation o a b) es m s = rw (value-substitute a es m s, value-substitute b es m s) refl
-  value-substitute (sel k a) es m s = rw (value-substitute a es m s, memory_value-substitute k es m s) refl
-  value-substitute (rem a n) es m s = rw (value-substitute a es m s) refl
+  -- the form of a substituted expression is the form taken under the substituted forms
+  pub norm-substitute : OfAll HasForm MemoryHasForm
+  norm-substitute = by_parts HasForm MemoryHasForm whole stored
+    where
+      whole : (e : Integer) → OfParts HasForm MemoryHasForm e → HasForm e
+      whole (variable i) h = sym (get_or-map norm_integer es i (word 0))
+      whole e h = cc
 
-  -- and a substituted memory
-  pub memory_value-substitute : (k : Memory) (es : List Integer) (m : Memory) (s : Valuation) →
-      memory_value (substitute_memory k es m) s ≡ memory_value k (valuation_after es m s)
-  memory_value-substitute memory_variable es m s = refl
-  memory_value-substitute (upd k a v) es m s = rw (
-    memory_value-substitute k es m s,
-    value-substitute a es m s,
-    value-substitute v es m s,
-  ) refl
+      stored : (k : Memory) → OfMemoryParts HasForm MemoryHasForm k → MemoryHasForm k
+      stored memory_variable h = refl
+      stored k h = cc
+
+  module _ (s : Valuation) where
+    abbrev pub HasValue : Integer → Type 0
+    HasValue e = value (substitute e es m) s ≡ value e (valuation_after es m s)
+
+    abbrev pub MemoryHasValue : Memory → Type 0
+    MemoryHasValue k = memory_value (substitute_memory k es m) s ≡ memory_value k (valuation_after es m s)
+
+    -- it denotes what the expression does in the valuation afterwards
+    pub value-substitute : OfAll HasValue MemoryHasValue
+    value-substitute = by_parts HasValue MemoryHasValue whole stored
+      where
+        whole : (e : Integer) → OfParts HasValue MemoryHasValue e → HasValue e
+        whole (variable i) h = sym (get_or-map (λ (e : Integer). value e s) es i (word 0))
+        whole e h = cc
+
+        stored : (k : Memory) → OfMemoryParts HasValue MemoryHasValue k → MemoryHasValue k
+        stored memory_variable h = refl
+        stored k h = cc
 
 -- the valuation under forms is lawful
 pub valuation_under-lawful : (ps : List Polynomial) (u : Updates) (s : Valuation) → IsLawful s →
@@ -76,56 +76,63 @@ valuation_under-lawful ps u s lawful = record {
   memory = λ a. value_updates_are_words u s lawful a;
 }
 
-mutual
-  -- the form of an integer under forms denotes what the integer does in the valuation under them
-  pub value_under : (e : Integer) (ps : List Polynomial) (u : Updates) (s : Valuation) → IsLawful s → AreWords e →
-      value_polynomial (norm_under e ps u) s ≡ value e (valuation_under ps u s)
-  value_under (word w) ps u s lawful h = value_constant w s ∙ mod-eq_of_lt h
-  value_under (variable i) ps u s lawful h = sym (get_or-map (λ (p : Polynomial). value_polynomial p s) ps i nought)
-  value_under (operation o a b) ps u s lawful h = value_op o (norm_under a ps u) (norm_under b ps u) s lawful
-      ∙ rw (value_under a ps u s lawful h.0, value_under b ps u s lawful h.1) refl
-  value_under (sel m a) ps u s lawful h = value_sel (norm_memory_under m ps u) (norm_under a ps u) s lawful
-      ∙ rw (value_under a ps u s lawful h.1, value_memory_under m ps u s lawful h.0) refl
-  value_under (rem a m) ps u s lawful h = value_rem (norm_under a ps u) m s lawful
-      ∙ rw (value_under a ps u s lawful h.0) refl
+-- the parts of an expression of words are of words
+words_of_parts : (e : Integer) → AreWords e → OfParts AreWords AreWordsOfMemory e
+words_of_parts (word w) h = tt
+words_of_parts (rem a n) h = h.0
+words_of_parts e h = h
 
-  -- and that of a memory
-  pub value_memory_under : (m : Memory) (ps : List Polynomial) (u : Updates) (s : Valuation) → IsLawful s →
-      AreWordsOfMemory m → value_updates (norm_memory_under m ps u) s ≡ memory_value m (valuation_under ps u s)
-  value_memory_under memory_variable ps u s lawful h = refl
-  value_memory_under (upd m a v) ps u s lawful h =
-      value_upd (norm_memory_under m ps u) (norm_under a ps u) (norm_under v ps u) s
-      ∙ rw (value_memory_under m ps u s lawful h.0, value_under a ps u s lawful h.1, value_under v ps u s lawful h.2)
-      refl
+module _ (ps : List Polynomial) (u : Updates) (s : Valuation) (lawful : IsLawful s) where
+  abbrev pub Denotes : Integer → Type 0
+  Denotes e = value_polynomial (norm_under e ps u) s ≡ value e (valuation_under ps u s)
 
-mutual
-  -- under the variables' own forms an integer has its normal form
-  pub norm_under_itself : (e : Integer) (n : ℕ) (ps : List Polynomial) →
-      ((i : ℕ) → i < n → slice_index_or ps i nought ≡ alone (variable_atom i)) → IsWithin n e →
-      norm_under e ps unchanged
-      ≡ norm_integer e
-  norm_under_itself (word w) n ps own h = refl
-  norm_under_itself (variable i) n ps own h = own i h
-  norm_under_itself (operation o a b) n ps own h = rw (
-    norm_under_itself a n ps own h.0,
-    norm_under_itself b n ps own h.1,
-  ) refl
-  norm_under_itself (sel m a) n ps own h = rw (
-    norm_memory_under_itself m n ps own h.0,
-    norm_under_itself a n ps own h.1,
-  ) refl
-  norm_under_itself (rem a m) n ps own h = rw (norm_under_itself a n ps own h) refl
+  abbrev pub MemoryDenotes : Memory → Type 0
+  MemoryDenotes m = value_updates (norm_memory_under m ps u) s ≡ memory_value m (valuation_under ps u s)
 
-  -- and so has a memory
-  pub norm_memory_under_itself : (m : Memory) (n : ℕ) (ps : List Polynomial) →
-      ((i : ℕ) → i < n → slice_index_or ps i nought ≡ alone (variable_atom i)) → IsMemoryWithin n m →
-      norm_memory_under m ps unchanged ≡ norm_memory m
-  norm_memory_under_itself memory_variable n ps own h = refl
-  norm_memory_under_itself (upd m a v) n ps own h = rw (
-    norm_memory_under_itself m n ps own h.0,
-    norm_under_itself a n ps own h.1,
-    norm_under_itself v n ps own h.2,
-  ) refl
+  -- the form of an expression under forms denotes what the expression does in the valuation under them
+  pub value_under : OfAll (λ e. AreWords e → Denotes e) (λ m. AreWordsOfMemory m → MemoryDenotes m)
+  value_under = by_parts_where AreWords Denotes AreWordsOfMemory MemoryDenotes words_of_parts split whole stored
+    where
+      split : (m : Memory) → AreWordsOfMemory m → OfMemoryParts AreWords AreWordsOfMemory m
+      split memory_variable h = h
+      split m h = h
+
+      whole : (e : Integer) → AreWords e → OfParts Denotes MemoryDenotes e → Denotes e
+      whole (word w) k h = value_constant w s ∙ mod-eq_of_lt k
+      whole (variable i) k h = sym (get_or-map (λ (p : Polynomial). value_polynomial p s) ps i nought)
+      whole e k h = simp (value_op, value_sel, value_rem) (cc)
+
+      stored : (m : Memory) → AreWordsOfMemory m → OfMemoryParts Denotes MemoryDenotes m → MemoryDenotes m
+      stored memory_variable k h = refl
+      stored m k h = simp value_upd (cc)
+
+module _ (n : ℕ) (ps : List Polynomial) (own : (i : ℕ) → i < n → slice_index_or ps i nought ≡ alone (variable_atom i))
+  where
+    abbrev pub IsOwn : Integer → Type 0
+    IsOwn e = norm_under e ps unchanged ≡ norm_integer e
+
+    abbrev pub MemoryIsOwn : Memory → Type 0
+    MemoryIsOwn m = norm_memory_under m ps unchanged ≡ norm_memory m
+
+    -- under the variables' own forms an expression has its normal form
+    pub norm_under_itself : OfAll (λ e. IsWithin n e → IsOwn e) (λ m. IsMemoryWithin n m → MemoryIsOwn m)
+    norm_under_itself = by_parts_where (IsWithin n) IsOwn (IsMemoryWithin n) MemoryIsOwn split split_memory whole stored
+      where
+        split : (e : Integer) → IsWithin n e → OfParts (IsWithin n) (IsMemoryWithin n) e
+        split (variable i) h = tt
+        split e h = h
+
+        split_memory : (m : Memory) → IsMemoryWithin n m → OfMemoryParts (IsWithin n) (IsMemoryWithin n) m
+        split_memory memory_variable h = h
+        split_memory m h = h
+
+        whole : (e : Integer) → IsWithin n e → OfParts IsOwn MemoryIsOwn e → IsOwn e
+        whole (variable i) k h = own i k
+        whole e k h = cc
+
+        stored : (m : Memory) → IsMemoryWithin n m → OfMemoryParts IsOwn MemoryIsOwn m → MemoryIsOwn m
+        stored memory_variable k h = refl
+        stored m k h = cc
 
 -- the polynomial at a place among the forms of trees
 integer_in-map : (ps : List Polynomial) (u : Updates) (ts : List Expression) (n : ℕ) →
@@ -152,15 +159,8 @@ pub form_of-map : (ps : List Polynomial) (u : Updates) (ts : List Expression) (x
     form_of ps u (map (form_under ps u) ts) x ≡ form_under ps u (tree_of ts x)
 form_of-map ps u ts (shape.Word w) = refl
 form_of-map ps u ts (shape.Var i) = refl
-form_of-map ps u ts (shape.Op o a b) = rw (integer_in-map ps u ts a, integer_in-map ps u ts b) refl
-form_of-map ps u ts (shape.Sel m a) = rw (memory_in-map ps u ts m, integer_in-map ps u ts a) refl
 form_of-map ps u ts shape.Memory = refl
-form_of-map ps u ts (shape.Rem a m) = rw (integer_in-map ps u ts a) refl
-form_of-map ps u ts (shape.Upd m a v) = rw (
-  memory_in-map ps u ts m,
-  integer_in-map ps u ts a,
-  integer_in-map ps u ts v,
-) refl
+form_of-map ps u ts x = simp (integer_in-map, memory_in-map)
 
 -- the forms of nodes in rising order are those of their trees
 pub forms_of_nodes-trees : (ps : List Polynomial) (u : Updates) (ts : List Expression) (ns : List Node) →

@@ -21,7 +21,7 @@ cond_read false v o = refl
 pub word_at-with_word : (m : WordMap) (k v q : ℕ) → word_at (with_word m k v) q ≡ (if q == k then v else word_at m q)
 word_at-with_word m k v q = ap (λ o. unwrap_or o 0) (get-with_word m k v q) ∙ cond_read (q == k) v (map.get m q)
 
--- words stay words where a word is put
+-- words stay words if a word is put among them
 pub with_word_is_word : (m : WordMap) (k v q : ℕ) → IsWord v → IsWord (word_at m q) →
     IsWord (word_at (with_word m k v) q)
 with_word_is_word m k v q h w = rw (word_at-with_word m k v q) (if_cases IsWord (q == k) v (word_at m q) (λ e. h) (λ e.

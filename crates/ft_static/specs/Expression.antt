@@ -1,10 +1,11 @@
 -- Expressions as trees, what they denote, and substitution.
-use Rattle.std.specs.Prelude.{ℕ, ◌%◌, ◌<◌, List, map, slice_index_or}
+use Rattle.std.specs.Prelude.{ℕ, ◌%◌, ◌<◌, ◌==◌, ◌&&◌, Bool, true, false, List, map, slice_index_or}
 use Rattle.std.specs.Option.{unwrap_or}
 use Rattle.std.specs.Ordering.{nat_cmp}
 use Rattle.std.specs.FinMap as words
 use Rattle.std.specs.FinMap.{FinMap}
 use Rattle.ft_isa.specs.declared.op.Op.{Op}
+use Rattle.ft_isa.specs.Operations.{op_code}
 use Rattle.ft_isa.specs.Words.{apply, IsWord}
 use Rattle.ft_static.specs.NodeRules.{IsLength}
 
@@ -32,7 +33,7 @@ pub data Expression : Type 0 where
 abbrev pub WordMap : Type 0
 WordMap = FinMap nat_cmp ℕ
 
--- the word at an address; 0 where there is none
+-- the word at an address; 0 if there is none
 abbrev pub word_at : WordMap → ℕ → ℕ
 word_at m a = unwrap_or (words.get m a) 0
 
@@ -63,13 +64,13 @@ abbrev mutual
   memory_value memory_variable s = s.memory
   memory_value (upd m a b) s = with_word (memory_value m s) (value a s) (value b s)
 
--- all that is read in the valuation is words
+-- everything in the valuation is a word
 pub record IsLawful (s : Valuation) : Type 0 where
   pub integers : (i : ℕ) → IsWord (integer_of s i)
   pub memory : (a : ℕ) → IsWord (word_at s.memory a)
 
 abbrev mutual
-  -- the numbers in an integer are words, and lengths where they are lengths
+  -- the numbers in an integer are words, or valid lengths
   pub AreWords : Integer → Type 0
   AreWords (word w) = IsWord w
   AreWords (variable i) = Unit {0}
@@ -97,7 +98,7 @@ abbrev mutual
   IsMemoryWithin n (upd m a b) = IsMemoryWithin n m × IsWithin n a × IsWithin n b
 
 abbrev mutual
-  -- an integer with integers in the place of the integer variables and a memory in that of the memory variable
+  -- an integer with integers in place of the integer variables and a memory in place of the memory variable
   pub substitute : Integer → List Integer → Memory → Integer
   substitute (word w) es k = word w
   substitute (variable i) es k = slice_index_or es i (word 0)
@@ -110,7 +111,7 @@ abbrev mutual
   substitute_memory memory_variable es k = k
   substitute_memory (upd m a b) es k = upd (substitute_memory m es k) (substitute a es k) (substitute b es k)
 
--- the valuation in which the variables have the values that what is put for them has in this one
+-- the valuation that gives each variable the value of its substitute
 abbrev pub valuation_after : List Integer → Memory → Valuation → Valuation
 valuation_after es k s = record { integers = map (λ (e : Integer). value e s) es; memory = memory_value k s }
 
@@ -133,3 +134,19 @@ pub data Denotation : Type 0 where
 abbrev pub denotation : Expression → Valuation → Denotation
 denotation (integer e) s = denoted_word (value e s)
 denotation (memory m) s = denoted_memory (memory_value m s)
+
+abbrev mutual
+  -- whether two integers are the same tree
+  pub same_integer : Integer → Integer → Bool
+  same_integer (word v) (word w) = v == w
+  same_integer (variable i) (variable j) = i == j
+  same_integer (operation o a b) (operation p c d) = (op_code o == op_code p) && same_integer a c && same_integer b d
+  same_integer (sel m a) (sel n c) = same_memory m n && same_integer a c
+  same_integer (rem a l) (rem c k) = (l == k) && same_integer a c
+  same_integer e f = false
+
+  -- whether two memories are
+  pub same_memory : Memory → Memory → Bool
+  same_memory memory_variable memory_variable = true
+  same_memory (upd m a b) (upd n c d) = same_memory m n && same_integer a c && same_integer b d
+  same_memory m n = false

@@ -10,12 +10,12 @@ mutual
     sel_atom : Updates → Polynomial → Atom
     rem_atom : Polynomial → ℕ → Atom
 
-  -- a product of atoms: the list of them, in rising order
+  -- a product of atoms: the list of them, in increasing order
   pub data Monomial : Type 0 where
     one : Monomial
     times : Atom → Monomial → Monomial
 
-  -- a sum of monomials with their coefficients: the list of these pairs, in rising order of the monomials
+  -- a sum of monomials with their coefficients: the list of these pairs, in increasing order of the monomials
   pub data Polynomial : Type 0 where
     nought : Polynomial
     plus : Monomial → ℕ → Polynomial → Polynomial

@@ -1,4 +1,5 @@
--- The normal form after forms are put for the variables: of a tree, and of numbered nodes from the forms of their parts.
+-- The normal form after forms are substituted for the variables: of a tree, and of numbered nodes from the forms of
+-- their parts.
 use Rattle.std.specs.Prelude.{ℕ, List, [], ◌∷◌, ◌++◌, slice_index_or}
 use Rattle.ft_static.specs.Expression.{Integer, Memory, Expression, word, variable, operation, sel, rem, memory_variable, upd, integer, memory}
 use Rattle.ft_static.specs.Form.{Form, integer_form, memory_form, polynomial_of, Polynomial, Updates, nought}
@@ -8,7 +9,7 @@ use Rattle.ft_static.specs.declared.node.Shape.{Shape}
 use Rattle.ft_static.specs.declared.node.Shape.TheVariants as shape
 
 abbrev mutual
-  -- the form of an integer after these are put for the integer variables and u for the memory variable
+  -- the form of an integer after these are substituted for the integer variables and u for the memory variable
   pub norm_under : Integer → List Polynomial → Updates → Polynomial
   norm_under (word w) ps u = constant w
   norm_under (variable i) ps u = slice_index_or ps i nought
@@ -31,7 +32,7 @@ abbrev pub updates_or : Updates → Form → Updates
 updates_or u (integer_form p) = u
 updates_or u (memory_form w) = w
 
--- the polynomial of node n, where these are the forms of the nodes
+-- the polynomial of node n, if these are the forms of the nodes
 abbrev pub integer_in : List Form → ℕ → Polynomial
 integer_in fs n = polynomial_of (slice_index_or fs n (integer_form nought))
 
@@ -39,7 +40,7 @@ integer_in fs n = polynomial_of (slice_index_or fs n (integer_form nought))
 abbrev pub memory_in : Updates → List Form → ℕ → Updates
 memory_in u fs n = updates_or u (slice_index_or fs n (integer_form nought))
 
--- the form of a node of this shape, where the forms of its parts are among these
+-- the form of a node of this shape, if the forms of its parts are among these
 abbrev pub form_of : List Polynomial → Updates → List Form → Shape → Form
 form_of ps u fs (shape.Word w) = integer_form (constant w)
 form_of ps u fs (shape.Var i) = integer_form (slice_index_or ps i nought)
@@ -49,7 +50,7 @@ form_of ps u fs shape.Memory = memory_form u
 form_of ps u fs (shape.Upd m a v) = memory_form (norm_upd (memory_in u fs m) (integer_in fs a) (integer_in fs v))
 form_of ps u fs (shape.Rem a m) = integer_form (norm_rem (integer_in fs a) m)
 
--- the forms so far, and then those of these nodes in rising order
+-- the forms so far, and then those of these nodes in increasing order
 abbrev pub forms_of_nodes : List Polynomial → Updates → List Form → List Node → List Form
 forms_of_nodes ps u fs [] = fs
 forms_of_nodes ps u fs (n ∷ ns) = forms_of_nodes ps u (fs ++ form_of ps u fs n.shape ∷ []) ns

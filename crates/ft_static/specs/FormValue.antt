@@ -5,7 +5,7 @@ use Rattle.ft_static.specs.Expression.{WordMap, Denotation, denoted_word, denote
 use Rattle.ft_static.specs.Form.{Form, integer_form, memory_form, Atom, Monomial, Polynomial, Updates, variable_atom, operation_atom, sel_atom, rem_atom, one, times, nought, plus, unchanged, update}
 
 abbrev mutual
-  -- an atom denotes what its operation gives
+  -- an atom denotes the result of its operation
   pub value_atom : Atom → Valuation → ℕ
   value_atom (variable_atom i) s = integer_of s i
   value_atom (operation_atom o p q) s = apply o (value_polynomial p s) (value_polynomial q s)

@@ -1,4 +1,5 @@
 pub mod NodeRules
+pub mod NodeParts
 pub mod Expression
 pub mod NodeTree
 pub mod Form

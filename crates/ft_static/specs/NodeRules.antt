@@ -15,7 +15,7 @@ is_memory Memory = true
 is_memory (Upd memory at value) = true
 is_memory (Rem a m) = false
 
--- node m may be named where a node of this sort is wanted, below number n and within this scope
+-- node m may be used as a node of this sort, below number n and within this scope
 pub record MayName (nodes : List Node) (n scope : ℕ) (memory : Bool) (m : ℕ) : Type 0 where
   pub lower : m < n
   pub node : Node
@@ -27,7 +27,7 @@ pub record MayName (nodes : List Node) (n scope : ℕ) (memory : Bool) (m : ℕ)
 abbrev pub IsLength : ℕ → Type 0
 IsLength m = (1 ≤ m) × (m ≤ 1024)
 
--- what is asked of the shape of node n
+-- the rules for the shape of node n
 abbrev pub IsShape : List Node → ℕ → ℕ → Shape → Type 0
 IsShape nodes n scope (Word w) = IsWord w
 IsShape nodes n scope (Var i) = i < scope

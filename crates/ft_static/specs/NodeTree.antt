@@ -2,21 +2,22 @@
 use Rattle.std.specs.Prelude.{◌≡◌, ℕ, List, [], ◌∷◌, ◌++◌, Some, slice_get, slice_index_or, ◌<◌}
 use Rattle.ft_static.specs.Expression.{Integer, Memory, Expression, word, variable, operation, sel, rem, memory_variable, upd, integer, memory}
 use Rattle.ft_isa.specs.declared.op.Op.{Op}
+use Rattle.ft_static.specs.NodeParts.{EachPart}
 use Rattle.ft_static.specs.declared.node.Node.{Node}
 use Rattle.ft_static.specs.declared.node.Shape.{Shape}
 use Rattle.ft_static.specs.declared.node.Shape.TheVariants as shape
 
--- the integer that an expression is, where it is one
+-- an expression as an integer, if it is one
 abbrev pub integer_part : Expression → Integer
 integer_part (integer e) = e
 integer_part (memory m) = word 0
 
--- the memory that an expression is, where it is one
+-- an expression as a memory, if it is one
 abbrev pub memory_part : Expression → Memory
 memory_part (integer e) = memory_variable
 memory_part (memory m) = m
 
--- the integer that node n stands for, where these are the trees of the nodes
+-- the integer that node n stands for, if these are the trees of the nodes
 abbrev pub integer_at : List Expression → ℕ → Integer
 integer_at ts n = integer_part (slice_index_or ts n (integer (word 0)))
 
@@ -24,7 +25,7 @@ integer_at ts n = integer_part (slice_index_or ts n (integer (word 0)))
 abbrev pub memory_at : List Expression → ℕ → Memory
 memory_at ts n = memory_part (slice_index_or ts n (integer (word 0)))
 
--- the tree of a node of this shape, where the trees of its parts are among these
+-- the tree of a node of this shape, if the trees of its parts are among these
 abbrev pub tree_of : List Expression → Shape → Expression
 tree_of ts (shape.Word w) = integer (word w)
 tree_of ts (shape.Var i) = integer (variable i)
@@ -34,7 +35,7 @@ tree_of ts shape.Memory = memory memory_variable
 tree_of ts (shape.Upd m a v) = memory (upd (memory_at ts m) (integer_at ts a) (integer_at ts v))
 tree_of ts (shape.Rem a m) = integer (rem (integer_at ts a) m)
 
--- the trees so far, and then those of these nodes in rising order
+-- the trees so far, and then those of these nodes in increasing order
 abbrev pub trees_onto : List Expression → List Node → List Expression
 trees_onto ts [] = ts
 trees_onto ts (n ∷ ns) = trees_onto (ts ++ tree_of ts n.shape ∷ []) ns
@@ -47,7 +48,7 @@ trees ns = trees_onto [] ns
 abbrev pub tree_at : List Node → ℕ → Expression
 tree_at ns n = slice_index_or (trees ns) n (integer (word 0))
 
--- node n is there and has this shape
+-- node n exists and has this shape
 pub record HasShape (nodes : List Node) (n : ℕ) (x : Shape) : Type 0 where
   pub node : Node
   pub found : slice_get nodes n ≡ Some node
@@ -65,10 +66,4 @@ pub data StandsFor (nodes : List Node) : ℕ → Expression → Type 0 where
 
 -- the parts of a shape are below n
 abbrev pub HasPartsBelow : ℕ → Shape → Type 0
-HasPartsBelow n (shape.Word w) = Unit {0}
-HasPartsBelow n (shape.Var i) = Unit {0}
-HasPartsBelow n (shape.Op o a b) = (a < n) × (b < n)
-HasPartsBelow n (shape.Sel m a) = (m < n) × (a < n)
-HasPartsBelow n shape.Memory = Unit {0}
-HasPartsBelow n (shape.Upd m a v) = (m < n) × (a < n) × (v < n)
-HasPartsBelow n (shape.Rem a m) = a < n
+HasPartsBelow n x = EachPart (λ s k. k < n) x

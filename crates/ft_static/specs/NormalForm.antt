@@ -9,7 +9,7 @@ use Rattle.ft_static.specs.Expression.{Integer, Memory, Expression, word, variab
 use Rattle.ft_static.specs.Form.{Form, integer_form, memory_form, factors, terms, Atom, Monomial, Polynomial, Updates, variable_atom, operation_atom, sel_atom, rem_atom, one, times, nought, plus, unchanged, update}
 use Rattle.ft_static.specs.FormOrder.{cmp_atom, cmp_monomial, same_polynomial, same_updates}
 
--- the first, second or third by what a comparison gave
+-- the first, second or third by the result of a comparison
 abbrev pub by_order : {A : Type 0} → Ordering → A → A → A → A
 by_order Less x y z = x
 by_order Equal x y z = y
@@ -29,7 +29,7 @@ join (times a m) n = join m (with_factor a n)
 abbrev pub led_by : Monomial → ℕ → Polynomial → Polynomial
 led_by m c p = if c == 0 then p else plus m c p
 
--- a polynomial and one more term: in its place, or added to the coefficient that is there; a zero is dropped
+-- a polynomial and one more term: in its place, or added to the existing coefficient; a zero is dropped
 abbrev pub add_term : Monomial → ℕ → Polynomial → Polynomial
 add_term m c nought = led_by m c nought
 add_term m c (plus n d p) = by_order (cmp_monomial m n) (led_by m c (plus n d p)) (led_by n ((c + d) % 2 ^ 64) p) (plus n d (add_term m c p))
@@ -59,13 +59,13 @@ abbrev pub negation : Polynomial → Polynomial
 negation nought = nought
 negation (plus m c p) = plus m ((2 ^ 64 - c % 2 ^ 64) % 2 ^ 64) (negation p)
 
--- the number that a polynomial with no monomial but the empty one is
+-- the value of a constant polynomial
 abbrev pub constant_of : Polynomial → Option ℕ
 constant_of nought = Some 0
 constant_of (plus one c nought) = Some (c % 2 ^ 64)
 constant_of p = None
 
--- a number is there, and it isn't 0
+-- there is a number, and it isn't 0
 abbrev pub is_not_zero : Option ℕ → Bool
 is_not_zero None = false
 is_not_zero (Some c) = if c == 0 then false else true
@@ -78,7 +78,7 @@ constant c = led_by one (c % 2 ^ 64) nought
 abbrev pub alone : Atom → Polynomial
 alone a = plus (times a one) 1 nought
 
--- add of p and q: their sum, or an atom where that has more than 64 monomials
+-- add of p and q: their sum, or an atom if that has more than 64 monomials
 abbrev pub norm_add : Polynomial → Polynomial → Polynomial
 norm_add p q = let s = total p q in if nat_le (terms s) 64 then s else alone (operation_atom Add p q)
 
@@ -86,16 +86,16 @@ norm_add p q = let s = total p q in if nat_le (terms s) 64 then s else alone (op
 abbrev pub norm_sub : Polynomial → Polynomial → Polynomial
 norm_sub p q = norm_add p (negation q)
 
--- mul of p and q: their product, or an atom where the numbers of monomials or the degrees are too large
+-- mul of p and q: their product, or an atom if the numbers of monomials or the degrees are too large
 abbrev pub norm_mul : Polynomial → Polynomial → Polynomial
 norm_mul p q = if nat_le (terms p * terms q) 64 && nat_le (degree p + degree q) 4 then add_products p q nought else alone (operation_atom Mul p q)
 
--- a constant, what an operation gives, where both its words are known, and the atom otherwise
+-- a constant, the result of an operation, if both its words are known, else the atom
 abbrev pub folded : Op → Option ℕ → Option ℕ → Atom → Polynomial
 folded o (Some c) (Some d) a = constant (apply o c d)
 folded o c d a = alone a
 
--- an operation that folds, of p and q: a constant where both are constants, and an atom otherwise
+-- an operation that folds, of p and q: a constant if both are constants, else an atom
 abbrev pub norm_folded : Op → Polynomial → Polynomial → Polynomial
 norm_folded o p q = folded o (constant_of p) (constant_of q) (operation_atom o p q)
 
@@ -108,7 +108,7 @@ norm_sel (update a v u) p =
     else (if is_not_zero (constant_of (norm_sub p a)) then norm_sel u p
     else alone (sel_atom (update a v u) p))
 
--- upd of a memory form at p with v: the newest update is replaced where it has the address p
+-- upd of a memory form at p with v: the newest update is replaced if it has the address p
 abbrev pub norm_upd : Updates → Polynomial → Polynomial → Updates
 norm_upd unchanged p v = update p v unchanged
 norm_upd (update a w u) p v = if same_polynomial a p then update a v u else update p v (update a w u)
@@ -120,12 +120,12 @@ norm_op Sub p q = norm_sub p q
 norm_op Mul p q = norm_mul p q
 norm_op o p q = norm_folded o p q
 
--- the remainder of a number that is known, and the atom otherwise
+-- the remainder if the number is known, else the atom
 abbrev pub remainder : Option ℕ → ℕ → Atom → Polynomial
 remainder (Some c) m a = constant (c % m)
 remainder None m a = alone a
 
--- the remainder of p by m: a constant where p is one, and an atom otherwise
+-- the remainder of p by m: a constant if p is one, else an atom
 abbrev pub norm_rem : Polynomial → ℕ → Polynomial
 norm_rem p m = remainder (constant_of p) m (rem_atom p m)
 

@@ -1,4 +1,5 @@
--- Forms in order: atoms rise, monomials rise strictly, coefficients are words other than 0, and both limits hold.
+-- Forms in order: atoms increase, monomials increase strictly, coefficients are words other than 0, and both limits
+-- hold.
 use Rattle.std.specs.Prelude.{◌≡◌, ◌≢◌, ◌<◌, ◌≤◌}
 use Rattle.std.specs.declared.cmp.Ordering.TheVariants.{Less, Greater}
 use Rattle.ft_isa.specs.Words.{IsWord}
@@ -23,12 +24,12 @@ abbrev mutual
   IsProperAtom (sel_atom u p) = AreProperUpdates u × IsProper p × (terms p ≤ 64)
   IsProperAtom (rem_atom p m) = IsProper p × (terms p ≤ 64)
 
-  -- its atoms are proper and in rising order
+  -- its atoms are proper and in increasing order
   pub IsProperMonomial : Monomial → Type 0
   IsProperMonomial one = Unit {0}
   IsProperMonomial (times a m) = IsProperAtom a × Leads a m × IsProperMonomial m
 
-  -- its monomials are proper, have at most 4 atoms and rise strictly, and its coefficients are words other than 0
+  -- its monomials are proper, have at most 4 atoms and increase strictly, and its coefficients are words other than 0
   pub IsProper : Polynomial → Type 0
   IsProper nought = Unit {0}
   IsProper (plus m c p) = IsProperMonomial m × (factors m ≤ 4) × (0 < c) × IsWord c × Below m p × IsProper p

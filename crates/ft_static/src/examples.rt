@@ -109,7 +109,7 @@ pub fn examples_of_selections()
     ensures another_address { same (integer (sel memory_variable x)) (integer (sel memory_variable y)) ≡ false }
 {}
 
-/// Numbered nodes, their trees, and a form where the word 2 is put for the variable.
+/// Numbered nodes, their trees, and a form where the word 2 is substituted for the variable.
 pub fn examples_of_nodes()
     ensures lawful { AreNodes nodes }
     ensures sum { tree_at nodes 3 ≡ integer (add x (word 5)) }

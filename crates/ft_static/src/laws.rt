@@ -18,9 +18,9 @@ ghost use Rattle.ft_static.specs.declared.node.Node.{Node};
 
 use std::cmp::Ordering;
 
-/// The order of forms is total, and it finds two forms equal exactly when they are the same. It is
-/// that of lists, by length and then by the first members that differ, where a polynomial is a list of
-/// pairs of monomial and coefficient, and a memory form one of pairs of address and value.
+/// The order of forms is total, and it finds two forms equal exactly if they are the same. It is that of lists, by
+/// length and then by the first members that differ, where a polynomial is a list of pairs of monomial and coefficient,
+/// and a memory form one of pairs of address and value.
 pub fn forms_are_ordered()
     ensures atoms { IsTotalOrder cmp_atom }
     ensures monomials { IsTotalOrder cmp_monomial }
@@ -35,9 +35,9 @@ pub fn forms_are_ordered()
     ensures lists_of_stores { (u w : Updates) → cmp_updates u w ≡ cmp_lists (cmp_pairs cmp_polynomial cmp_polynomial) (stores u) (stores w) }
 {}
 
-/// Every normal form is in order: atoms rise, monomials rise strictly and have at most 4 atoms,
-/// coefficients are words other than 0, and a polynomial has at most 64 monomials. So is each row of
-/// the normal forms from such parts, and every form after a substitution of such forms.
+/// Every normal form is in order: atoms increase, monomials increase strictly and have at most 4 atoms, coefficients
+/// are words other than 0, and a polynomial has at most 64 monomials. So is each row of the normal forms from such
+/// parts, and every form after a substitution of such forms.
 pub fn forms_are_in_order()
     ensures integers { (e : Integer) → IsNormal (norm_integer e) }
     ensures memories { (m : Memory) → AreProperUpdates (norm_memory m) }
@@ -50,9 +50,9 @@ pub fn forms_are_in_order()
 {}
 
 /// The coefficient of a sum of polynomials in order, at each monomial, is the sum of the coefficients
-/// modulo 2^64. That of a product within the limit on degrees is the sum of the products of the
-/// coefficients of monomials of which it is the product, modulo 2^64. A polynomial in order is known
-/// by its coefficients. The product of two monomials has each atom as often as the two together.
+/// modulo 2^64. That of a product within the limit on degrees is the sum, modulo 2^64, of the products of the
+/// coefficients of two monomials whose product is this one. Polynomials in order with the same coefficients are the
+/// same. The product of two monomials has each atom as often as the two together.
 pub fn forms_are_known_by_coefficients()
     ensures sum { (k : Monomial) (p q : Polynomial) → IsProper p → IsProper q → coefficient k (total p q) ≡ (coefficient k p + coefficient k q) % 2 ^ 64 }
     ensures product { (k : Monomial) (p q : Polynomial) → degree p + degree q ≤ 4 → IsProper p → IsProper q → coefficient k (add_products p q nought) ≡ share_of_products k p q % 2 ^ 64 }
@@ -60,9 +60,9 @@ pub fn forms_are_known_by_coefficients()
     ensures counts { (k : Atom) (m n : Monomial) → count k (join m n) ≡ count k m + count k n }
 {}
 
-/// Two expressions are the same exactly when their normal forms are equal. A form denotes what its
-/// expression does, where the expression's numbers are words, under every valuation of the integer
-/// variables and of the memory by words. So two such expressions that are the same denote the same.
+/// Two expressions are the same exactly if their normal forms are equal. A form denotes what its expression does, if
+/// the expression's numbers are words, under every valuation of the integer variables and of the memory by words. So
+/// two such expressions that are the same denote the same.
 pub fn forms_denote_as_expressions()
     ensures same_forms { (a b : Expression) → same a b ≡ true ↔ norm a ≡ norm b }
     ensures denotes { (e : Expression) (s : Valuation) → IsLawful s → HasWords e → form_denotation (norm e) s ≡ denotation e s }
@@ -98,9 +98,8 @@ pub fn substitution_is_on_forms()
     ensures own_memories { (m : Memory) (n : ℕ) (ps : List Polynomial) → ((i : ℕ) → i < n → slice_index_or ps i nought ≡ alone (variable_atom i)) → IsMemoryWithin n m → norm_memory_under m ps unchanged ≡ norm_memory m }
 {}
 
-/// Each node of a lawful list stands for one tree. The numbers in it are words, and its variables are
-/// within the node's scope. The form of a node, computed from the forms of its parts, is that of its
-/// tree.
+/// Each node of a valid list stands for one tree. The numbers in it are words, and its variables are within the node's
+/// scope. The form of a node, computed from the forms of its parts, is that of its tree.
 pub fn nodes_stand_for_trees()
     ensures stands { (nodes : List Node) (n : ℕ) (node : Node) → AreNodes nodes → slice_get nodes n ≡ Some node → StandsFor nodes n (tree_at nodes n) }
     ensures one { (nodes : List Node) (n : ℕ) (t : Expression) → AreNodes nodes → StandsFor nodes n t → tree_at nodes n ≡ t }

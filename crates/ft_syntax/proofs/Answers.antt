@@ -1,4 +1,4 @@
--- A text has one answer, and some.
+-- A text has exactly one outcome.
 use Rattle.std.proofs.Common.{◌≡◌, ◌≢◌, ◌<◌, ◌≤◌, ℕ, List, [], length, Result, Ok, Err, refl, sym, ap, ◌∙◌, arith, ◌⊎◌}
 use Rattle.std.proofs.Common.{inl, inr, ⊎_elim}
 use Rattle.ft_lexer.specs.Scan.{Lexeme, all_of, scan}
@@ -17,13 +17,13 @@ use Rattle.ft_syntax.specs.View.{LexRefused, RefusedBy}
 use Rattle.ft_syntax.proofs.Judged.{judged}
 use Rattle.ft_syntax.proofs.Only.{judged_only}
 
--- the answer of the machine as the answer of a text
+-- the outcome of the machine as the outcome of a text
 abbrev answer_of : Answer → Result SyntaxTree SourceError
 answer_of (Ok t) = Ok t
 answer_of (Err (syntax_at at)) = Err (Syntax at)
 answer_of (Err (deep_at at)) = Err (Deep at)
 
--- the answer of a text of this length, by its lexemes
+-- the outcome of a text of this length, by its lexemes
 abbrev lexed_answer : Result (List Lexeme) LexError → ℕ → Result SyntaxTree SourceError
 lexed_answer (Err (lex_errors.Byte at)) end = Err (Byte at)
 lexed_answer (Err (lex_errors.Number at)) end = Err (Number at)
@@ -33,7 +33,7 @@ abbrev IsComputed : List ℕ → Result SyntaxTree SourceError → Type 0
 IsComputed text r = ((length text ≤ text_limit) × (lexed_answer (all_of (scan text)) (length text) ≡ r)) ⊎
     ((text_limit < length text) × (r ≡ Err TooLong))
 
--- an answer of the lexemes is the machine's
+-- an outcome of the lexemes is the machine's
 judged_answer : (text : List ℕ) (ts : List Lexeme) (r : Answer) → HasLexemes text ts → Judged ts (length text) r →
     IsComputed text (answer_of r)
 judged_answer text ts r has j = inl (
@@ -58,7 +58,7 @@ computed text (Err (Registers need)) h = absurd h
 computed text (Err (Weight weight)) h = absurd h
 computed text (Err NoMemory) h = absurd h
 
--- a text has one answer
+-- a text has at most one outcome
 pub one_answer : (text : List ℕ) (r s : Result SyntaxTree SourceError) → IsAnswer text r → IsAnswer text s → r ≡ s
 one_answer text r s h k = ⊎_elim
     (λ (short, a). ⊎_elim (λ (short2, b). sym a ∙ b) (λ (long, b). absurd (omega (arith, short, long)))
@@ -87,7 +87,7 @@ some_within : (text : List ℕ) (b : Bool) → nat_le (length text) text_limit �
 some_within text true h = some_lexed text (all_of (scan text)) (grind arith) refl
 some_within text false h = (Err TooLong, grind arith)
 
--- a text has an answer
+-- a text has an outcome
 pub some_answer : (text : List ℕ) → (s : Result SyntaxTree SourceError) × IsAnswer text s
 some_answer text = some_within text (nat_le (length text) text_limit) refl
 

@@ -98,7 +98,7 @@ pub record ReadsEqual (x : Context) (ts rest : List Lexeme) (value : NamedExpres
   pub is : join Eq equal (join Ltu less (join_signed bits
       (join_signed shift (join_signed sum (join Mul product last))))) ≡ value
 
--- the signs are no brackets, and each is read as an operator
+-- the signs are not brackets, and each is read as an operator
 pub bit_goes : (g : BitSign) → IsNotBracket (bit_kind g)
 bit_goes and_sign = tt
 bit_goes or_sign = tt
@@ -132,7 +132,7 @@ pub bare_by : (k : Kind) (p : Waiting) (n : Named) (x : Context) → IsNotBracke
 bare_by LBracket p n x h = absurd h
 bare_by _ p n x h = refl
 
--- where no bracket comes, a name has no index
+-- if no bracket comes, a name has no index
 pub bare : (p : Waiting) (n : Named) (x : Context) (rest : List Lexeme) → NoBracket rest → accepts (had_name p n x) rest
     ≡ accepts (had p (name n) x) rest
 bare p n x [] h = refl
@@ -300,7 +300,7 @@ pub settled_by : (k : Kind) (t : Lexeme) (e : NamedExpression) (first ss : Named
 settled_by Else t e first ss b h = absurd h
 settled_by _ t e first ss b h = refl
 
--- where no `else` comes, an `if` has ended
+-- if no `else` comes, an `if` has ended
 pub settled : (e : NamedExpression) (first ss : NamedStatements) (b : Block) (rest : List Lexeme) → NoElse rest →
     accepts (may_else e first ss b) rest ≡ accepts (stmts (follow ss (choose e first none none)) b) rest
 settled e first ss b [] h = refl

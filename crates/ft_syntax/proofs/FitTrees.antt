@@ -67,7 +67,7 @@ HaveWords (assign_at to i e rest) = HasWords i × HasWords e × HaveWords rest
 HaveWords (loop e body rest) = HasWords e × HaveWords body × HaveWords rest
 HaveWords (choose e if_so if_not rest) = HasWords e × HaveWords if_so × HaveWords if_not × HaveWords rest
 
--- the lexemes of an expression make it so
+-- the lexemes of an expression make it fit
 mutual
   equality_fits : (e : Equality) (rest : List Lexeme) → AllFit (equality_then e rest) → HasWords (equality_tree e)
       × AllFit rest
@@ -162,7 +162,7 @@ mutual
       let y = statement_fits s rest x.1 in
       (λ after k. x.0 (statement_tree s after) (y.0 after k), y.1)
 
--- what is so of the tree of a source
+-- what holds of the tree of a source
 pub record IsFitTree (t : SyntaxTree) : Type 0 where
   pub declarations : AllByRecursion IsFitDeclaration t.decls
   pub literals : HaveWords t.body

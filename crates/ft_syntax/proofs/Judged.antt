@@ -1,4 +1,4 @@
--- What the machine answers is what the grammar and the limits say.
+-- The machine's outcome is what the grammar and the limits say.
 use Rattle.std.proofs.Common.{◌≡◌, ℕ, Bool, true, false, List, [], ◌∷◌, ◌++◌, Option, Some, None, Result, Ok, Err, refl}
 use Rattle.std.proofs.Common.{ap, ◌∙◌, subst, ◌⊎◌, inl, inr, ⊎_elim}
 use Rattle.std.specs.Prelude.{option_and_then}
@@ -186,7 +186,7 @@ judge ts end (Err (deep_at at)) q = record {
   deep = q.deep;
 }
 
--- what the machine answers is so
+-- the machine's outcome is what they say
 pub judged : (ts : List Lexeme) (end : ℕ) → Judged ts end (walk end nothing_open (decls []) ts)
 judged ts end = judge ts end (walk end nothing_open (decls []) ts) (outcome ts nothing_open (decls []) end)
 

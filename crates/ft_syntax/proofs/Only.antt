@@ -1,4 +1,4 @@
--- A list of tokens has one answer.
+-- A list of tokens has at most one outcome.
 use Rattle.std.proofs.Common.{◌≡◌, ℕ, false, List, [], ◌∷◌, ◌++◌, Some, Ok, Err, refl, sym, ap, ◌∙◌, append-nil, ⊎_elim}
 use Rattle.std.specs.Prelude.{option_and_then}
 use Rattle.ft_lexer.specs.Scan.{Lexeme}
@@ -79,7 +79,7 @@ deep_one ts end at q =
     ∙ ap (λ o. go_on q.lexeme (deep q.lexeme.kind c) o rest) r.2
     ∙ ap (λ d. go_on q.lexeme d (Some all.0) rest) q.deep ∙ ap (λ v. Err (deep_at v)) (sym q.place)
 
--- a list of tokens is judged as the machine answers, and in no other way
+-- a list of tokens has the machine's outcome and no other
 pub judged_only : (ts : List Lexeme) (end : ℕ) (r : Answer) → Judged ts end r → walk end nothing_open (decls []) ts ≡ r
 judged_only ts end (Ok p) (d, k) =
     let a = accepted_steps (decls []) ts p (complete ts p d) in

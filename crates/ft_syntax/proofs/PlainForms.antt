@@ -90,7 +90,7 @@ pub list_first : {N M : Type 0} → (f : N → M) (s : Stmt N) (ss : List (Stmt 
 unfolding plain_list
 list_first f s ss = refl
 
--- a statement before others is the statement alone, followed by them
+-- a statement before others is the statement by itself, followed by them
 pub statement_first : {N M : Type 0} → (f : N → M) (s : Stmt N) (after : StatementList M) → plain_statement f s after
     ≡ follow (plain_statement f s none) after
 unfolding plain_statement
@@ -112,13 +112,13 @@ list_push f (x ∷ ss) s =
     ∙ ap (λ v. follow v (plain_statement f s none)) (sym (statement_first f x (plain_list f ss))
     ∙ sym (list_first f x ss))
 
--- the statements from i on, of which the first is known
+-- the statements from i, the first of which is known
 pub list_drop : {N M : Type 0} → (f : N → M) (ss : List (Stmt N)) (i : ℕ) (d : Stmt N) → i < length ss →
     plain_list f (drop i ss) ≡ plain_statement f (get_or ss i d) (plain_list f (drop (i + 1) ss))
 list_drop f ss i d h = rw add-one (ap (plain_list f) (drop-cons ss i d h)
     ∙ list_first f (get_or ss i d) (drop (suc i) ss))
 
--- the statements before i + 1, of which the last is known
+-- the statements before i + 1, the last of which is known
 pub list_take : {N M : Type 0} → (f : N → M) (ss : List (Stmt N)) (i : ℕ) (d : Stmt N) → i < length ss →
     plain_list f (take (i + 1) ss) ≡ follow (plain_list f (take i ss)) (plain_statement f (get_or ss i d) none)
 list_take f ss i d h = rw add-one (ap (plain_list f) (take-suc ss i d h) ∙ list_push f (take i ss) (get_or ss i d))

@@ -66,7 +66,7 @@ pub record Completes (s : State) : Type 0 where
   pub accepted : accepts s tokens ≡ Some program
   pub no_else : NoElse tokens
 
--- the text of the lexeme that is wanted: a name is `x`, a number or an expression `0`
+-- the text of the required lexeme: a name is `x`, a number or an expression `0`
 abbrev wanted_text : Kind → List ℕ
 wanted_text Name = codes "x"
 wanted_text Number = codes "0"
@@ -234,7 +234,7 @@ completed (else_brace e first ss b) =
     let r = complete_block (in_no e first ss b) none in
     record { tokens = wanted LBrace ∷ r.tokens; program = r.program; accepted = r.accepted; no_else = tt }
 
--- a list is accepted where the machine goes through it to a state where the program may end
+-- a list is accepted if the machine gets through it to a state where the program may end
 pub accepted_steps : (s : State) (ts : List Lexeme) (p : SyntaxTree) → accepts s ts ≡ Some p → (s' : State)
     × (steps s ts ≡ Some s') × (final s' ≡ Some p)
 accepted_steps s [] p h = (s, refl, h)
@@ -276,7 +276,7 @@ stuck_then s s' ts us t h stuck =
     ap (accepts s) (append_assoc ts (t ∷ []) us) ∙ steps_then s s' ts (t ∷ us) h
     ∙ ap (option_and_then (λ s'. accepts s' us)) stuck
 
--- where the machine stops, the list isn't viable
+-- if the machine stops, the list isn't viable
 pub not_viable : (ts : List Lexeme) (s : State) (t : Lexeme) → steps (decls []) ts ≡ Some s → step s t ≡ None →
     IsViable (ts ++ t ∷ []) → ⊥
 not_viable ts s t h stuck (us, p, d) =
@@ -291,7 +291,7 @@ one_tree ts p q d e =
     let b = complete ts q e in
     cc
 
--- a list of which more is accepted is one that the machine goes through
+-- the machine gets through a list if more of it is accepted
 pub gone_through : (s : State) (ts us : List Lexeme) (p : SyntaxTree) → accepts s (ts ++ us) ≡ Some p → (s' : State)
     × (steps s ts ≡ Some s')
 gone_through s [] us p h = (s, refl)

@@ -1,4 +1,4 @@
--- The tokens that a lexer tells, one after another.
+-- The tokens that a lexer returns, one after another.
 use Rattle.std.proofs.Common.{◌≡◌, List, [], ◌∷◌, ◌++◌, Result, Ok, Err, refl, ap}
 use Rattle.ft_lexer.specs.declared.token.Token.{Token}
 use Rattle.ft_lexer.specs.declared.lex_error.LexError.{LexError}

@@ -3,6 +3,7 @@ pub mod Syntax
 pub mod Grammar
 pub mod Limits
 pub mod Refusal
+pub mod Errors
 pub mod Size
 pub mod TreeOf
 pub mod Machine

@@ -4,7 +4,7 @@ use Rattle.ft_lexer.specs.declared.kind.Kind.{Kind}
 use Rattle.ft_lexer.specs.declared.kind.Kind.TheVariants.{While, If, Semi, LParen, RParen, LBrace, RBrace, Plus, Minus, Star, Less, EqEq, LBracket, RBracket, And, Or, Xor, Shl, Shr}
 use Rattle.ft_lexer.specs.Scan.{Lexeme}
 
--- the most bytes of a source text
+-- the maximum bytes of a source text
 abbrev pub text_limit : ℕ
 text_limit = 1048576
 
@@ -61,7 +61,7 @@ abbrev pub tallied : Tally → List Lexeme → Tally
 tallied c [] = c
 tallied c (t ∷ ts) = tallied (tally t.kind c) ts
 
--- no lexeme goes beyond a limit
+-- no lexeme exceeds a limit
 abbrev pub IsShallow : Tally → List Lexeme → Type 0
 IsShallow c [] = Unit {0}
 IsShallow c (t ∷ ts) = (deep t.kind c ≡ false) × IsShallow (tally t.kind c) ts

@@ -1,4 +1,4 @@
--- A machine that reads the lexemes one by one, with all that is open on a stack. Private clauses alone cite it.
+-- A machine that reads the lexemes one by one, with everything that is open on a stack. Only private clauses cite it.
 use Rattle.std.specs.Prelude.{ℕ, Bool, true, false, List, [], ◌∷◌, ◌++◌, Option, Some, None, Ok, Err}
 use Rattle.ft_isa.specs.declared.op.Op.{Op}
 use Rattle.ft_isa.specs.declared.op.Op.TheVariants.{Add, Sub, Mul, Ltu, Eq}
@@ -146,7 +146,7 @@ abbrev pub had_by : Kind → Option Waiting → Waiting → NamedExpression → 
 had_by k (Some q) p a x = Some (want q x)
 had_by k None p a x = ended k (close p a) x
 
--- after a name that nothing follows yet: a bracket opens its index
+-- after a name, whose index may follow: a bracket opens it
 abbrev pub had_name_by : Kind → Waiting → Named → Context → Option State
 had_name_by LBracket p n x = Some (want empty (index_of p n x))
 had_name_by k p n x = had_by k (push k p (name n)) p (name n) x

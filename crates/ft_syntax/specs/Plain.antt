@@ -1,4 +1,4 @@
--- Expressions and statements as plain data, over names of any kind. What speaks of statements speaks of this form.
+-- Expressions and statements as plain data, over names of any kind. Higher crates use this form.
 use Rattle.std.specs.Prelude.{ℕ, List, [], ◌∷◌, Option, Some, None}
 use Rattle.ft_isa.specs.declared.op.Op.{Op}
 use Rattle.ft_syntax.specs.declared.expr.Expr.{Expr, Literal, Name, At', Op'}
@@ -11,7 +11,7 @@ pub data Expression (N : Type 0) : Type 0 where
   indexed : N → Expression N → Expression N
   operation : Op → Expression N → Expression N → Expression N
 
--- statements in a row: none, or a first one and those that follow it
+-- statements in a row: none, or a first one and those after it
 pub data StatementList (N : Type 0) : Type 0 where
   none : StatementList N
   assign : N → Expression N → StatementList N → StatementList N
@@ -32,7 +32,7 @@ abbrev pub assigning : {N : Type 0} → N → Option (Expression N) → Expressi
 assigning to None e rest = assign to e rest
 assigning to (Some i) e rest = assign_at to i e rest
 
--- the plain form of an expression, where f gives the plain form of a name
+-- the plain form of an expression, if f gives the plain form of a name
 abbrev pub plain_expression : {N M : Type 0} → (N → M) → Expr N → Expression M
 plain_expression f (Literal w) = literal w
 plain_expression f (Name n) = name (f n)

@@ -1,4 +1,4 @@
--- What the parser's values are to the machine. Private clauses alone cite it.
+-- What the parser's values are to the machine. Only private clauses cite it.
 use Rattle.std.specs.Prelude.{◌≡◌, ℕ, List, [], ◌∷◌, None, option_map, Result, Err}
 use Rattle.ft_isa.specs.declared.op.Op.{Op}
 use Rattle.ft_lexer.specs.declared.kind.Kind.{Kind}
@@ -33,7 +33,7 @@ expression e = plain_expression named e
 abbrev pub tally_of : Parser → Tally
 tally_of p = record { opened = p.opened; ops = p.ops }
 
--- what the machine answers from this state, at the parser's place
+-- the machine's outcome from this state, at the parser's place
 abbrev pub from : Parser → State → Answer
 from p s = walk p.end (tally_of p) s (lexemes p.rest.now)
 
@@ -43,14 +43,14 @@ signed p = (p.0, expression p.1)
 abbrev pub waiting : Pending → Waiting
 waiting p = record { equal = option_map expression p.equal; less = option_map expression p.less; bits = option_map signed p.bits; shift = option_map signed p.shift; sum = option_map signed p.sum; product = option_map expression p.product }
 
--- the error is what the machine answers, out of memory aside
+-- the error is the machine's outcome, out of memory aside
 abbrev pub Refuses : SourceError → Answer → Type 0
 Refuses (Syntax at) r = r ≡ Err (syntax_at at)
 Refuses (Deep at) r = r ≡ Err (deep_at at)
 Refuses NoMemory r = Unit {0}
 Refuses _ r = ⊥
 
--- the error is how the lexemes are refused, out of memory aside
+-- the error is the refusal of the lexemes, out of memory aside
 abbrev pub RefusedBy : List Lexeme → ℕ → SourceError → Type 0
 RefusedBy ts end (Syntax at) = IsFault ts end (syntax_at at)
 RefusedBy ts end (Deep at) = IsFault ts end (deep_at at)
@@ -64,7 +64,7 @@ LexRefused (Number at) r = r ≡ Err (lex_errors.Number at)
 LexRefused NoMemory r = Unit {0}
 LexRefused _ r = ⊥
 
--- no operator comes next
+-- the next lexeme is not an operator
 abbrev pub NoOperator : List Lexeme → Type 0
 NoOperator [] = Unit {0}
 NoOperator (t ∷ ts) = (p : Waiting) (a : NamedExpression) → push t.kind p a ≡ None
@@ -87,7 +87,7 @@ BeginsNone While = ⊥
 BeginsNone If = ⊥
 BeginsNone _ = Unit {0}
 
--- the next lexeme begins no statement
+-- the next lexeme does not begin a statement
 abbrev pub NoStatement : List Lexeme → Type 0
 NoStatement [] = Unit {0}
 NoStatement (t ∷ ts) = BeginsNone t.kind
@@ -96,7 +96,7 @@ abbrev pub IsNotBracket : Kind → Type 0
 IsNotBracket LBracket = ⊥
 IsNotBracket _ = Unit {0}
 
--- no bracket of an index comes next
+-- the next lexeme is not the bracket of an index
 abbrev pub NoBracket : List Lexeme → Type 0
 NoBracket [] = Unit {0}
 NoBracket (t ∷ ts) = IsNotBracket t.kind

@@ -73,7 +73,7 @@ impl<'a, 't> Parser<'a, 't> {
         Ok(t.value())
     }
 
-    /// Takes the length of an array, and tells its place too.
+    /// Takes the length of an array, and returns its place too.
     fn length(&mut self) -> Result<(u64, usize), SourceError>
         ensures ok { IfOk result (λ l. (ds : List Declared) (n : Named) → from self.old (cell_length ds n) ≡ from self.new (cell_close ds n l)) }
         ensures err { IfErr result (λ e. (ds : List Declared) (n : Named) → Refuses e (from self.old (cell_length ds n))) }
@@ -193,7 +193,7 @@ impl<'a, 't> Parser<'a, 't> {
         Ok(all)
     }
 
-    /// Wants no token more.
+    /// Expects no more tokens.
     fn finish(&self) -> Result<(), SourceError>
         requires { NoStatement (lexemes self.now.rest.now) }
         ensures ok { OnOk result ((ds : List Declared) (ss : NamedStatements) → from self.now (stmts ss (top ds)) ≡ Ok (record { decls = ds; body = ss })) }

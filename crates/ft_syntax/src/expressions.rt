@@ -142,7 +142,7 @@ impl<'a, 't> Parser<'a, 't> {
         indexed(alloc, name, index)
     }
 
-    /// Reads the rest of an expression, where operands wait already.
+    /// Reads the rest of an expression if operands already wait.
     #[cycle(expression)]
     fn operations(
         &mut self,

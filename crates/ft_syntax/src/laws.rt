@@ -11,7 +11,7 @@ pub fn one_list_has_one_tree()
     ensures { (ts : List Lexeme) (t u : SyntaxTree) → Derives ts t → Derives ts u → t ≡ u }
 {}
 
-/// A text has exactly one answer: one tree, or one refusal.
+/// A text has exactly one outcome: one tree, or one refusal.
 pub fn one_text_has_one_answer()
     ensures one { (text : List ℕ) (r s : Result SyntaxTree errors.SourceError) → IsAnswer text r → IsAnswer text s → r ≡ s }
     ensures some { (text : List ℕ) → (r : Result SyntaxTree errors.SourceError) × IsAnswer text r }

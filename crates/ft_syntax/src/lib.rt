@@ -1,9 +1,9 @@
 //! Source texts, read as syntax trees.
 //!
-//! The crate promises that `parse` gives the one tree that the grammar derives from the text's tokens,
-//! or the first refusal at its exact place. Its definitions: `specs/Grammar.antt`, `specs/Limits.antt`,
-//! `specs/Refusal.antt`, and `specs/Plain.antt`, the plain form of expressions and statements in
-//! which every crate above speaks of them.
+//! The crate promises that `parse` returns the one tree that the grammar derives from the text's tokens, or
+//! the first refusal at its exact place. Its definitions: `specs/Grammar.antt`, `specs/Limits.antt`,
+//! `specs/Refusal.antt`, and `specs/Plain.antt`, the plain form of expressions and statements that all
+//! higher crates use.
 #![tactic(auto)]
 
 mod decl;

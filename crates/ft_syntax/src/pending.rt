@@ -142,7 +142,7 @@ impl<'a> Pending<'a> {
     }
 }
 
-/// An operation, or its right operand alone.
+/// An operation, or only its right operand.
 fn join<'a>(
     alloc: Global,
     op: Op,
@@ -177,7 +177,7 @@ fn operation<'a>(
     Ok(Expr::Op { op, a, b })
 }
 
-/// An operation of one of some kinds, or its right operand alone.
+/// An operation of one of some kinds, or only its right operand.
 fn join_signed<'a>(
     alloc: Global,
     left: Option<(Op, Expr<Spot<'a>>)>,

@@ -11,14 +11,14 @@ use crate::tokens::all_tokens;
 use crate::tree::Tree;
 use std::alloc::Global;
 
-/// How many bytes a source text may have.
+/// The maximum bytes of a source text.
 const TEXT_LIMIT: usize = 1_048_576;
 
-/// The tree of a source text, of which the names are slices of the text.
+/// The tree of a source text, whose names are slices of the text.
 ///
-/// A text that is no source is refused by its first refusal, in this order: `TooLong`; `Byte` and
-/// `Number` by place over the whole text; `Syntax` and `Deep` by place over the tokens, `Syntax` first
-/// at one token. Each token is read once.
+/// A text that is not a source is refused with its first refusal, in this order: `TooLong`; `Byte` and `Number` by
+/// place over the whole text; `Syntax` and `Deep` by place over the tokens, `Syntax` first at one token. Each token is
+/// read once.
 pub fn parse<'a>(alloc: Global, text: &'a [u8]) -> Result<Tree<'a>, SourceError>
     ensures ok { IfOk result (λ tree. IsSource text.now (tree_of tree)) }
     ensures nodes { IfOk result (λ tree. node_count tree.decls.items tree.body.items ≤ length text.now) }

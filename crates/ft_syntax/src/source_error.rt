@@ -1,8 +1,10 @@
 //! Why a source is refused.
+ghost use Rattle.std.specs.Prelude.{◌≡◌};
+
 use thiserror::Error;
 
-/// The first refusal of a source, in the order of the variants; places count bytes from 0. `NoMemory`,
-/// out of memory, may come in the place of any.
+/// The first refusal of a source, in the order of the variants; places count bytes from 0. `NoMemory`, out of memory,
+/// may come in place of any.
 #[derive(Clone, Copy, Debug, PartialEq, Eq, Error)]
 pub enum SourceError {
     /// The text has more than 1,048,576 bytes.
@@ -14,7 +16,7 @@ pub enum SourceError {
     /// The number whose first digit is at `at` is 2^64 or more.
     #[error("too large a number at byte {at}")]
     Number { at: usize },
-    /// No program is possible after the token at `at`; the text's length where it only lacks something.
+    /// No program is possible after the token at `at`; if the text only lacks something, `at` is its length.
     #[error("no program from byte {at} on")]
     Syntax { at: usize },
     /// The token at `at` opens a 101st bracket or brace, or is the 201st operator of one assignment,
@@ -27,7 +29,7 @@ pub enum SourceError {
     /// The name at `at` in a statement isn't declared.
     #[error("unknown name at byte {at}")]
     Unknown { at: usize },
-    /// The name at `at` in a statement is an array's and has no index, or has one and is no array's.
+    /// The name at `at` in a statement is an array's and has no index, or has one and is not an array's.
     #[error("misused name at byte {at}")]
     Array { at: usize },
     /// The length of an array at `at` is 0 or above 1,024.
@@ -42,7 +44,54 @@ pub enum SourceError {
     /// The program's weight is `weight`, more than 65,536.
     #[error("weight {weight}")]
     Weight { weight: u64 },
-    /// There was no memory left.
+    /// Memory ran out.
     #[error("out of memory")]
     NoMemory,
+}
+
+impl SourceError {
+    ghost use Rattle.ft_syntax.specs.Errors.{source_number, source_told};
+
+    /// The number of the refusal, from 1; 0 when out of memory.
+    pub fn number(self) -> u32
+        ensures { result ≡ source_number self }
+    {
+        match self {
+            SourceError::TooLong => 1,
+            SourceError::Byte { at: _ } => 2,
+            SourceError::Number { at: _ } => 3,
+            SourceError::Syntax { at: _ } => 4,
+            SourceError::Deep { at: _ } => 5,
+            SourceError::Twice { at: _ } => 6,
+            SourceError::Unknown { at: _ } => 7,
+            SourceError::Cells { count: _ } => 8,
+            SourceError::Registers { need: _ } => 9,
+            SourceError::Weight { weight: _ } => 10,
+            SourceError::Array { at: _ } => 11,
+            SourceError::Length { at: _ } => 12,
+            SourceError::NoMemory => 0,
+        }
+    }
+
+    /// The refusal's argument: a place in bytes, what is above a limit, or for `TooLong` the limit itself; 0 when out of
+    /// memory.
+    pub fn told(self) -> u64
+        ensures { result ≡ source_told self }
+    {
+        match self {
+            SourceError::TooLong => 1_048_576,
+            SourceError::Byte { at } => at as u64,
+            SourceError::Number { at } => at as u64,
+            SourceError::Syntax { at } => at as u64,
+            SourceError::Deep { at } => at as u64,
+            SourceError::Twice { at } => at as u64,
+            SourceError::Unknown { at } => at as u64,
+            SourceError::Cells { count } => count,
+            SourceError::Registers { need } => need,
+            SourceError::Weight { weight } => weight,
+            SourceError::Array { at } => at as u64,
+            SourceError::Length { at } => at as u64,
+            SourceError::NoMemory => 0,
+        }
+    }
 }

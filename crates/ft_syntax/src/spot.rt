@@ -1,4 +1,4 @@
-//! Names where they stand.
+//! Names with their places.
 
 /// A name: the slice of the source that it is, and the place of its first byte, counted from 0.
 #[derive(Clone, Copy, Debug)]

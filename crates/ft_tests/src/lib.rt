@@ -1,8 +1,7 @@
 //! The tool over files in memory, for the crates of rows.
 //!
-//! A row is words, the text that the tool writes and the status that it answers. The crate promises
-//! nothing: it is what the tests of several crates share, and compares what the tool does with a row. An
-//! error names what differs.
+//! A row is words, the text that the tool writes and the status that it returns. The crate promises
+//! nothing; test crates share it to compare the tool's answer with a row. An error names what differs.
 #![tactic(auto)]
 
 mod rows;

@@ -6,7 +6,7 @@ use std::test::Fail;
 /// Words, the text that is written, and the status.
 pub type Row<'a> = (&'a str, &'a str, u8);
 
-/// Objects that are there under their names.
+/// Objects under their names.
 const OBJECTS: &[(&str, &[u8])] = &[
     ("A", A),
     ("A2", A2),
@@ -55,7 +55,7 @@ fn split_words(rt: &impl AllocGlobal, text: &str) -> Result<Vec<String>, Fail> {
     Ok(words)
 }
 
-/// Runs the tool on the words, with a script, and tells the status.
+/// Runs the tool on the words, with a script, and returns the status.
 pub fn status_with_script<I: Source>(
     rt: &impl AllocGlobal,
     words: &str,
@@ -67,7 +67,7 @@ pub fn status_with_script<I: Source>(
     Ok(ft_tool::tool(rt.alloc(), words.as_slice(), shelf, script, sink))
 }
 
-/// Runs the tool on the words, with an empty script, and tells the status.
+/// Runs the tool on the words, with an empty script, and returns the status.
 pub fn status_of(
     rt: &impl AllocGlobal,
     words: &str,
@@ -89,7 +89,7 @@ fn compare(row: Row, found: u8, written: &[u8]) -> Result<(), Fail> {
     Ok(())
 }
 
-/// Fails unless the tool over this shelf and this sink writes the row's text and answers its status.
+/// Fails unless the tool over this shelf and this sink writes the row's text and returns its status.
 pub fn check_row(
     rt: &impl AllocGlobal,
     row: Row,

@@ -1,7 +1,7 @@
 //! Long sources.
 use std::test::Fail;
 
-/// So many copies of a text after another text.
+/// `count` copies of a text after another text.
 pub fn repeated(
     rt: &impl AllocGlobal,
     before: &str,

@@ -15,7 +15,7 @@ use Rattle.ft_isa.proofs.NumberRead.{next_number, number_told, IsNumberRead}
 use Rattle.ft_isa.proofs.NumberText.{whole_number, number_reader}
 use Rattle.ft_text.proofs.FirstWords.{HasNoSpace, is_space, begins, begins_not, split_there, split_only, split_never}
 
--- something of a kind is so, or nothing is
+-- something of a kind holds, or nothing does
 abbrev pub IsDecided : {A : Type 0} → (A → Type 0) → Type 0
 IsDecided {A} P = ((x : A) × P x) ⊎ ((x : A) → ¬ (P x))
 

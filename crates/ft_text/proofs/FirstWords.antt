@@ -116,7 +116,7 @@ free_by_length : (a : List ℕ) → length a ≤ position_or_len is_space a → 
 free_by_length [] le = tt
 free_by_length (x ∷ a) le = step_free (x == 32) x a (position_or_len is_space a) refl (free_by_length a) le
 
--- where none is found the text has none
+-- if none is found the text has none
 pub found_no_space : (a : List ℕ) → position is_space a ≡ None → HasNoSpace a
 found_no_space a e =
     let past : length a ≤ position_or_len is_space a =

@@ -9,8 +9,7 @@ fn first_feed(text: &[u8]) -> Option<usize>
     text.iter().position(|byte| *byte == b'\n')
 }
 
-/// The first line of a text without its line feed, and the text after it; `None` where the text is
-/// empty.
+/// The first line of a text without its line feed, and the text after it; `None` if the text is empty.
 pub fn read_line(text: &[u8]) -> Option<(&[u8], &[u8])>
     ensures { MatchOption result (text.now ≡ []) (λ p. (lines_of text.now ≡ p.0.now ∷ lines_of p.1.now) × (length p.1.now < length text.now)) }
 {

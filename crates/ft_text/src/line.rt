@@ -1,16 +1,16 @@
-//! A line in the making.
+//! A line that is being built.
 ghost use Rattle.std.specs.Prelude.{◌≡◌, ◌≤◌, ◌+◌, ◌++◌, [], length, decimal};
 
 use itoa::Buffer;
 use std::marker::Model;
 
-/// The most bytes that a line takes.
+/// The maximum bytes of a line.
 pub const ROOM: usize = 160;
 
-/// The most digits of a number below 2^64.
+/// The maximum digits of a number below 2^64.
 const DIGITS: usize = 20;
 
-/// A line in the making: at most `ROOM` bytes. Contracts see it as the list of its bytes.
+/// A line that is being built: at most `ROOM` bytes. Contracts see it as the list of its bytes.
 #[derive(Drop)]
 pub struct Line {
     bytes: [u8; ROOM],

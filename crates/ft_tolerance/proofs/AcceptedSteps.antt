@@ -29,13 +29,14 @@ use Rattle.ft_tolerance.specs.TypedState.{Fits, context_of, context_after, conte
 use Rattle.ft_tolerance.specs.Soundness.{IsUntroubled, EndsOrFits, ended, running, Keeps}
 use Rattle.ft_tolerance.proofs.Premises.{After}
 use Rattle.ft_typing.proofs.TypingRows.{row_holds}
-use Rattle.ft_tolerance.proofs.StayingRows.{GoesOn, staying_row}
+use Rattle.ft_tolerance.proofs.RegisterRows.{GoesOn}
+use Rattle.ft_tolerance.proofs.StayingRows.{staying_row}
 use Rattle.ft_tolerance.proofs.Transfers.{block_there, Arrives, jump_blue_row, Branch, taken, passed, branch_blue_row}
 use Rattle.ft_tolerance.proofs.WantedColours.{Wants, wants, found_is_not_wild}
 
 -- INSTRUCTIONS OF A BLOCK
 
--- an instruction that stands first in what is left
+-- the first instruction in what is left
 drop_at : (xs : List Instr) (k : ℕ) (i : Instr) (is : List Instr) → drop k xs ≡ i ∷ is → (slice_get xs k ≡ Some i)
     × (drop (suc k) xs ≡ is)
 drop_at [] zero i is e = cc
@@ -57,7 +58,7 @@ get-drop [] (suc a) k = refl
 get-drop (x ∷ xs) (suc a) k = get-drop xs a k ∙ (let e : suc (a + k) ≡ suc a + k = omega arith in
     ap (slice_get (x ∷ xs)) e)
 
--- where the rows go on, those that are left apply
+-- if the rows go on, those that are left apply
 applies_on : (o : Object) (d c : Context) (i : Instr) (is : List Instr) → Applies o d (i ∷ is) → row o d i ≡ Goes c →
     Applies o c is
 applies_on o d c i _ (last_row e) g = cc
@@ -236,7 +237,7 @@ module _ (o : Object) (p : Place) (s : State) (w : List Wild) (spelled : IsSpell
   jumped rd u (Fails n) f a (ends g) = cc
   jumped rd u (Fails n) f a (goes d g) = cc
 
-  -- a blue branch arrives or goes on
+  -- a blue branch is taken or not
   branched_by : (h : Here o p at.number) (rz rd : Reg) (u : Subst) → h.instr ≡ BzB rz rd u → (d : Context) →
       row o p.context (BzB rz rd u) ≡ Goes d → Branch o p.valuation (valuation_by o u p.valuation) (word s rd) s w
       (execute (BzB rz rd u) s w) d (word s rz == 0) →
@@ -320,14 +321,14 @@ module _ (o : Object) (p : Place) (s : State) (w : List Wild) (spelled : IsSpell
       subst (λ (x : Status). Lands o (next_place o s.fetched s p) w (step_at o x s w)) (sym go)
       (step_by s.fetched refl h (fetched_here h))
 
-  -- what is wanted of the fetched instruction
+  -- what the fetched instruction requires
   wants_by : (h : Here o p at.number) → Passes o p.context h.instr → Wants h.instr s
   wants_by h (ends f) = wants o p.valuation p.context s fits.context h.instr Ends
       (row_holds o p.context h.instr Ends f (λ n g. cc))
   wants_by h (goes d f) = wants o p.valuation p.context s fits.context h.instr (Goes d)
       (row_holds o p.context h.instr (Goes d) f (λ n g. cc))
 
-  -- a fetched instruction finds what it wants
+  -- a fetched instruction finds what it requires
   pub wants_fetched : (i : Instr) → s.fetched ≡ Some i → Wants i s
   wants_fetched i e =
       let h = here o p acc at in

@@ -27,7 +27,7 @@ alike_cond : (c : Colour) (b : Bool) (x y f g : Coloured) → AreAlikeWords c x 
 alike_cond c true x y f g p q = p
 alike_cond c false x y f g p q = q
 
--- registers stay alike where alike words are written
+-- registers stay alike if alike words are written
 alike_write : (c : Colour) (m n : Registers) (r : ℕ) (x y : Coloured) → AreAlikeRegisters c m n → x.colour ≡ y.colour →
     (x.colour ≢ c → x.word ≡ y.word) → AreAlikeRegisters c (with_held m r x) (with_held n r y)
 unfolding AreAlikeRegisters
@@ -74,7 +74,7 @@ step_by c s t w v o Running h f ok = subst (λ (x : Option Instr). Follows c (ad
 step_by c s t w v o Done h f ok = keeps_alike h refl
 step_by c s t w v o Detected h f ok = keeps_alike h refl
 
--- the step of a state whose instruction finds what it wants, and of one that is alike
+-- the step of a state whose instruction finds what it requires, and of one that is alike
 pub alike_step : (c : Colour) (o : Object) (s t : State) (w v : List Wild) → AreAlike c s t →
     (s.status ≡ Running → (i : Instr) → s.fetched ≡ Some i → Wants i s) → (step o s w).state.status ≢ Detected →
     Follows c (step o s w) (step o t v)

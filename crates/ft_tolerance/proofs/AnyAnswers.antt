@@ -1,4 +1,4 @@
--- A run of an accepted object without a fault is the same whatever answers to wild loads there are.
+-- A run of an accepted object without a fault is the same whatever the answers to wild loads.
 use Rattle.std.proofs.Common.{◌≡◌, ℕ, zero, suc, true, false, not, ◌&&◌, List, ◌++◌, Option, Some, None, is_some, refl}
 use Rattle.std.proofs.Common.{ap, ◌∙◌}
 use Rattle.std.specs.Option.{option_or, option_to_list}
@@ -25,7 +25,7 @@ pub record AreSame (x y : Stepping) : Type 0 where
   pub state : x.state ≡ y.state
   pub output : x.output ≡ y.output
 
--- a load that finds a word asks for no answer
+-- a load that finds a word takes no answer
 load_same : (c : Colour) (rd : Reg) (x : Option ℕ) (s : State) (w v : List Wild) → is_some x ≡ true →
     AreSame (load c rd x s w) (load c rd x s v)
 load_same c rd (Some n) s w v h = record { state = refl; output = refl }

@@ -1,6 +1,8 @@
 pub mod Lists
 pub mod Premises
 pub mod Forms
+pub mod RegisterRows
+pub mod StoreRows
 pub mod StayingRows
 pub mod Transfers
 pub mod WantedColours

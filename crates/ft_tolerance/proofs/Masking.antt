@@ -57,7 +57,7 @@ pub follows_along : (c : Colour) (o : Object) (p : Place) (s t : State) (w v : L
 follows_along c o p s t w v spelled acc (ended d) h = stopped_follows c o s t w v d h
 follows_along c o p s t w v spelled acc (running go at fits) h = step_follows c o p s t w v spelled acc at go fits h
 
--- a state that was detected stays so
+-- a state that was detected stays detected
 detected_stays : (o : Object) (t : State) (v : List Wild) → t.status ≡ Detected → (step o t v).state.status ≡ Detected
 detected_stays o t v d = ap (λ (x : Stepping). x.state.status) (stays_at o t.status t v (subst HasStopped (sym d) tt))
     ∙ d
@@ -66,8 +66,8 @@ follows_alike : (c : Colour) (x y : Stepping) → Follows c x y → IsAlikeOrDet
 follows_alike c x y (keeps_alike h e) = is_alike h
 follows_alike c x y (is_detected d e) = has_stopped d
 
--- after a step from a state of a run without a fault, and one from a state that is alike or detected, the states are so
--- too
+-- after a step from a state of a run without a fault, and one from a state that is alike or detected, the states are
+-- alike or detected too
 pub alike_next : (c : Colour) (o : Object) (p : Place) (s t : State) (w v : List Wild) → IsSpellable o → IsAccepted o →
     EndsOrFits o p s → IsAlikeOrDetected c s t → IsAlikeOrDetected c (step o s w).state (step o t v).state
 alike_next c o p s t w v spelled acc fits (is_alike h) =
@@ -76,7 +76,7 @@ alike_next c o p s t w v spelled acc fits (has_stopped d) = has_stopped (detecte
 
 -- WHOLE RUNS
 
--- the struck run is alike with the same outputs, or it is detected with outputs that begin the other's
+-- the struck run is alike with the same outputs, or it is detected with outputs that are a prefix of the other's
 pub data AreTied (c : Colour) (r x : Ran) : Type 0 where
   together : AreAlike c r.state x.state → r.outputs ≡ x.outputs → AreTied c r x
   over : x.state.status ≡ Detected → IsPrefix x.outputs r.outputs → AreTied c r x

@@ -12,7 +12,7 @@ use Rattle.ft_typing.specs.Context.{Typed, StateOfD, d_zero, d_code, d_condition
 use Rattle.ft_typing.specs.TypingRow.{Outcome, Goes, Ends, Fails, same_colour, need, for_typed, for_ref_over}
 use Rattle.ft_typing.specs.TypingRow.{for_code_over, for_zero, for_target, for_conditional, for_oldest, for_run}
 
--- G of the context that the row goes on to, or E where it ends the block
+-- G of the context that the row leads to, or E if it ends the block
 unfoldable pub After : (Context → Type 0) → Type 0 → Outcome → Type 0
 After G E (Goes c) = G c
 After G E Ends = E
@@ -97,7 +97,7 @@ unfolding After for_run
 after_run G E None f h = tt
 after_run G E (Some b) f h = h b refl
 
--- two colours are equal where the test says so
+-- two colours are equal if the test says so
 pub same_colour_is : (a b : Colour) → same_colour a b ≡ true → a ≡ b
 unfolding same_colour
 same_colour_is Green Green e = refl

@@ -39,7 +39,9 @@ use Rattle.ft_tolerance.proofs.Lists.{found_there}
 use Rattle.ft_tolerance.proofs.Forms.{by_lawful, after_denotes, memory_after_denotes}
 use Rattle.ft_tolerance.proofs.Premises.{After, after_goes, after_ends, after_need, after_typed, after_code}
 use Rattle.ft_tolerance.proofs.Premises.{after_target, after_conditional, same_colour_is}
-use Rattle.ft_tolerance.proofs.StayingRows.{GoesOn, same_denotes, has_seen, pass_fits}
+use Rattle.ft_tolerance.proofs.RegisterRows.{GoesOn}
+use Rattle.ft_tolerance.proofs.StoreRows.{same_denotes, has_seen}
+use Rattle.ft_tolerance.proofs.StayingRows.{pass_fits}
 
 -- BLOCKS
 

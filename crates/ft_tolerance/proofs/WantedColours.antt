@@ -1,4 +1,4 @@
--- What a typed instruction finds in a state that fits: the colours that it wants, and no trouble.
+-- What a typed instruction finds in a state that fits: the colours that it requires, and no trouble.
 use Rattle.std.proofs.Common.{◌≡◌, ℕ, zero, suc, ◌<◌, true, false, not, ◌&&◌, List, [], ◌∷◌, length, Option, Some, None}
 use Rattle.std.proofs.Common.{refl, sym, ap, ◌∙◌, arith, is_some}
 use Rattle.std.specs.Option.{option_or, unwrap_or}
@@ -16,16 +16,16 @@ use Rattle.ft_types.specs.declared.object.Object.{Object}
 use Rattle.ft_semantics.specs.State.{State, held, word, colour, cell_at}
 use Rattle.ft_semantics.specs.Step.{found}
 use Rattle.ft_semantics.specs.StepTable.{is_wild}
-use Rattle.ft_typing.specs.declared.why.Why.TheVariants as premise
 use Rattle.ft_typing.specs.Context.{Typed, FormPair, Context, typed}
 use Rattle.ft_typing.specs.TypingRow.{Outcome, Goes, Ends, Fails, same_colour, is_empty}
 use Rattle.ft_typing.specs.TypingTable.{known, refers as is_reference_over, referred}
 use Rattle.ft_typing.proofs.TypingRows.{Holds}
 use Rattle.ft_tolerance.specs.TypedState.{FitsContext}
 use Rattle.ft_tolerance.proofs.Premises.{After, same_colour_is}
-use Rattle.ft_tolerance.proofs.StayingRows.{refers, finds, queue_length}
+use Rattle.ft_tolerance.proofs.RegisterRows.{refers, finds}
+use Rattle.ft_tolerance.proofs.StoreRows.{queue_length}
 
--- the colours that an instruction wants, that its load finds a word, and that its store finds room or an entry
+-- the colours that an instruction requires, that its load finds a word, and that its store finds room or an entry
 abbrev pub Wants : Instr → State → Type 0
 Wants (OpReg op rd rs rt) s = colour s rt ≡ colour s rs
 Wants (Ld c rd rs) s = (colour s rs ≡ c) × (is_some (found c s (word s rs)) ≡ true)
@@ -44,7 +44,7 @@ anyhow C (Goes c) h = h
 anyhow C Ends h = h
 anyhow C (Fails p) h = tt
 
--- a typed register has the colour that the row wants
+-- a typed register has the colour that the row requires
 has_colour : (o : Object) (v : Valuation) (c : Context) (s : State) (r : Reg) (t : Typed) (k : Colour) →
     FitsContext o v c s → typed c r.number ≡ Some t → same_colour t.colour k ≡ true → colour s r ≡ k
 has_colour o v c s r t k h it e = (h.registers r.number t it).colour ∙ same_colour_is t.colour k e
@@ -72,7 +72,7 @@ module _ (o : Object) (v : Valuation) (c : Context) (s : State) (h : FitsContext
       colour s r ≡ k
   coloured r k it e = has_colour o v c s r (known c r) k h (typed_is (typed c r.number) _ it) e
 
-  -- an instruction finds what it wants where all tests of its row hold
+  -- an instruction finds what it requires if all tests of its row hold
   pub wants : (i : Instr) (x : Outcome) → Holds o c i x → Wants i s
   wants (OpReg op rd rs rt) x t =
       let first : typed c rs.number ≡ Some (known c rs) = typed_is _ _ t.tested.0 in
@@ -98,7 +98,7 @@ module _ (o : Object) (v : Valuation) (c : Context) (s : State) (h : FitsContext
   wants (BzB rz rd u) x t = (coloured rz Blue t.tested.0 t.tested.1.1.0, coloured rd Blue t.tested.1.0 t.tested.1.1.1.0)
   wants i x t = tt
 
--- where one of two is there, not both are missing
+-- if one of two exists, not both are missing
 one_there : (x y : Option ℕ) → is_some (option_or x y) ≡ true → (not (is_some x) && not (is_some y)) ≡ false
 one_there None None e = cc
 one_there None (Some b) e = refl

@@ -19,7 +19,7 @@ pub record AreAlikeWords (c : Colour) (x y : Coloured) : Type 0 where
   pub colour : x.colour ≡ y.colour
   pub word : x.colour ≢ c → x.word ≡ y.word
 
--- so have all registers
+-- so do all registers
 unfoldable pub AreAlikeRegisters : Colour → Registers → Registers → Type 0
 AreAlikeRegisters c m n = (r : ℕ) → AreAlikeWords c (held m r) (held n r)
 
@@ -45,26 +45,27 @@ colour_of_site s PcB = Blue
 colour_of_site s (QAddr i) = Green
 colour_of_site s (QVal i) = Green
 
--- a step from a state and one from a state alike: the steps leave alike states and have the same output, or the second
--- is detected and has none
+-- one step from each of two alike states leads to alike states with the same output, or the second is detected and has
+-- none
 pub data Follows (c : Colour) (x y : Stepping) : Type 0 where
   keeps_alike : AreAlike c x.state y.state → x.output ≡ y.output → Follows c x y
   is_detected : y.state.status ≡ Detected → y.output ≡ None → Follows c x y
 
--- a state of the struck run beside that of the run without the fault, after as many steps
+-- a state of the struck run beside that of the run without the fault, after the same number of steps
 pub data IsAlikeOrDetected (c : Colour) (s t : State) : Type 0 where
   is_alike : AreAlike c s t → IsAlikeOrDetected c s t
   has_stopped : t.status ≡ Detected → IsAlikeOrDetected c s t
 
--- a state after n steps of a run that was struck is alike, for the colour of the struck site, to that of the run without
--- the strike after as many steps, or it is detected
+-- a state after n steps of a run that was struck is alike, for the colour of the struck site, to that of the run
+-- without the strike after the same number of steps, or it is detected
 abbrev pub IsAlikeAfter : Object → Strike → List Wild → ℕ → State → Type 0
 IsAlikeAfter o x w n s = IsAlikeOrDetected (colour_of_site (state_after o None w x.step) x.site) (state_after o None w n) s
 
--- from the strike on the states in which the next steps are taken are so, the first of them right after the strike
+-- from the strike, the states in which the next steps are taken are alike or detected, the first of them right after
+-- the strike
 abbrev pub StaysAlike : Object → Strike → List Wild → ℕ → Type 0
 StaysAlike o x w n = x.step ≤ n → IsAlikeAfter o x w n (struck_before (Some x) n (state_after o (Some x) w n))
 
--- after each step since the strike the run is so
+-- after each step since the strike the run is alike or detected
 abbrev pub IsAlikeLater : Object → Strike → List Wild → ℕ → Type 0
 IsAlikeLater o x w n = x.step < n → IsAlikeAfter o x w n (state_after o (Some x) w n)

@@ -1,4 +1,4 @@
--- What typing promises of runs without a fault.
+-- What typing promises for runs without a fault.
 use Rattle.std.specs.Prelude.{◌≡◌, ◌≢◌, ℕ, ◌<◌, true, false, List, length, None, Some}
 use Rattle.ft_isa.specs.declared.colour.Colour.{Colour}
 use Rattle.ft_isa.specs.declared.colour.Colour.TheVariants.{Green, Blue}
@@ -32,12 +32,12 @@ pub record Keeps (o : Object) (p : Place) (s : State) (w : List Wild) : Type 0 w
   pub wild : (step o s w).wild ≡ w
   pub after : EndsOrFits o (next_place o s.fetched s p) (step o s w).state
 
--- the run without a fault is detected after no number of steps
+-- the run without a fault is never detected
 abbrev pub IsNeverDetected : Object → List Wild → Type 0
 IsNeverDetected o w = (n : ℕ) → status_after o None w n ≢ Detected
 
--- after n steps without a fault: while the run is running it fits its place, a place of the object, and its next step is
--- untroubled; all answers to wild loads are left; and it is not detected
+-- after n steps without a fault: while the run is running it fits its place, a place of the object, and its next step
+-- is untroubled; all answers to wild loads are left; and it is not detected
 pub record FitsAfter (o : Object) (w : List Wild) (n : ℕ) : Type 0 where
   pub is_place : status_after o None w n ≡ Running → IsPlace o (place o w n)
   pub fits : status_after o None w n ≡ Running → Fits o (place o w n) (state_after o None w n)

@@ -26,7 +26,8 @@ use Rattle.ft_typing.specs.TypingRow.{Outcome, Goes, Ends, Fails, row}
 
 -- PLACES
 
--- where a run is: a block, the index of an instruction in it, the context there, and what the block's variables denote
+-- the place of a run: a block, the index of an instruction in it, the context there, and what the block's variables
+-- denote
 pub record Place : Type 0 where
   pub block : Block
   pub index : ℕ
@@ -55,7 +56,7 @@ start_place o = record {
   valuation = record { integers = []; memory = (start o).cells };
 }
 
--- after an instruction that stays in its block: the next index, and the context that the row gives
+-- after an instruction that stays in its block: the next index, and the row's context
 abbrev pub further : Outcome → Place → Place
 further (Goes c) p = record p { index = suc p.index; context = c }
 further Ends p = p
@@ -103,7 +104,7 @@ pub record FitsTarget (o : Object) (v : Valuation) (t : ℕ) (f : Polynomial) (d
   pub word : d ≡ value_polynomial f v
   pub basic : HasType o d (code t)
 
--- for Zero d is 0; for Code it is its target; for Conditional it is so where the test denotes 0, and 0 otherwise
+-- for Zero d is 0; for Code it is its target; for Conditional it is that if the test denotes 0, else 0
 abbrev pub FitsD : Object → Valuation → StateOfD → ℕ → Type 0
 FitsD o v d_zero d = d ≡ 0
 FitsD o v (d_code t f) d = FitsTarget o v t f d
@@ -130,7 +131,7 @@ pub record FitsCell (o : Object) (v : Valuation) (m : Updates) (cells : Cells) (
 unfoldable pub FitsCells : Object → Valuation → Updates → Cells → Type 0
 FitsCells o v m cells = (a : ℕ) (b : Basic) → cell_type o a ≡ Some b → FitsCell o v m cells a b
 
--- what a context knows of a state holds of it, and all that its valuation gives is words
+-- what a context knows of a state holds, and everything in its valuation is a word
 pub record FitsContext (o : Object) (v : Valuation) (c : Context) (s : State) : Type 0 where
   pub lawful : IsLawful v
   pub registers : (r : ℕ) (t : Typed) → typed c r ≡ Some t → FitsRegister o v t (held s.registers r)
@@ -148,7 +149,7 @@ pub record Fits (o : Object) (p : Place) (s : State) : Type 0 where
 
 -- PLACES OF AN OBJECT
 
--- the context that a row goes on to
+-- the context that a row leads to
 abbrev pub context_of : Outcome → Option Context
 context_of (Goes c) = Some c
 context_of Ends = None
@@ -160,7 +161,7 @@ context_after o (Some i) (Some c) = context_of (row o c i)
 context_after o None c = None
 context_after o (Some i) None = None
 
--- the context at index k of block b, where the rows before it go on
+-- the context at index k of block b, if the rows before it go on
 unfoldable pub context_at : Object → ℕ → ℕ → Option Context
 context_at o b zero = Some (start_context o (block_type o b))
 context_at o b (suc k) = context_after o (slice_get (block_instrs o b) k) (context_at o b k)

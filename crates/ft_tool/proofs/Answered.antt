@@ -73,7 +73,7 @@ pub unanswered : (e : Ending) (Is : Answer → Type 0) (old new : SinkLog) (L : 
 unanswered e Is old new L none h =
     ⊎_elim (λ (x : (a : Answer) × Is a). absurd (none x.0 x.1)) (λ early. early) (answered_or_early e Is old new L h)
 
--- where no put failed, the count of failed puts stays
+-- if no put failed, the count of failed puts is unchanged
 pub count_kept : (e : PartEnd) (Is : Answer → Type 0) (old new : SinkLog) (L : Type 0) → EndsSo e Is old new L
     → e ≢ Unwritten → new.failures ≡ old.failures
 count_kept (Concluded status) Is old new L h other = ap (λ (l : SinkLog). l.failures) h.put
@@ -120,7 +120,7 @@ concludes r o w v old new is status put = record {
   status_is = ap status_of_run (sym (subst (λ ws. status_after o r.strike ws r.steps ≡ v) is status));
 }
 
--- a run of whose lines a put failed
+-- a run with a line whose put failed
 breaks_off : (r : Run) (o : objects.Object) (w : List Wild) (old new : SinkLog) → w ≡ r.wild
     → LinesBreakOff (output_lines o (outputs_after o r.strike w r.steps)) old new → BreaksOff (TrialsObject r o) old new
 breaks_off r o w old new is broken = record {
@@ -198,7 +198,7 @@ pub object_failed : (name : Word) (e : ObjectFault) (old new : ShelfLog) → Fau
     → LoadFails name old new
 object_failed name e old new h is = subst (λ f. FaultCause name f old new) is h
 
--- a request that came to load a file, where files play no part in that
+-- a request that got to loading a file, if files do not matter for that
 pub failed_in : (request : Request) (old new : ShelfLog) (name : Word)
     → ((files : Files) → ComesTo request old.files files name) → LoadFails name old new
     → OfFiles old.files (λ files. FailsIn request files old new)

@@ -1,4 +1,4 @@
--- Takes in a loop, each of which gives a byte but the last.
+-- Takes in a loop, each of which but the last returns at least one byte.
 use Rattle.std.proofs.Common.{◌≡◌, ℕ, ◌+◌, ◌-◌, ◌<◌, ◌≤◌, List, [], ◌∷◌, ◌++◌, length, take, sum, All, Option, Some}
 use Rattle.std.proofs.Common.{None, refl, ap, sym, subst, ◌∙◌, arith, length-append}
 use Rattle.std.proofs.Math.Seq.{take-append_seam}
@@ -25,7 +25,7 @@ frugal_more sizes n some = subst (All (λ count. 0 < count)) (sym (but_last size
 sum_more : (sizes : List ℕ) (n : ℕ) → sum (sizes ++ n ∷ []) ≡ sum sizes + n
 sum_more sizes n = omega (arith, sum_by-append (λ count. count) sizes (n ∷ []))
 
--- takes were made that gave so many bytes together, and each gave some
+-- takes were made that returned `count` bytes together, and each returned some
 pub record GaveSome (takes takes' : Option (List ℕ)) (total : ℕ) : Type 0 where
   pub sizes : List ℕ
   pub made : takes' ≡ append_told takes sizes
@@ -57,7 +57,7 @@ takes_last most old mid new bytes more n h taken is gave same few = record {
   frugal = frugal_more h.sizes n h.some;
 }
 
--- where nothing was taken, no bytes were
+-- if nothing was taken, there were no bytes
 kept_none : (a b : Option (List ℕ)) → Keeps a b → Consumes a b []
 kept_none None b h = tt
 kept_none (Some xs) None h = absurd h

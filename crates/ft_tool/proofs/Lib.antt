@@ -9,9 +9,14 @@ mod Meant
 mod Frugal
 mod Taken
 mod Tried
+mod OneObject
+mod OneCampaign
+mod OneCompilation
+mod OneLink
 mod OneAnswer
 mod Assembled
 mod MapNames
 mod Linking
+mod ModulesInTurn
 mod Statuses
 mod Obeyed

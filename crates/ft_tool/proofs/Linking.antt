@@ -1,13 +1,11 @@
--- What is answered of a link: the modules that are added in turn, and what ends it.
-use Rattle.std.proofs.Common.{◌≡◌, ℕ, ◌+◌, ◌<◌, ◌≤◌, Bool, drop, get_or, true, List, [], ◌∷◌, ◌++◌, length, Option}
-use Rattle.std.proofs.Common.{Some, None, Ok, Err, inl, inr, refl, sym, ap, ◌∙◌, subst, arith}
+-- What a link answers, by its map, one of its modules or the linked object.
+use Rattle.std.proofs.Common.{◌≡◌, ℕ, ◌≤◌, Bool, List, [], ◌∷◌, ◌++◌, length, Option, Some, None, Ok, Err, inl, inr}
+use Rattle.std.proofs.Common.{refl, sym, ap, ◌∙◌, subst}
 use Rattle.std.specs.Prelude.{◌⊎◌, IsTrue, IfErr, Result}
-use Rattle.std.proofs.lemmas.List.{append-nil, append_assoc, drop_more, length_push}
 use Rattle.std.proofs.lemmas.Option.{none-some}
 use Rattle.ft_edge.specs.Causes.{Rose}
 use Rattle.ft_edge.specs.Loads.{Files}
-use Rattle.ft_edge.specs.Told.{append_told}
-use Rattle.ft_edge.specs.Logs.{SinkLog, ShelfLog, LoadFails}
+use Rattle.ft_edge.specs.Logs.{SinkLog, ShelfLog}
 use Rattle.ft_types.specs.declared.object.Object.{Object}
 use Rattle.ft_typing.specs.Accepted.{IsAccepted, refusal}
 use Rattle.ft_typing.specs.Accepted as refusals
@@ -38,11 +36,10 @@ use Rattle.ft_tool.specs.declared.ending.Ending.{Ending}
 use Rattle.ft_tool.specs.Replies.{Answer, IsToldFile}
 use Rattle.ft_tool.specs.Objects.{UpgradesObject}
 use Rattle.ft_tool.specs.Links.{IsMap, EndsAtMap, bad_line, line_twice, unlinked, EndsAtObject, not_accepted, not_added}
-use Rattle.ft_tool.specs.Links.{no_object, no_module, LinksObject, LinksUnless, LinksAdded, LinksFiles, LinksText}
-use Rattle.ft_tool.specs.Links.{LinksFile, ComesInTurn}
-use Rattle.ft_tool.specs.LinkTurns.{EndsWithFile, AddsFile, AddsObject, HasAdded, FailsInTurn, MakesInTurn, MakesOfText}
-use Rattle.ft_tool.specs.Calls.{LoadList, asked_after, HasMade, object_load, map_load, EndsAtFile, LoadsInTurn}
-use Rattle.ft_tool.specs.Calls.{LoadsLink}
+use Rattle.ft_tool.specs.Links.{no_object, no_module, LinksObject, LinksUnless, LinksAdded, LinksText, LinksFile}
+use Rattle.ft_tool.specs.Links.{ComesInTurn}
+use Rattle.ft_tool.specs.LinkTurns.{EndsWithFile, AddsFile, AddsObject, FailsInTurn, MakesOfText}
+use Rattle.ft_tool.specs.Calls.{LoadList, asked_after, HasMade, map_load, LoadsLink}
 use Rattle.ft_tool.specs.Answers.{FailsIn}
 use Rattle.ft_tool.specs.Told.{OfFiles}
 use Rattle.ft_tool.specs.Files.{LoadsObject, IsRefusedBy, IsNotAccepted, IsMapRefused, IsUnlinkedBy}
@@ -59,14 +56,14 @@ pub err_ends : {T : Type 0} (r : Result T Ending) (P Q : Answer → Type 0) (old
 err_ends (Ok v) P Q old new L M f g h = tt
 err_ends (Err e) P Q old new L M f g h = Ends-map e P Q old new L M f g h
 
--- of such an answer less is known
+-- less is known of such an answer
 pub known_less : (P Q Early : Type 0) → (P → Q) → P ⊎ Early → Q ⊎ Early
 known_less P Q Early f (inl p) = inl (f p)
 known_less P Q Early f (inr early) = inr early
 
 -- OBJECTS
 
--- a refusal of modules, by the error that tells it
+-- a refusal of modules, by the error that stands for it
 told_refusal : (x : Option LinkRefusal) (e : LinkError) → IsRefusalOf x e → (a : Answer) → IsUnlinkedBy e a →
     (r : LinkRefusal) × ((x ≡ Some r) × (a ≡ unlinked r))
 told_refusal x (links.Cells m) h a is = (Cells m, (h, is))
@@ -140,191 +137,9 @@ adds_file told modules modules' name bytes h g = (
   ),
 )
 
--- LOADS
-
-asked_after-append : (loads more : LoadList) (asked : Option LoadList) → asked_after (loads ++ more) asked
-    ≡ asked_after more (asked_after loads asked)
-asked_after-append [] more asked = refl
-asked_after-append (load ∷ loads) more asked = asked_after-append loads more (append_told asked (load ∷ []))
-
--- loads after loads
-made_more : (loads more : LoadList) (asked between asked' : Option LoadList) → HasMade loads asked between →
-    HasMade more between asked' → HasMade (loads ++ more) asked asked'
-made_more loads more asked between asked' h g = g ∙ ap (asked_after more) h ∙ sym (asked_after-append loads more asked)
-
--- a call that ends early may make no load
-no_loads : (told : Option Files) (modules : List Object) (names : List Word) →
-    LoadsInTurn told (IsTrue true) modules names []
-no_loads told modules [] = refl
-no_loads told modules (name ∷ names) = inl (refl, refl)
-
-pub makes_none : (told : Option Files) (linkage : LinkMap) (asked : Option LoadList) →
-    MakesInTurn told linkage true asked asked
-makes_none told linkage asked = ([], (no_loads told [] linkage.files, refl))
-
--- MODULES IN TURN
-
--- nothing was added yet
-pub added_none : (told : Option Files) (linkage : LinkMap) (asked : Option LoadList) →
-    HasAdded told linkage [] linkage.files asked asked
-added_none told linkage asked = record {
-  loads = [];
-  made = refl;
-  count = omega arith;
-  answers = λ a h. h;
-  comes = λ file h. h;
-  in_turn = λ early more h. h;
-}
-
--- one more was added
-added_object : (told : Option Files) (linkage : LinkMap) (modules : List Object) (name : Word) (names : List Word)
-    (asked between asked' : Option LoadList) → HasAdded told linkage modules (name ∷ names) asked between
-    → (modules' : List Object) → (g : AddsFile told name modules modules') →
-    HasMade (object_load name ∷ []) between asked' →
-    HasAdded told linkage (modules ++ g.1.1.0 ∷ []) names asked asked'
-added_object told linkage modules name names asked between asked' h modules' g made = record {
-  loads = h.loads ++ object_load name ∷ [];
-  made = made_more h.loads (object_load name ∷ []) asked between asked' h.made made;
-  count = omega (arith, length_push modules g.1.1.0, h.count);
-  answers = λ a x. h.answers a (g.0, (g.1.0, inr (g.1.1.0, (g.1.1.1.0, x))));
-  comes = λ file x. h.comes file (inr (g.0, (g.1.0, (g.1.1.0, (g.1.1.1.0, x)))));
-  in_turn = λ early more x.
-      subst (λ ls. LoadsInTurn told (IsTrue early) [] linkage.files ls)
-      (sym (append_assoc h.loads (object_load name ∷ []) more))
-      (h.in_turn early (object_load name ∷ more) (inr (more, (refl, inr (g.0, (g.1.0, (g.1.1.0, (g.1.1.1.0, x))))))));
-}
-
-pub added_more : (told : Option Files) (linkage : LinkMap) (modules modules' : List Object) (name : Word)
-    (names : List Word) (asked between asked' : Option LoadList) →
-    HasAdded told linkage modules (name ∷ names) asked between
-    → AddsFile told name modules modules' → HasMade (object_load name ∷ []) between asked' →
-    HasAdded told linkage modules' names asked asked'
-added_more told linkage modules modules' name names asked between asked' h g made =
-    subst (λ ms. HasAdded told linkage ms names asked asked') (sym g.1.1.1.1)
-    (added_object told linkage modules name names asked between asked' h modules' g made)
-
--- the file of the next module ends the link
-pub ends_in_turn : (told : Option Files) (linkage : LinkMap) (modules : List Object) (name : Word) (names : List Word)
-    (asked between : Option LoadList) → HasAdded told linkage modules (name ∷ names) asked between
-    → (a : Answer) → EndsWithFile told modules name a → LinksFiles told linkage [] linkage.files a
-ends_in_turn told linkage modules name names asked between h a g = h.answers a (g.0, (g.1.0, inl g.1.1))
-
--- its load failed
-fails_in_turn : (linkage : LinkMap) (modules : List Object) (name : Word) (names : List Word)
-    (shelf between shelf' : ShelfLog)
-    → HasAdded shelf.files linkage modules (name ∷ names) shelf.asked between.asked → LoadFails name shelf shelf'
-    → FailsInTurn linkage shelf shelf'
-fails_in_turn linkage modules name names shelf between shelf' h g = (name, (h.comes name (inl refl), g))
-
--- the loads of a link that ended there
-pub makes_to_end : (told : Option Files) (linkage : LinkMap) (modules : List Object) (name : Word) (names : List Word)
-    (asked between asked' : Option LoadList) (early : Bool) → HasAdded told linkage modules (name ∷ names) asked between
-    → ((a : Answer) × EndsWithFile told modules name a) ⊎ IsTrue early →
-    HasMade (object_load name ∷ []) between asked' → MakesInTurn told linkage early asked asked'
-makes_to_end told linkage modules name names asked between asked' early h g made = (
-  h.loads ++ object_load name ∷ [],
-  (
-    h.in_turn early (object_load name ∷ []) (inr (
-      [],
-      (
-        refl,
-        inl (
-          refl,
-          known_less ((a : Answer) × EndsWithFile told modules name a) (EndsAtFile told modules name)
-              (IsTrue early) (λ x. (x.1.0, (x.1.1.0, (x.0, x.1.1.1)))) g,
-        ),
-      ),
-    )),
-    made_more h.loads (object_load name ∷ []) asked between asked' h.made made,
-  ),
-)
-
--- THE NEXT FILE OF A LOOP, by its name, over a shelf that tells what it told
-
--- the rest of the files begins with the next one
-at_file : (told : Option Files) (linkage : LinkMap) (modules : List Object) (files : List Word) (i : ℕ) (file : Word)
-    (asked between : Option LoadList) → i < length files → file ≡ get_or files i file
-    → HasAdded told linkage modules (drop i files) asked between →
-    HasAdded told linkage modules (file ∷ drop (i + 1) files) asked between
-at_file told linkage modules files i file asked between within is h =
-    subst (λ rest. HasAdded told linkage modules rest asked between) (drop_more files i file within
-    ∙ ap (λ f. f ∷ drop (i + 1) files) (sym is)) h
-
--- it was added
-pub added_next : (told again : Option Files) (linkage : LinkMap) (modules modules' : List Object) (files : List Word)
-    (i : ℕ) (file name : Word) (asked between asked' : Option LoadList) → again ≡ told → name ≡ file
-    → i < length files → file ≡ get_or files i file → HasAdded told linkage modules (drop i files) asked between →
-    AddsFile again name modules modules' → HasMade (object_load name ∷ []) between asked'
-    → HasAdded told linkage modules' (drop (i + 1) files) asked asked'
-added_next told again linkage modules modules' files i file name asked between asked' e f within is h adds made =
-    added_more told linkage modules modules' file (drop (i + 1) files) asked between asked'
-    (at_file told linkage modules files i file asked between within is h)
-    (subst (λ t. AddsFile t file modules modules') e (subst (λ n. AddsFile again n modules modules') f adds))
-    (subst (λ n. HasMade (object_load n ∷ []) between asked') f made)
-
--- it ends the link
-same_end : (told again : Option Files) (modules : List Object) (file name : Word) → again ≡ told → name ≡ file →
-    (a : Answer) → EndsWithFile again modules name a → EndsWithFile told modules file a
-same_end told again modules file name e f a h = subst (λ t. EndsWithFile t modules file a) e
-    (subst (λ n. EndsWithFile again modules n a) f h)
-
-pub ends_next : (told again : Option Files) (linkage : LinkMap) (modules : List Object) (files : List Word) (i : ℕ)
-    (file name : Word) (asked between : Option LoadList) → again ≡ told → name ≡ file
-    → i < length files → file ≡ get_or files i file → HasAdded told linkage modules (drop i files) asked between →
-    (a : Answer) → EndsWithFile again modules name a → LinksFiles told linkage [] linkage.files a
-ends_next told again linkage modules files i file name asked between e f within is h a g =
-    ends_in_turn told linkage modules file (drop (i + 1) files) asked between
-    (at_file told linkage modules files i file asked between within is h) a
-    (same_end told again modules file name e f a g)
-
--- its load failed
-pub fails_next : (linkage : LinkMap) (modules : List Object) (files : List Word) (i : ℕ) (file name : Word)
-    (shelf between shelf' : ShelfLog) → name ≡ file
-    → i < length files → file ≡ get_or files i file
-    → HasAdded shelf.files linkage modules (drop i files) shelf.asked between.asked → between.failures ≡ shelf.failures
-    → LoadFails name between shelf' → FailsInTurn linkage shelf shelf'
-fails_next linkage modules files i file name shelf between shelf' f within is h e g =
-    fails_in_turn linkage modules file (drop (i + 1) files) shelf between shelf'
-    (at_file shelf.files linkage modules files i file shelf.asked between.asked within is h)
-    (subst (λ b. Rose b shelf'.failures) e g.0, g.1 ∙ ap Some f)
-
--- the loads up to there
-pub makes_next : (told again : Option Files) (linkage : LinkMap) (modules : List Object) (files : List Word) (i : ℕ)
-    (file name : Word) (asked between asked' : Option LoadList) (early : Bool) → again ≡ told → name ≡ file
-    → i < length files → file ≡ get_or files i file → HasAdded told linkage modules (drop i files) asked between →
-    ((a : Answer) × EndsWithFile again modules name a) ⊎ IsTrue early
-    → HasMade (object_load name ∷ []) between asked' → MakesInTurn told linkage early asked asked'
-makes_next told again linkage modules files i file name asked between asked' early e f within is h g made =
-    makes_to_end told linkage modules file (drop (i + 1) files) asked between asked' early
-    (at_file told linkage modules files i file asked between within is h)
-    (known_less ((a : Answer) × EndsWithFile again modules name a) ((a : Answer) × EndsWithFile told modules file a)
-    (IsTrue early) (λ x. (x.0, same_end told again modules file name e f x.0 x.1)) g)
-    (subst (λ n. HasMade (object_load n ∷ []) between asked') f made)
-
 -- no call that went well failed to load
 pub ok_no_err : {A B : Type 0} (x : A) (y : B) (r s : Result A B) → r ≡ Ok x → s ≡ Err y → r ≡ s → ⊥
 ok_no_err x y r s a b e = cc
-
--- all were added
-pub links_all : (told : Option Files) (linkage : LinkMap) (modules : List Object) (asked asked' : Option LoadList) →
-    HasAdded told linkage modules [] asked asked' → (a : Answer) → LinksAdded linkage modules a →
-    LinksFiles told linkage [] linkage.files a
-links_all told linkage modules asked asked' h a is = h.answers a is
-
-pub makes_all : (told : Option Files) (linkage : LinkMap) (modules : List Object) (asked asked' : Option LoadList)
-    (early : Bool) → HasAdded told linkage modules [] asked asked' → MakesInTurn told linkage early asked asked'
-makes_all told linkage modules asked asked' early h = (
-  h.loads,
-  (
-    subst (λ ls. LoadsInTurn told (IsTrue early) [] linkage.files ls) (append-nil h.loads)
-        (h.in_turn early [] refl),
-    h.made,
-  ),
-)
-
-pub as_many : (told : Option Files) (linkage : LinkMap) (modules : List Object) (asked asked' : Option LoadList) →
-    HasAdded told linkage modules [] asked asked' → length modules ≡ length linkage.files
-as_many told linkage modules asked asked' h = omega (arith, h.count)
 
 -- THE LINKED OBJECT
 
@@ -417,7 +232,7 @@ failed_module name text shelf shelf' file x =
     let comes = inr (record { text = text; is_file = file; linkage = x.0; is_map = x.1.0; in_turn = x.1.1.1.0 }) in
     (m.0, (m.1.0, record { file = x.1.1.0; comes = comes; fails = x.1.1.1.1 }))
 
--- the same where the files are told, and the text lent, after the load of the map
+-- the same if the files are known, and the text lent, after the load of the map
 pub failed_between : (name : Word) (text lent : List ℕ) (shelf between shelf' : ShelfLog) → between.files ≡ shelf.files
     → lent ≡ text → between.failures ≡ shelf.failures → IsToldFile shelf.files name text
     → (linkage : LinkMap) × (IsMap lent linkage × FailsInTurn linkage between shelf')

@@ -27,7 +27,7 @@ zero_first : (bytes : List ℕ) → AreBytes bytes → AreBytes (0 ∷ bytes)
 zero_first bytes h zero = omega arith
 zero_first bytes h (suc i) = h i
 
--- numbers of which each one in the list is a byte
+-- numbers each of which is a byte, in a list
 pub within_bytes : (bytes : List ℕ) → ((i : ℕ) → i < length bytes → get_or bytes i 0 < 256) → AreBytes bytes
 within_bytes [] h i = omega arith
 within_bytes (x ∷ xs) h zero = h 0 (omega arith)

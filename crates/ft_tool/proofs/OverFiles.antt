@@ -27,7 +27,7 @@ module _ (r : Request) (file : Word) (limit : ℕ) (Over : List ℕ → Answer �
       let s = some_script left in
       (m.0, (m.1.0, (s.0, (s.1.0, one.answers shelf.files m.0 s.0 bytes a m.1.1 is))))
 
-  -- the file alone was loaded
+  -- only the file was loaded
   loads_alone : (early : Bool) → HasMade ((name, bound) ∷ []) shelf.asked shelf'.asked
       → OfFiles shelf.files (λ files. LoadsFor r shelf.files files (IsTrue early) shelf.asked shelf'.asked)
   loads_alone early made =

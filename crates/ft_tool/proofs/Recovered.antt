@@ -85,7 +85,7 @@ module _ (r : Run) (o : Object) (w : List Wild) (old mid new : SinkLog) (spelled
       subst (λ x. BreaksOff (RecoversObject r o) old x) (lines_none mid ∙ sym more) (recovery_breaks put)
   recovery_ends recoveries.NoMemory status restart put more = more ∙ sym (lines_none mid) ∙ put
 
-  -- and where the put of that line failed
+  -- and if the put of that line failed
   pub recovery_breaks_late : (e : RecoverEnd) → Restarts e (restart_output o r.strike w r.steps)
       → Puts (put_end e) (whole_output o w r.steps) old mid → LinesBreakOff (again_lines (again_of e)) mid new
       → BreaksOff (RecoversObject r o) old new

@@ -1,4 +1,4 @@
--- Only words that are no command end with status 2.
+-- Only words that are not a command end with status 2.
 use Rattle.std.proofs.Common.{◌≡◌, ◌∙◌, ℕ, Bool, true, false, List, [], ◌∷◌, ◌++◌, Option, Some, None, inl, inr, refl}
 use Rattle.std.proofs.Common.{ap, arith, if◌then◌else◌}
 use Rattle.std.specs.Prelude.{◌⊎◌}
@@ -31,7 +31,7 @@ use Rattle.ft_tool.specs.Links.{LinksText}
 use Rattle.ft_tool.specs.Answers.{RunsUnless, RecoversUnless, AssemblesAs, SchedulesUnless, CampaignsUnless}
 use Rattle.ft_tool.specs.Answers.{CampaignsAccepted, SurveysObject, TrialsObject, DisassemblesObject, Answers}
 
--- an answer has the status of what it is
+-- an answer has the status of its kind
 same_status : (n : ℕ) (piece : List ℕ) (a : Answer) → a ≡ one_piece piece n → 2 ≡ a.status → 2 ≡ n
 same_status n piece a is e = e ∙ ap (λ (r : Answer). r.status) is
 

@@ -37,13 +37,13 @@ whole_script (Some old) (Some between) (Some new) text n buf taken none more end
     let rest : between ≡ [] = more ∙ ap (λ k. take k buf ++ new) none ∙ end in
     sym (taken ∙ ap (λ l. text ++ l) rest ∙ append-nil text)
 
--- a text of bytes that is what is told is the script
+-- a revealed text of bytes is the script
 is_script : (left : Option (List ℕ)) (text : List ℕ) → AreBytes text → IfSome left (λ told. text ≡ told) →
     IsScript left text
 is_script None text bytes h = bytes
 is_script (Some told) text bytes h = h
 
--- a script of which more was taken than the limit is longer
+-- if more than the limit was taken of a script, it is longer than the limit
 pub longer_script : (old new : Option (List ℕ)) (taken : List ℕ) → Consumes old new taken → 1048576 < length taken →
     (text : List ℕ) × (IsScript old text × (1048576 < length text))
 longer_script None new taken h long = longer_bytes 1048576
@@ -62,7 +62,7 @@ session_concludes d o w text old new short is h = record {
   status_is = refl;
 }
 
--- a session of whose lines a put failed
+-- a session with a line whose put failed
 pub session_breaks_off : (d : Debugging) (o : Object) (w : List Wild) (text : List ℕ) (old new : SinkLog)
     → length text ≤ 1048576 → w ≡ d.wild
     → PutsSession PutFailed o w text old new → BreaksOff (DebugsObject d text o) old new

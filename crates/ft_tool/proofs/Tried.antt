@@ -56,7 +56,7 @@ tried_concludes Promised c o faults totals status old new h few keeps is = recor
   status_is = is h.found h.totals_are;
 }
 
--- a campaign of whose lines a front was written
+-- a campaign whose lines were written up to some place
 pub tried_breaks_off : (Promised : List Verdict → Type 0) (c : Campaign) (o : Object) (faults : List Strike)
     (old new : SinkLog)
     → Stops o faults c.wild c.steps old new → length faults * c.steps ≤ 1000000000
@@ -103,7 +103,7 @@ over_refused_list faults_of Promised c told bytes o list_faults.TooMany h a is =
 over_refused_list faults_of Promised c told bytes o list_faults.Failed h a is = absurd is
 over_refused_list faults_of Promised c told bytes o list_faults.NoMemory h a is = absurd is
 
--- the answer over the list is one over its file, where the object's file has these bytes
+-- the answer over the list is one over its file, if the object's file has these bytes
 with_list : (Promised : List Verdict → Type 0) (c : Campaign) (told : Option Files) (bytes : List ℕ) (o : Object)
     (a : Answer) → IsToldFile told c.object bytes → OverListOf Promised c told bytes o a
     → OfFiles told (λ files. IsFile files c.object bytes × OverListFile Promised c files o a)
@@ -135,7 +135,7 @@ over_struck c told bytes h a is =
     let m = with_strikes (refusal (object_of bytes)) c told bytes (object_of bytes) a h.0 is in
     (m.0, (m.1.0, (bytes, (m.1.1.0, inl (object_of bytes, ((version_at bytes, h.1), m.1.1.1))))))
 
--- the same where the files are told, and the bytes lent, after the load
+-- the same if the files are known, and the bytes lent, after the load
 pub own_bytes : (told between : Option Files) (name : Word) (bytes lent : List ℕ) → between ≡ told → lent ≡ bytes →
     LoadsObject told name (Ok bytes) → IsToldFile between name lent
 own_bytes told between name bytes lent e f h = subst (λ t. IsToldFile t name lent) (sym e)

@@ -29,20 +29,19 @@ use Rattle.ft_tool.specs.Objects.{refused, judged, OverBytes, UpgradesObject}
 use Rattle.ft_tool.specs.Links.{LinksFile, ComesToModule}
 use Rattle.ft_tool.specs.Demonstrations.{ShowsSample}
 
--- words that are no command
+-- words that are not a command
 abbrev pub usage : Answer
 usage = one_piece (codes "usage\n") 2
 
--- the run of an object for so many steps under a plan
+-- the run of an object for n steps under a plan
 abbrev pub tried : Run → Object → Answer
 tried r o = ran o (run o r.strike r.wild r.steps)
 
 abbrev pub checked : Object → Answer
 checked o = judged (refusal o)
 
--- the run under a plan stands what the plan does to it: after each number of steps it has the outputs and the status of
--- the run without the strike, or it is detected and its outputs begin those; and the run without the strike is detected
--- after no number of steps
+-- the run withstands its plan: after each number of steps it has the outputs and the status of the run without the
+-- strike, or it is detected and its outputs are a prefix of those; and the run without the strike is never detected
 pub record Withstands (o : Object) (strike : Option Strike) (w : List Wild) : Type 0 where
   pub agrees : (n : ℕ) → Agrees (outputs_after o strike w n) (status_after o strike w n) (outputs_after o None w n) (status_after o None w n)
   pub undetected : IsNeverDetected o w
@@ -52,7 +51,7 @@ abbrev pub RunsUnless : Option Refusal → Run → Object → Answer → Type 0
 RunsUnless None r o a = (a ≡ tried r o) × Withstands o r.strike r.wild
 RunsUnless (Some x) r o a = a ≡ judged (Some x)
 
--- the line of a restart, where there was one
+-- the line of a restart, if there was one
 abbrev pub again_lines : Option ℕ → List (List ℕ)
 again_lines None = []
 again_lines (Some n) = again_line n ∷ []
@@ -64,8 +63,7 @@ recovered r o = record {
   status = status_of_run (status_after o None r.wild r.steps);
 }
 
--- the recovery of an object that is accepted, whose run without a fault is detected after no number of steps; or why the
--- object is refused
+-- the recovery of an object that is accepted, whose run without a fault is never detected; or why the object is refused
 abbrev pub RecoversUnless : Option Refusal → Run → Object → Answer → Type 0
 RecoversUnless None r o a = (a ≡ recovered r o) × IsNeverDetected o r.wild
 RecoversUnless (Some x) r o a = a ≡ judged (Some x)
@@ -91,8 +89,8 @@ RecoversObject r o a = RecoversUnless (refusal o) r o a
 abbrev pub DisassemblesObject : Object → Answer → Type 0
 DisassemblesObject o a = a ≡ one_piece (text_of o) 0
 
--- the answer of an assembly by what is said of the text: the bytes of its object in version 2 of the format, or the line of the
--- refusal
+-- the answer of an assembly by the outcome of the text: the bytes of its object in version 2 of the format, or the line
+-- of the refusal
 abbrev pub AssemblesAs : Said → Answer → Type 0
 AssemblesAs (Is o) a = UpgradesObject o a
 AssemblesAs TooLong a = a ≡ one_piece (asm_line 3 134217728) 12
@@ -116,7 +114,7 @@ pub record SchedulesAccepted (o : Object) (a : Answer) : Type 0 where
   pub scheduled : IsScheduled o schedule
   pub written : UpgradesObject schedule a
 
--- the answer of a schedule, which is the refusal of an object that is not accepted
+-- the answer of a schedule: the refusal of an object that is not accepted
 abbrev pub SchedulesUnless : Option Refusal → Object → Answer → Type 0
 SchedulesUnless None o a = SchedulesAccepted o a
 SchedulesUnless (Some x) o a = a ≡ judged (Some x)
@@ -132,12 +130,12 @@ OverListFile Promised c files o a = (list : List ℕ) × (IsFile files c.faults 
 abbrev pub SurveysObject : Campaign → Files → Object → Answer → Type 0
 SurveysObject c files o a = OverListFile AnyVerdicts c files o a
 
--- the answer of a campaign over an object that is accepted: no verdict is corrupt, and the run without a fault is detected
--- after no number of steps
+-- the answer of a campaign over an object that is accepted: no verdict is corrupt, and the run without a fault is never
+-- detected
 abbrev pub CampaignsAccepted : Campaign → Files → Object → Answer → Type 0
 CampaignsAccepted c files o a = OverListFile NoneCorrupt c files o a × IsNeverDetected o c.wild
 
--- the answer of a campaign, which is the refusal of an object that is not accepted
+-- the answer of a campaign: the refusal of an object that is not accepted
 abbrev pub CampaignsUnless : Option Refusal → (Answer → Type 0) → Answer → Type 0
 CampaignsUnless None Accepted a = Accepted a
 CampaignsUnless (Some r) Accepted a = a ≡ judged (Some r)
@@ -150,8 +148,8 @@ CampaignsObject c files o a = CampaignsUnless (refusal o) (CampaignsAccepted c f
 abbrev pub OverSource : (Program → Answer → Type 0) → Word → Files → Answer → Type 0
 OverSource Over name files a = (text : List ℕ) × (IsFile files name text × OverText Over text a)
 
--- the answer of a command over files and a script. Over a shelf that tells no files, a link may load a name more than once
--- with other bytes each time, so its answer is over what is told
+-- the answer of a command over files and a script. If a shelf does not reveal its files, a link may load a name more
+-- than once with other bytes each time, so its answer is over what is revealed
 abbrev pub Answers : Request → Option Files → Files → List ℕ → Answer → Type 0
 Answers Usage told files script a = a ≡ usage
 Answers (Checks name) told files script a = OverFile ChecksObject name files a
@@ -171,8 +169,8 @@ Answers (Disassembles name) told files script a = OverFile DisassemblesObject na
 Answers (Schedules name) told files script a = OverFile SchedulesObject name files a
 Answers (Links name) told files script a = LinksFile told name a
 
--- the answer of the command that the words ask for, over the files and the script that are told; of what is not told, over
--- some files of bytes, and some script of bytes. One map of files serves all loads, so a name has one content
+-- the answer of the command that the words ask for, with the revealed files and script, or else with some files and
+-- some script. One map of files serves all loads, so a name has one content
 pub record IsAnswer (words : List Word) (told : Option Files) (left : Option (List ℕ)) (a : Answer) : Type 0 where
   pub request : Request
   pub asks : Asks words request
@@ -182,7 +180,7 @@ pub record IsAnswer (words : List Word) (told : Option Files) (left : Option (Li
   pub is_script : IsScript left script
   pub answers : Answers request told files script a
 
--- all pieces of an answer were put, by one put each, and this is its status
+-- all pieces of an answer were put, with one put each, and this is its status
 pub record Concludes (Is : Answer → Type 0) (status : ℕ) (old new : SinkLog) : Type 0 where
   pub answer : Answer
   pub is : Is answer
@@ -203,7 +201,7 @@ SpellsFile files name = (bytes : List ℕ) × (IsFile files name bytes × ((o : 
 abbrev pub SpellsAccepted : Files → Word → Type 0
 SpellsAccepted files name = (bytes : List ℕ) × (IsFile files name bytes × ((o : Object) × (IsSpelling bytes o × (refusal o ≡ None))))
 
--- a request comes to load this file: no earlier step of it refuses
+-- a request gets to loading this file: no earlier step of it refuses
 abbrev pub ComesTo : Request → Option Files → Files → Word → Type 0
 ComesTo Usage told files file = ⊥
 ComesTo (Checks object) told files file = file ≡ object
@@ -223,14 +221,14 @@ ComesTo (Disassembles object) told files file = file ≡ object
 ComesTo (Schedules object) told files file = file ≡ object
 ComesTo (Links name) told files file = (file ≡ name) ⊎ ComesToModule told name file
 
--- a request came to load a file, and that load failed
+-- a request got to loading a file, and that load failed
 pub record FailsIn (request : Request) (files : Files) (old new : ShelfLog) : Type 0 where
   pub file : Word
   pub comes : ComesTo request old.files files file
   pub fails : LoadFails file old new
 
--- the words ask for a command that came to load a file, by the files that are told or by some files of bytes, and that load
--- failed
+-- the words ask for a command that got to loading a file, with the revealed files or else with some files of bytes, and
+-- that load failed
 pub record FailedToLoad (words : List Word) (old new : ShelfLog) : Type 0 where
   pub request : Request
   pub asks : Asks words request
@@ -238,14 +236,14 @@ pub record FailedToLoad (words : List Word) (old new : ShelfLog) : Type 0 where
   pub are_files : AreFiles old.files files
   pub fails : FailsIn request files old new
 
--- a request came to its script: no earlier step of it refuses; a take of the script failed, and the count of failed
+-- a request got to its script: no earlier step of it refuses; a take of the script failed, and the count of failed
 -- takes rose
 pub record FailsAtScript (d : Debugging) (files : Files) (old new : SourceLog) : Type 0 where
   pub rose : Rose old.failures new.failures
   pub comes : SpellsFile files d.object
 
--- the words ask for a session that came to its script, by the files that are told or by some files of bytes, and a take of
--- the script failed
+-- the words ask for a session that got to its script, with the revealed files or else with some files of bytes, and a
+-- take of the script failed
 pub record FailedToTake (words : List Word) (told : Option Files) (old new : SourceLog) : Type 0 where
   pub debugging : Debugging
   pub asks : Asks words (Debugs debugging)
@@ -253,6 +251,6 @@ pub record FailedToTake (words : List Word) (told : Option Files) (old new : Sou
   pub are_files : AreFiles told files
   pub fails : FailsAtScript debugging files old new
 
--- the statuses that there are
+-- the statuses
 abbrev pub is_status : ℕ → Bool
 is_status n = list_any (λ s. s == n) (0 ∷ 1 ∷ 2 ∷ 3 ∷ 4 ∷ 5 ∷ 6 ∷ 7 ∷ 8 ∷ 9 ∷ 10 ∷ 11 ∷ 12 ∷ 13 ∷ [])

@@ -1,4 +1,4 @@
--- What a demonstration answers.
+-- What a demonstration writes and returns.
 use Rattle.std.specs.Prelude.{◌≡◌, ℕ, List, []}
 use Rattle.ft_tolerance.specs.Soundness.{IsNeverDetected}
 use Rattle.ft_campaign.specs.declared.verdict.Verdict.{Verdict}
@@ -7,8 +7,8 @@ use Rattle.ft_demo.specs.Demonstrations.{AreDemoVerdicts, demo_lines}
 use Rattle.ft_tool.specs.Lists.{NoneCorrupt}
 use Rattle.ft_tool.specs.Replies.{Answer}
 
--- the answer of a demonstration of so many turns: the line of the outputs, and the last line of the campaign, of whose
--- verdicts none is corrupt; the run without a fault is detected after no number of steps
+-- the answer of a demonstration of n turns: the line of the outputs, and the last line of the campaign, with no corrupt
+-- verdict; the run without a fault is never detected
 pub record ShowsSample (turns : ℕ) (a : Answer) : Type 0 where
   pub found : List Verdict
   pub verdicts : AreDemoVerdicts (sample_object turns) found

@@ -18,7 +18,7 @@ pub data PartEnd : Type 0 where
   Unloaded : PartEnd
   -- at a put of its answer that failed
   Unwritten : PartEnd
-  -- where memory ran out
+  -- when memory ran out
   Unfinished : PartEnd
 
 abbrev pub part_end : Ending → PartEnd
@@ -47,32 +47,32 @@ is_early_end Unfinished = true
 abbrev pub ends_early : Ending → Bool
 ends_early e = is_early_end (part_end e)
 
--- what such an end says of the answer, what is told of the sink, and a failed load
+-- what such an end says about the answer, the sink's record, and a failed load
 abbrev pub EndsSo : PartEnd → (Answer → Type 0) → SinkLog → SinkLog → Type 0 → Type 0
 EndsSo (Concluded status) Is old new Load = Concludes Is status old new
 EndsSo Unloaded Is old new Load = (new ≡ old) × Load
 EndsSo Unwritten Is old new Load = BreaksOff Is old new
 EndsSo Unfinished Is old new Load = new ≡ old
 
--- what an ending says of them
+-- what an ending says about them
 abbrev pub Ends : Ending → (Answer → Type 0) → SinkLog → SinkLog → Type 0 → Type 0
 Ends e Is old new Load = EndsSo (part_end e) Is old new Load
 
--- how a command ends whose run ended so
+-- how a command ends, from how its run ended
 abbrev pub ending_of_run : RunEnd → Ending
 ending_of_run runs.Done = Done
 ending_of_run runs.Detected = Detected
 ending_of_run runs.OutOfSteps = OutOfSteps
 ending_of_run runs.WriteFault = WriteFailed
 
--- the restart that a recovery tells
+-- the restart that a recovery reports
 abbrev pub again_of : RecoverEnd → Option ℕ
 again_of (recoveries.Done again) = again
 again_of (recoveries.OutOfSteps again) = again
 again_of recoveries.WriteFault = None
 again_of recoveries.NoMemory = None
 
--- how a command ends whose recovery ended so
+-- how a command ends, from how its recovery ended
 abbrev pub ending_of_recovery : RecoverEnd → Ending
 ending_of_recovery (recoveries.Done again) = Done
 ending_of_recovery (recoveries.OutOfSteps again) = OutOfSteps

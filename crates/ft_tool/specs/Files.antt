@@ -1,4 +1,4 @@
--- What loading a command's file gives: private to the code.
+-- The results of loading a command's file: private to the code.
 use Rattle.std.specs.Prelude.{◌≡◌, ℕ, ◌<◌, ◌≤◌, List, length, Option, Some, Result, Ok, Err}
 use Rattle.ft_edge.specs.declared.shelf.Load.{Load}
 use Rattle.ft_edge.specs.declared.shelf.Load.TheVariants.{Whole, TooLong}
@@ -36,7 +36,7 @@ use Rattle.ft_tool.specs.declared.load.ListFault.TheVariants as list_faults
 use Rattle.ft_tool.specs.declared.load.ObjectFault.{ObjectFault}
 use Rattle.ft_tool.specs.declared.load.ObjectFault.TheVariants.{Refused, Failed, NoMemory}
 
--- what a load gave: the file's bytes, or that they are more than the limit
+-- the result of a load: the file's bytes, or that they are more than the limit
 abbrev pub Gives : Option Files → Word → ℕ → List ℕ → Result Load LoadFault → Type 0
 Gives files name limit into (Ok Whole) = (length into ≤ limit) × IsToldFile files name into
 Gives files name limit into (Ok TooLong) = (bytes : List ℕ) × (IsToldFile files name bytes × (limit < length bytes))
@@ -53,7 +53,7 @@ RefusesFile files name (Refused e) = (bytes : List ℕ) × (IsToldFile files nam
 RefusesFile files name Failed = Unit {0}
 RefusesFile files name NoMemory = Unit {0}
 
--- the file's bytes, or the rule that they break by their number
+-- the file's bytes, or the number of the rule that they break
 abbrev pub LoadsBytes : {V : Type 0} → Option Files → Word → List ℕ → Result V ObjectFault → Type 0
 LoadsBytes files name into (Ok v) = IsToldFile files name into
 LoadsBytes files name into (Err e) = RefusesFile files name e
@@ -63,13 +63,13 @@ abbrev pub LoadsObject : Option Files → Word → Result (List ℕ) ObjectFault
 LoadsObject files name (Ok bytes) = IsToldFile files name bytes × Spells bytes (version_at bytes) (object_of bytes)
 LoadsObject files name (Err e) = RefusesFile files name e
 
--- a load that failed shows in the count and left its name; any other fault leaves both as they were
+-- a load that failed shows in the count and is recorded as the last; any other fault leaves both unchanged
 abbrev pub FaultCause : Word → ObjectFault → ShelfLog → ShelfLog → Type 0
 FaultCause name (Refused e) old new = NoLoadFails old new
 FaultCause name Failed old new = LoadFails name old new
 FaultCause name NoMemory old new = NoLoadFails old new
 
--- so does any other answer
+-- so does any other result
 abbrev pub LoadCause : {V : Type 0} → Word → Result V ObjectFault → ShelfLog → ShelfLog → Type 0
 LoadCause name (Ok v) old new = NoLoadFails old new
 LoadCause name (Err e) old new = FaultCause name e old new
@@ -87,7 +87,7 @@ IsNotAccepted (checks.CellType k) a = a ≡ judged (Some (accepted.CellType k))
 IsNotAccepted (checks.Refused b i why) a = a ≡ judged (Some (accepted.Refused b i why))
 IsNotAccepted checks.NoMemory a = ⊥
 
--- the text is that of these faults, or is no fault list
+-- the text is that of these faults, or is not a fault list
 abbrev pub ReadsList : {V : Type 0} → (V → List Strike) → List ℕ → Result V ListFault → Type 0
 ReadsList faults_of list (Ok v) = IsFaultList list (faults_of v)
 ReadsList faults_of list (Err (list_faults.Line number)) = IsListError list (lists.Line number)
@@ -95,7 +95,7 @@ ReadsList faults_of list (Err list_faults.TooMany) = IsListError list lists.TooM
 ReadsList faults_of list (Err list_faults.Failed) = ⊥
 ReadsList faults_of list (Err list_faults.NoMemory) = Unit {0}
 
--- a fault list that is one of these texts is that of these faults, or is none
+-- a fault list that is one of these texts is that of these faults, or is not one
 abbrev pub GetsList : {V : Type 0} → (V → List Strike) → (List ℕ → Type 0) → Result V ListFault → Type 0
 GetsList faults_of Is (Ok v) = (list : List ℕ) × (Is list × IsFaultList list (faults_of v))
 GetsList faults_of Is (Err (list_faults.Line number)) = (list : List ℕ) × (Is list × IsListError list (lists.Line number))
@@ -103,7 +103,7 @@ GetsList faults_of Is (Err list_faults.TooMany) = (list : List ℕ) × (Is list 
 GetsList faults_of Is (Err list_faults.Failed) = Unit {0}
 GetsList faults_of Is (Err list_faults.NoMemory) = Unit {0}
 
--- a load of a list that failed shows in the count and left its name; any other answer leaves both as they were
+-- a load of a list that failed shows in the count and is recorded as the last; any other result leaves both unchanged
 abbrev pub ListCause : {V : Type 0} → Word → Result V ListFault → ShelfLog → ShelfLog → Type 0
 ListCause name (Ok v) old new = NoLoadFails old new
 ListCause name (Err (list_faults.Line number)) old new = NoLoadFails old new

@@ -25,7 +25,7 @@ pub record AddsObject (modules : List Object) (o : Object) (modules' : List Obje
   pub unrefused : added_refusal modules o ≡ None
   pub added : modules' ≡ modules ++ o ∷ []
 
--- these modules of a map were added; what the rest of its files comes to, all of its files come to
+-- these modules of a map were added; however its remaining files end, all of its files end
 pub record HasAdded (told : Option Files) (linkage : LinkMap) (modules : List Object) (rest : List Word) (asked asked' : Option LoadList) : Type 0 where
   pub loads : LoadList
   pub made : HasMade loads asked asked'
@@ -34,7 +34,7 @@ pub record HasAdded (told : Option Files) (linkage : LinkMap) (modules : List Ob
   pub comes : (file : Word) → ComesInTurn told modules rest file → ComesInTurn told [] linkage.files file
   pub in_turn : (early : Bool) (more : LoadList) → LoadsInTurn told (IsTrue early) modules rest more → LoadsInTurn told (IsTrue early) [] linkage.files (loads ++ more)
 
--- a load of a module's file failed, to which the link came
+-- a load of a module's file failed, and the link got to it
 abbrev pub FailsInTurn : LinkMap → ShelfLog → ShelfLog → Type 0
 FailsInTurn linkage old new = (file : Word) × (ComesInTurn old.files [] linkage.files file × LoadFails file old new)
 
@@ -42,7 +42,7 @@ FailsInTurn linkage old new = (file : Word) × (ComesInTurn old.files [] linkage
 abbrev pub MakesInTurn : Option Files → LinkMap → Bool → Option LoadList → Option LoadList → Type 0
 MakesInTurn told linkage early asked asked' = (loads : LoadList) × (LoadsInTurn told (IsTrue early) [] linkage.files loads × HasMade loads asked asked')
 
--- the loads that were made after a map's text was read: none, where the text ends the link or the call ended early, or
+-- the loads that were made after a map's text was read: none, if the text ends the link or the call ended early, or
 -- those of its modules
 abbrev pub MakesOfText : Option Files → List ℕ → Bool → Option LoadList → Option LoadList → Type 0
 MakesOfText told text early asked asked' =

@@ -1,4 +1,4 @@
--- What a link answers over the text of a link map and the files of its modules.
+-- The answers of a link over the text of a link map and the files of its modules.
 use Rattle.std.specs.Prelude.{◌≡◌, ◌⊎◌, ℕ, ◌<◌, ◌≤◌, List, [], ◌∷◌, ◌++◌, length, Option, Some, None}
 use Rattle.ft_edge.specs.Loads.{Files}
 use Rattle.ft_isa.specs.declared.plan.Strike.{Strike}
@@ -23,7 +23,7 @@ use Rattle.ft_tool.specs.Objects.{refused, judged, UpgradesObject}
 
 -- THE MAP
 
--- what is said of a text as a link map, which has at most 65,536 bytes
+-- the outcome of a text as a link map; the text has at most 65,536 bytes
 pub record SaysOf (text : List ℕ) (said : Said) : Type 0 where
   pub short : length text ≤ 65536
   pub lines : List MapLine
@@ -51,7 +51,7 @@ pub data EndsAtObject (modules : List Object) (o : Object) (a : Answer) : Type 0
   not_accepted : (r : Refusal) → refusal o ≡ Some r → a ≡ judged (Some r) → EndsAtObject modules o a
   not_added : refusal o ≡ None → (r : LinkRefusal) → added_refusal modules o ≡ Some r → a ≡ unlinked r → EndsAtObject modules o a
 
--- the bytes of a module's file do: they spell no object, or one that does
+-- the link ends with this answer to the bytes of a module's file: they spell no object, or a refused one
 pub data EndsAtBytes (modules : List Object) (bytes : List ℕ) (a : Answer) : Type 0 where
   no_object : (e : ObjectError) → broken bytes ≡ Some e → a ≡ refused e → EndsAtBytes modules bytes a
   no_module : (o : Object) → IsSpelling bytes o → EndsAtObject modules o a → EndsAtBytes modules bytes a
@@ -64,9 +64,9 @@ pub record IsAdded (modules : List Object) (bytes : List ℕ) (o : Object) : Typ
 
 -- THE LINKED OBJECT
 
--- the answer is the object that the map links of the modules: its bytes in version 2 of the format, in one piece. It is
--- accepted; without a fault its run has after each number of steps the outputs and the status of the modules' run, and
--- with one it has them, too, or it is detected and its outputs begin those
+-- the answer is the object that the map makes of the modules: its bytes in version 2 of the format, in one piece. It is
+-- accepted; after each number of steps its run has the outputs and the status of the modules' run; with a fault it has
+-- them, too, or it is detected and its outputs are a prefix of those
 pub record LinksObject (linkage : LinkMap) (first : Object) (others : List Object) (a : Answer) : Type 0 where
   pub accepted : IsAccepted (linked linkage first others)
   pub outputs : (n : ℕ) → outputs_after (linked linkage first others) None [] n ≡ modules_outputs linkage first others n
@@ -74,12 +74,12 @@ pub record LinksObject (linkage : LinkMap) (first : Object) (others : List Objec
   pub tolerates : (strike : Option Strike) (w : List Wild) (n : ℕ) → Agrees (outputs_after (linked linkage first others) strike w n) (status_after (linked linkage first others) strike w n) (modules_outputs linkage first others n) (modules_status linkage first others n)
   pub written : UpgradesObject (linked linkage first others) a
 
--- unless the map refuses them
+-- this holds unless the map refuses them
 abbrev pub LinksUnless : Option LinkRefusal → LinkMap → Object → List Object → Answer → Type 0
 LinksUnless None linkage first others a = LinksObject linkage first others a
 LinksUnless (Some r) linkage first others a = a ≡ unlinked r
 
--- the answer over modules that were all added, of which there is one at least
+-- the answer over modules that were all added, at least one
 abbrev pub LinksAdded : LinkMap → List Object → Answer → Type 0
 LinksAdded linkage [] a = ⊥
 LinksAdded linkage (first ∷ others) a = LinksUnless (link_refusal linkage first others) linkage first others a
@@ -98,20 +98,21 @@ LinksFiles told linkage modules (name ∷ names) a =
 abbrev pub LinksText : Option Files → List ℕ → Answer → Type 0
 LinksText told text a = EndsAtMap text a ⊎ ((linkage : LinkMap) × (IsMap text linkage × LinksFiles told linkage [] linkage.files a))
 
--- the answer over the map in the file of a name. Where the shelf tells no files, the file of each load may have any bytes
+-- the answer over the map in the file of a name. If the shelf does not reveal its files, the file of each load may have
+-- any bytes
 abbrev pub LinksFile : Option Files → Word → Answer → Type 0
 LinksFile told name a = (text : List ℕ) × (IsToldFile told name text × LinksText told text a)
 
 -- LOADS
 
--- a link comes to load this file of further modules: each module before it was added
+-- a link gets to loading this file of further modules: each module before it was added
 abbrev pub ComesInTurn : Option Files → List Object → List Word → Word → Type 0
 ComesInTurn told modules [] file = ⊥
 ComesInTurn told modules (name ∷ names) file =
     (file ≡ name)
     ⊎ ((bytes : List ℕ) × (IsToldFile told name bytes × ((o : Object) × (IsAdded modules bytes o × ComesInTurn told (modules ++ o ∷ []) names file))))
 
--- a link comes to load this file of a module
+-- a link gets to loading this file of a module
 pub record ComesToModule (told : Option Files) (name file : Word) : Type 0 where
   pub text : List ℕ
   pub is_file : IsToldFile told name text

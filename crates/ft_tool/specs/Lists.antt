@@ -1,4 +1,4 @@
--- What a campaign answers over an object and a fault list.
+-- The answers of a campaign over an object and a fault list.
 use Rattle.std.specs.Prelude.{◌≡◌, ℕ, ◌*◌, ◌<◌, ◌≤◌, ◌==◌, if◌then◌else◌, List, length, count_by}
 use Rattle.ft_isa.specs.declared.plan.Strike.{Strike}
 use Rattle.ft_types.specs.declared.object.Object.{Object}
@@ -12,31 +12,31 @@ use Rattle.ft_command.specs.Commands.{Campaign}
 use Rattle.ft_tool.specs.Texts.{list_line}
 use Rattle.ft_tool.specs.Replies.{Answer, one_piece}
 
--- the status by the verdicts: 10 where some verdict is corrupt
+-- the status by the verdicts: 10 if some verdict is corrupt
 abbrev pub status_of : List Verdict → ℕ
 status_of vs = if count_by is_corrupt vs == 0 then 0 else 10
 
--- what is promised of the verdicts of a survey, which is nothing, and of a campaign on an accepted object
+-- the promise about the verdicts: nothing for a survey; none is corrupt for a campaign on an accepted object
 abbrev pub AnyVerdicts : List Verdict → Type 0
 AnyVerdicts vs = Unit {0}
 
 abbrev pub NoneCorrupt : List Verdict → Type 0
 NoneCorrupt vs = count_by is_corrupt vs ≡ 0
 
--- the answer to a text that is no fault list
+-- the answer to a text that is not a fault list
 abbrev pub IsListAnswer : ListError → Answer → Type 0
 IsListAnswer (lists.Line number) a = a ≡ one_piece (list_line 1 number) 11
 IsListAnswer lists.TooMany a = a ≡ one_piece (list_line 2 65536) 11
 IsListAnswer lists.NoMemory a = ⊥
 
--- the text is no fault list
+-- the text is not a fault list
 pub record IsRefusedList (list : List ℕ) (a : Answer) : Type 0 where
   pub error : ListError
   pub refused : IsListError list error
   pub answer : IsListAnswer error a
 
--- the answer of a campaign over these faults: where their number times the number of steps is above 1,000,000,000, a
--- refusal, and else the lines of the faults' verdicts, which are as promised
+-- the answer of a campaign over these faults: if their number times the number of steps is above 1,000,000,000, a
+-- refusal, else the lines of the faults' verdicts, which are as promised
 pub data OverFaults (Promised : List Verdict → Type 0) (c : Campaign) (o : Object) (faults : List Strike) (a : Answer) : Type 0 where
   too_much : 1000000000 < length faults * c.steps → a ≡ one_piece (list_line 3 (length faults * c.steps)) 11 → OverFaults Promised c o faults a
   tried : length faults * c.steps ≤ 1000000000 → (verdicts : List Verdict) → AreVerdicts o faults c.wild c.steps verdicts → Promised verdicts

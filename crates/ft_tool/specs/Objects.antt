@@ -1,4 +1,4 @@
--- What is answered over the bytes of an object.
+-- The answers over the bytes of an object.
 use Rattle.std.specs.Prelude.{◌≡◌, ◌⊎◌, ℕ, List, Option, Some, None}
 use Rattle.ft_types.specs.declared.object.Object.{Object}
 use Rattle.ft_typing.specs.Accepted.{Refusal}

@@ -20,7 +20,7 @@ pub record Answer : Type 0 where
 abbrev pub one_piece : List ℕ → ℕ → Answer
 one_piece piece status = record { pieces = piece ∷ []; status = status }
 
--- the status of a run by how the machine stands after its steps
+-- the status of a run by the machine's status after its steps
 abbrev pub status_of_run : Status → ℕ
 status_of_run machine.Done = 0
 status_of_run machine.Detected = 1
@@ -30,12 +30,12 @@ status_of_run machine.Running = 9
 abbrev pub ran : Object → Ran → Answer
 ran o r = record { pieces = output_lines o r.outputs; status = status_of_run r.state.status }
 
--- the files of a call: those that the shelf tells; where it tells none, any whose contents are bytes
+-- the files of a call: those that the shelf reveals; if it reveals none, any whose contents are bytes
 abbrev pub AreFiles : Option Files → Files → Type 0
 AreFiles (Some told) files = files ≡ told
 AreFiles None files = (name bytes : List ℕ) → get files name ≡ Some bytes → AreBytes bytes
 
--- the script of a call: what the source tells is left in it; where it tells nothing, any bytes
+-- the script of a call: the bytes that the source reveals; if it reveals none, any bytes
 abbrev pub IsScript : Option (List ℕ) → List ℕ → Type 0
 IsScript (Some told) script = script ≡ told
 IsScript None script = AreBytes script
@@ -44,11 +44,11 @@ IsScript None script = AreBytes script
 abbrev pub IsFile : Files → Word → List ℕ → Type 0
 IsFile files name bytes = get files name ≡ Some bytes
 
--- the content of the file of a name, where the shelf tells its files; else it may be any bytes
+-- the content of the file of a name, if the shelf reveals its files; else it may be any bytes
 abbrev pub IsToldFile : Option Files → Word → List ℕ → Type 0
 IsToldFile (Some told) name bytes = get told name ≡ Some bytes
 IsToldFile None name bytes = AreBytes bytes
 
--- bytes that spell an object, in whichever version of the format
+-- bytes that spell an object, in either version of the format
 abbrev pub IsSpelling : List ℕ → Object → Type 0
 IsSpelling bytes o = (v : Version) × Spells bytes v o

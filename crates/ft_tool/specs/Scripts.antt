@@ -1,4 +1,4 @@
--- What a command answers over an object and a script.
+-- The answers of a command over an object and a script.
 use Rattle.std.specs.Prelude.{◌≡◌, ℕ, ◌<◌, ◌≤◌, List, length, Option, Result, Ok, Err, IfSome}
 use Rattle.ft_edge.specs.Causes.{Rose}
 use Rattle.ft_types.specs.declared.object.Object.{Object}
@@ -27,7 +27,7 @@ TakesScript bytes_of script (Err faults.TooLong) = (text : List ℕ) × (IsScrip
 TakesScript bytes_of script (Err faults.Failed) = Unit {0}
 TakesScript bytes_of script (Err faults.NoMemory) = Unit {0}
 
--- a take that failed shows in the count, and any other answer leaves it as it was
+-- a take that failed shows in the count, and any other result leaves it unchanged
 abbrev pub TakeCause : {V : Type 0} → ℕ → ℕ → Result V ScriptFault → Type 0
 TakeCause before now (Ok v) = now ≡ before
 TakeCause before now (Err faults.TooLong) = now ≡ before

@@ -1,4 +1,4 @@
--- What a command answers over the text of a source.
+-- The answers of a command over the text of a source.
 use Rattle.std.specs.Prelude.{◌≡◌, ◌≢◌, ◌⊎◌, ℕ, List, [], None}
 use Rattle.ft_types.specs.declared.object.Object.{Object}
 use Rattle.ft_semantics.specs.Run.{run}
@@ -38,12 +38,12 @@ pub record CompilesProgram (p : Program) (a : Answer) : Type 0 where
   pub spelled : Spells bytes Second object
   pub answer : a ≡ one_piece bytes 0
 
--- the answer of an execution: the run of an object that stands for the program, for so many steps without a strike
+-- the answer of an execution: the run of an object that stands for the program, for n steps without a strike
 pub record ExecutesProgram (steps : ℕ) (p : Program) (a : Answer) : Type 0 where
   pub object : Object
   pub stands : StandsFor p object
   pub is : a ≡ ran object (run object None [] steps)
 
--- the answer of a meaning with so many turns
+-- the answer of a meaning with n turns
 abbrev pub MeansProgram : ℕ → Program → Answer → Type 0
 MeansProgram turns p a = a ≡ meant p (meaning p turns)

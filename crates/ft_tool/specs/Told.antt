@@ -9,11 +9,11 @@ use Rattle.ft_tool.specs.Lists.{NoneCorrupt, OverList}
 use Rattle.ft_tool.specs.Replies.{Answer, AreFiles, IsScript, IsToldFile}
 use Rattle.ft_tool.specs.Calls.{LoadList, HasMade, list_load}
 
--- this holds of the files that are told, or of some files of bytes
+-- this holds for the revealed files, or else for some files of bytes
 abbrev pub OfFiles : Option Files → (Files → Type 0) → Type 0
 OfFiles told Holds = (files : Files) × (AreFiles told files × Holds files)
 
--- this holds of the script that is told, or of some script of bytes
+-- this holds for the revealed script, or else for some script of bytes
 abbrev pub OfScript : Option (List ℕ) → (List ℕ → Type 0) → Type 0
 OfScript left Holds = (script : List ℕ) × (IsScript left script × Holds script)
 
@@ -30,6 +30,6 @@ OverListOf Promised c told bytes o a = (list : List ℕ) × (IsListOf c told byt
 abbrev pub CampaignsListOf : Campaign → Option Files → List ℕ → Object → Answer → Type 0
 CampaignsListOf c told bytes o a = OverListOf NoneCorrupt c told bytes o a × IsNeverDetected o c.wild
 
--- the fault list of a campaign was loaded, where its name is not the object's own; else nothing was
+-- the fault list of a campaign was loaded, if its name is not the object's own; else nothing was
 abbrev pub LoadsOther : Campaign → Option LoadList → Option LoadList → Type 0
 LoadsOther c asked asked' = ((c.faults ≡ c.object) × HasMade [] asked asked') ⊎ ((c.faults ≢ c.object) × HasMade (list_load c.faults ∷ []) asked asked')

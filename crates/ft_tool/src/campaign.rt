@@ -13,12 +13,11 @@ ghost use Rattle.ft_tool.specs.Lists.{NoneCorrupt, OverFaults};
 ghost use Rattle.ft_tool.specs.Endings.{Ends, ends_early};
 ghost use Rattle.ft_command.specs.Commands.{Campaigns};
 
-use crate::check::check;
 use crate::ending::{Ending, put_list_line, refuse_check, refuse_object};
 use crate::load::load_object;
 use crate::over_list::{Target, over_list};
 use ft_campaign::{CampaignEnd, campaign};
-use ft_checker::Checked;
+use ft_checker::{Checked, check_uncounted};
 use ft_command::Campaign;
 use ft_edge::{Shelf, Sink};
 use ft_isa::{Steps, Strike};
@@ -57,7 +56,7 @@ fn campaign_counted<P: Program, K: Sink, L: Ledger>(
     )
 }
 
-/// The verdicts of faults on an object that is accepted, of which none is corrupt.
+/// The verdicts of faults on an object that is accepted, none of which is corrupt.
 fn campaign_faults<P: Program, K: Sink>(
     alloc: Global,
     checked: &Checked<P>,
@@ -132,7 +131,7 @@ fn campaign_checked<P: Program, F: Shelf, K: Sink>(
     over_list(alloc, &CheckedTarget { checked }, bytes, asked, shelf, out)
 }
 
-/// Checks an object, and tries a fault list on it where it is accepted.
+/// Checks an object, and tries a fault list on it if it is accepted.
 fn campaign_object<P: Program, F: Shelf, K: Sink>(
     alloc: Global,
     program: &P,
@@ -153,7 +152,7 @@ fn campaign_object<P: Program, F: Shelf, K: Sink>(
     ensures made { (((refusal (P.object program.now) ≢ None) ⊎ IsTrue (ends_early result)) × HasMade [] (F.log shelf.old).asked (F.log shelf.new).asked)
         ⊎ ((refusal (P.object program.now) ≡ None) × LoadsOther (campaign_view asked.now) (F.log shelf.old).asked (F.log shelf.new).asked) }
 {
-    match check(alloc, program) {
+    match check_uncounted(alloc, program) {
         Ok(checked) => campaign_checked(alloc, &checked, bytes, asked, shelf, out),
         Err(error) => refuse_check(error, out),
     }

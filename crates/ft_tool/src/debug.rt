@@ -43,7 +43,7 @@ fn debug_text<P: Program, K: Sink>(
     }
 }
 
-/// Takes the script and runs its session over an object.
+/// Reads the script and runs its session over an object.
 fn debug_object<P: Program, I: Source, K: Sink>(
     alloc: Global,
     program: &P,
@@ -64,7 +64,7 @@ fn debug_object<P: Program, I: Source, K: Sink>(
     }
 }
 
-/// Loads an object and debugs it by the script, without checking it.
+/// Loads an object and runs the script's session over it, without checking it.
 pub(crate) fn debug_file<F: Shelf, I: Source, K: Sink>(
     alloc: Global,
     asked: &Debugging,

@@ -34,13 +34,13 @@ pub(crate) enum Ending {
     Done,
     /// The machine noticed a fault.
     Detected,
-    /// The words are no command.
+    /// The words are not a command.
     Usage,
     /// A file could not be read.
     LoadFailed,
     /// A line could not be written.
     WriteFailed,
-    /// There was no memory left.
+    /// Memory ran out.
     NoMemory,
     /// The text is refused as a source.
     SourceRefused,
@@ -48,7 +48,7 @@ pub(crate) enum Ending {
     ObjectRefused,
     /// The object is not accepted.
     NotAccepted,
-    /// The machine still runs after the last step.
+    /// The machine is still running after the last step.
     OutOfSteps,
     /// Some verdict is corrupt.
     Corrupt,
@@ -56,11 +56,11 @@ pub(crate) enum Ending {
     ListRefused,
     /// The text is refused as an assembly text.
     TextRefused,
-    /// The link map is refused, or what it links.
+    /// The link map is refused, or the link that it describes.
     LinkRefused,
 }
 
-/// How a command ends whose run ended so.
+/// How a command ends, from how its run ended.
 pub(crate) fn ending_of_run(end: RunEnd) -> Ending
     ensures { result ≡ ending_of_run end }
 {
@@ -72,7 +72,7 @@ pub(crate) fn ending_of_run(end: RunEnd) -> Ending
     }
 }
 
-/// Puts bytes that spell an object, in version 2 of the format and one put.
+/// Puts bytes that spell an object, in version 2 of the format, with one put.
 pub(crate) fn put_spelling<K: Sink>(bytes: &[u8], out: &mut K) -> Ending
     ensures { (o : Spelled) → Spells bytes.now Second o → Ends result (UpgradesObject o)
         (K.log out.old) (K.log out.new) ⊥ }
@@ -83,7 +83,7 @@ pub(crate) fn put_spelling<K: Sink>(bytes: &[u8], out: &mut K) -> Ending
     }
 }
 
-/// Puts the bytes of an object, in version 2 of the format and one put.
+/// Puts the bytes of an object, in version 2 of the format, with one put.
 pub(crate) fn put_object<K: Sink>(alloc: Global, object: &Object, out: &mut K) -> Ending
     requires { IsSpellable object.now }
     ensures { Ends result (UpgradesObject object.now)
@@ -95,7 +95,7 @@ pub(crate) fn put_object<K: Sink>(alloc: Global, object: &Object, out: &mut K) -
     put_spelling(bytes.as_slice(), out)
 }
 
-/// Puts the line of words that are no command.
+/// Puts the line of words that are not a command.
 pub(crate) fn put_usage<K: Sink>(out: &mut K) -> Ending
     ensures { Ends result (λ a. a ≡ usage) (K.log out.old) (K.log out.new) ⊥ }
 {
@@ -115,7 +115,7 @@ pub(crate) fn refuse_bytes<K: Sink>(error: ObjectError, out: &mut K) -> Ending
     }
 }
 
-/// Ends a command that has no object, with the line of the refusal where its bytes are refused.
+/// Ends a command that has no object, with the line of the refusal if its bytes are refused.
 pub(crate) fn refuse_object<K: Sink>(fault: ObjectFault, out: &mut K) -> Ending
     ensures ends { Ends result (IsRefusedBy fault)
         (K.log out.old) (K.log out.new) (fault ≡ ObjectFault.Failed) }
@@ -155,7 +155,7 @@ pub(crate) fn put_list_line<K: Sink>(number: u64, told: u64, out: &mut K) -> End
     }
 }
 
-/// Ends a command that has no fault list, with the line of the refusal where its text is refused.
+/// Ends a command that has no fault list, with the line of the refusal if its text is refused.
 pub(crate) fn refuse_list<K: Sink>(fault: ListFault, out: &mut K) -> Ending
     ensures ends { Ends result (IsListRefusedBy fault)
         (K.log out.old) (K.log out.new) (fault ≡ ListFault.Failed) }
@@ -169,7 +169,7 @@ pub(crate) fn refuse_list<K: Sink>(fault: ListFault, out: &mut K) -> Ending
     }
 }
 
-/// Ends a command that has no script, with the line of the refusal where it is too long.
+/// Ends a command that has no script, with the line of the refusal if it is too long.
 pub(crate) fn refuse_script<K: Sink>(fault: ScriptFault, out: &mut K) -> Ending
     ensures ends { Ends result (IsScriptRefusedBy fault)
         (K.log out.old) (K.log out.new) (fault ≡ ScriptFault.Failed) }

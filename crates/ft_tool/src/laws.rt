@@ -22,11 +22,11 @@ use ft_link_map::lines_are_one;
 use ft_scope::one_text_has_one_outcome;
 use ft_script::commands_are_one;
 
-/// Where files and script are told, words have at most one answer, with its pieces and its status. Of `compile`
-/// and `exec` the definition leaves open which object stands for a source, so there more may be answered:
-/// two answers to `compile` are the same refusal, or an object each; two answers to `exec` are the same
-/// refusal, or the pieces of the one begin those of the other, each with status 0 or 9, and are the same
-/// where both have status 0. Neither has ever status 8.
+/// If files and script are known, words have at most one answer, with its pieces and its status. For `compile` and
+/// `exec` the definition leaves open which object stands for a source, so more than one answer is possible: two answers
+/// to `compile` are the same refusal, or one object each; two answers to `exec` are the same refusal, or the pieces of
+/// one are a prefix of those of the other, each with status 0 or 9, and they are the same if both have status 0.
+/// Neither ever has status 8.
 pub fn words_have_one_answer()
     ensures { (words : List Word) (request : Request) (files : Files) (script : List ℕ) (a b : Answer) → Asks words request
         → IsAnswer words (Some files) (Some script) a → IsAnswer words (Some files) (Some script) b → AreAnswers request a b }
@@ -43,9 +43,9 @@ pub fn words_have_one_answer()
     runs_and_meanings_write_the_same_lines();
 }
 
-/// The run of an accepted object without a strike is the same for all answers to wild loads. So the run
-/// that a compiled object's meaning speaks of, which has no answers, is the one with which a struck run
-/// is compared, whatever answers its plan has.
+/// The run of an accepted object without a strike is the same for all answers to wild loads. So the run that gives a
+/// compiled object its meaning, which has no answers, is the one with which a struck run is compared, whatever answers
+/// its plan has.
 pub fn answers_matter_after_a_strike_alone()
     ensures outputs { (o : Object) (w : List Wild) (n : ℕ) → IsSpellable o → IsAccepted o → outputs_after o None w n ≡ outputs_after o None [] n }
     ensures status { (o : Object) (w : List Wild) (n : ℕ) → IsSpellable o → IsAccepted o → status_after o None w n ≡ status_after o None [] n }

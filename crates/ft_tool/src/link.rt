@@ -11,10 +11,10 @@ ghost use Rattle.ft_tool.specs.Links.{EndsAtObject, IsMap, LinksAdded, LinksFile
 ghost use Rattle.ft_tool.specs.LinkTurns.{AddsObject, AddsFile, EndsWithFile, FailsInTurn, HasAdded, MakesInTurn, MakesOfText};
 ghost use Rattle.ft_tool.specs.Told.{OfFiles};
 
-use crate::check::check;
 use crate::ending::{Ending, put_object, refuse_check, refuse_object};
 use crate::load::{MAP_LIMIT, load_bytes, load_object};
 use crate::unlinked::{put_link_line, refuse_map, refuse_modules};
+use ft_checker::check_uncounted;
 use ft_edge::{Load, LoadFault, Shelf, Sink};
 use ft_link_map::{LinkMap, read_map};
 use ft_linker::Linker;
@@ -45,7 +45,7 @@ fn add_object<P: Program, K: Sink>(
     ensures ends { IfErr result (λ e. Ends e (EndsAtObject linker.old (P.object program.now))
         (K.log out.old) (K.log out.new) ⊥) }
 {
-    match check(alloc, program) {
+    match check_uncounted(alloc, program) {
         Ok(checked) => match linker.add(&checked) {
             Ok(()) => Ok(()),
             Err(error) => Err(refuse_modules(error, out)),

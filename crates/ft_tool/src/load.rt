@@ -16,19 +16,19 @@ use ft_view::View;
 use std::alloc::Global;
 use thiserror::Error;
 
-/// The most bytes of a file that are read as an object.
+/// The maximum bytes of a file that are read as an object.
 pub(crate) const OBJECT_LIMIT: usize = 67_108_864;
 
-/// The most bytes of a file that are read as a source.
+/// The maximum bytes of a file that are read as a source.
 pub(crate) const SOURCE_LIMIT: usize = 1_048_576;
 
-/// The most bytes of a file that are read as an assembly text.
+/// The maximum bytes of a file that are read as an assembly text.
 pub(crate) const TEXT_LIMIT: usize = 134_217_728;
 
-/// The most bytes of a file that are read as a link map.
+/// The maximum bytes of a file that are read as a link map.
 pub(crate) const MAP_LIMIT: usize = 65_536;
 
-/// The most bytes of a file that are read as a fault list.
+/// The maximum bytes of a file that are read as a fault list.
 const LIST_LIMIT: usize = 4_194_304;
 
 /// Loads the file of a name into an empty vector, up to a limit.
@@ -56,7 +56,7 @@ pub(crate) enum ObjectFault {
     /// The file could not be read.
     #[error("the file could not be read")]
     Failed,
-    /// There was no memory left.
+    /// Memory ran out.
     #[error("out of memory")]
     NoMemory,
 }
@@ -115,7 +115,7 @@ pub(crate) fn load_object<'a, F: Shelf>(
 /// Why there is no fault list.
 #[derive(Clone, Copy, Debug, PartialEq, Eq, Error)]
 pub(crate) enum ListFault {
-    /// The line with this number, counted from 1, is no strike's text.
+    /// The line with this number, counted from 1, is not a strike.
     #[error("line {0} is no strike")]
     Line(u32),
     /// The file has more than 4,194,304 bytes or more than 65,536 lines.
@@ -124,7 +124,7 @@ pub(crate) enum ListFault {
     /// The file could not be read.
     #[error("the file could not be read")]
     Failed,
-    /// There was no memory left.
+    /// Memory ran out.
     #[error("out of memory")]
     NoMemory,
 }
@@ -157,8 +157,8 @@ fn load_list<F: Shelf>(alloc: Global, name: &str, shelf: &mut F) -> Result<Vec<S
     }
 }
 
-/// The fault list of a campaign, whose object's file has these bytes. Where the list has the object's
-/// own name, it is read from these bytes, and no file is loaded.
+/// The fault list of a campaign, whose object's file has these bytes. If the list has the object's own name, it is read
+/// from these bytes, and no file is loaded.
 pub(crate) fn list_of<F: Shelf>(
     alloc: Global,
     asked: &Campaign,

@@ -13,7 +13,7 @@ use ft_scope::resolve;
 use ft_syntax::{SourceError, parse};
 use std::alloc::Global;
 
-/// Gives the meaning of a source.
+/// Writes the meaning of a source.
 fn mean_text<K: Sink>(alloc: Global, text: &[u8], turns: u64, out: &mut K) -> Ending
     ensures { Ends result (OverText (MeansProgram turns) text.now)
         (K.log out.old) (K.log out.new) ⊥ }

@@ -16,13 +16,13 @@ pub(crate) trait FileCommand {
     ghost use Rattle.ft_tool.specs.Endings.{Ends};
     ghost use Rattle.ft_tool.specs.Does.{IsOverFile};
 
-    // The request that it carries out.
+    // The request that it performs.
     ghost request: { Self → Request };
 
     // The name of its file.
     ghost file: { Self → Word };
 
-    // The most bytes that are read of its file.
+    // The maximum bytes that are read of its file.
     ghost limit: { Self → ℕ };
 
     // The answer over the file's bytes.
@@ -32,7 +32,7 @@ pub(crate) trait FileCommand {
     fn file(&self) -> &str
         ensures { result.now ≡ file self.now };
 
-    /// The most bytes that are read of its file.
+    /// The maximum bytes that are read of its file.
     fn limit(&self) -> usize
         ensures { result ≡ limit self.now };
 
@@ -46,7 +46,7 @@ pub(crate) trait FileCommand {
         ensures { Ends result (λ a. (bytes : List ℕ) → limit self.now < length bytes → answer self.now bytes a)
             (K.log out.old) (K.log out.new) ⊥ };
 
-    // The answer over the bytes of this file is one to the request, which comes to load no other.
+    // The answer over the bytes of this file is one to the request, which gets to loading no other.
     ghost is_over_file: { (c : Self) → IsOverFile (request c) (file c) (limit c) (answer c) };
 }
 

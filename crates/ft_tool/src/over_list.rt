@@ -28,7 +28,7 @@ pub(crate) trait Target {
     // What is known of the object.
     ghost known: { Self → Type 0 };
 
-    // What is promised of the verdicts.
+    // What is promised about the verdicts.
     ghost promised: { Self → List Verdict → Type 0 };
 
     /// Tries faults on it.

@@ -23,7 +23,7 @@ pub(crate) trait ObjectCommand {
     ghost use Rattle.ft_tool.specs.Endings.{Ends};
     ghost use Rattle.ft_tool.specs.Does.{IsOverFile};
 
-    // The request that it carries out.
+    // The request that it performs.
     ghost request: { Self → Request };
 
     // The name of its file.
@@ -42,7 +42,7 @@ pub(crate) trait ObjectCommand {
         ensures { Ends result (answer self.now (P.object program.now))
             (K.log out.old) (K.log out.new) ⊥ };
 
-    // The answer over the bytes of this file is one to the request, which comes to load no other.
+    // The answer over the bytes of this file is one to the request, which gets to loading no other.
     ghost is_over_file: { (c : Self) → IsOverFile (request c) (file c) 67108864 (OverBytes (answer c)) };
 }
 

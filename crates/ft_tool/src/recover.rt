@@ -8,10 +8,9 @@ ghost use Rattle.ft_tool.specs.Answers.{RecoversObject, again_lines};
 ghost use Rattle.ft_tool.specs.Endings.{Ends, again_of, ending_of_recovery};
 ghost use Rattle.ft_tool.specs.Texts.{again_line};
 
-use crate::check::check;
 use crate::ending::{Ending, refuse_check};
 use crate::over_object::ObjectCommand;
-use ft_checker::Checked;
+use ft_checker::{Checked, check_uncounted};
 use ft_command::Run;
 use ft_edge::{Failed, Sink, put_line};
 use ft_isa::Plan;
@@ -20,7 +19,7 @@ use ft_text::Line;
 use ft_types::Program;
 use std::alloc::Global;
 
-/// The line of a restart after so many outputs.
+/// The line of a restart after this many outputs.
 fn again_line(count: u64) -> Line
     ensures { result ≡ again_line count }
 {
@@ -31,7 +30,7 @@ fn again_line(count: u64) -> Line
     line
 }
 
-/// Puts the line of a restart, where there was one.
+/// Puts the line of a restart, if there was one.
 fn put_again<K: Sink>(again: Option<u64>, out: &mut K) -> Result<(), Failed>
     ensures { Puts (end_of_puts result) (again_lines again) (K.log out.old) (K.log out.new) }
 {
@@ -41,7 +40,7 @@ fn put_again<K: Sink>(again: Option<u64>, out: &mut K) -> Result<(), Failed>
     }
 }
 
-/// The restart that a recovery tells.
+/// The restart that a recovery reports.
 fn again_of(end: RecoverEnd) -> Option<u64>
     ensures { result ≡ again_of end }
 {
@@ -53,7 +52,7 @@ fn again_of(end: RecoverEnd) -> Option<u64>
     }
 }
 
-/// How a command ends whose recovery ended so.
+/// How a command ends, from how its recovery ended.
 fn ending_of_recovery(end: RecoverEnd) -> Ending
     ensures { result ≡ ending_of_recovery end }
 {
@@ -65,7 +64,7 @@ fn ending_of_recovery(end: RecoverEnd) -> Ending
     }
 }
 
-/// Runs a checked object, and again where a fault is detected.
+/// Runs a checked object, and again if a fault is detected.
 fn recover_checked<P: Program, K: Sink>(
     alloc: Global,
     checked: &Checked<P>,
@@ -88,20 +87,20 @@ fn recover_checked<P: Program, K: Sink>(
     }
 }
 
-/// Runs an object that is accepted, and again where a fault is detected.
+/// Runs an object that is accepted, and again if a fault is detected.
 fn recover_object<P: Program, K: Sink>(alloc: Global, program: &P, run: &Run, out: &mut K) -> Ending
     requires { IsSpellable (P.object program.now) }
     ensures { Ends result (RecoversObject (run_view run.now) (P.object program.now))
         (K.log out.old) (K.log out.new) ⊥ }
 {
-    let checked = match check(alloc, program) {
+    let checked = match check_uncounted(alloc, program) {
         Ok(checked) => checked,
         Err(error) => return refuse_check(error, out),
     };
     recover_checked(alloc, &checked, run, out)
 }
 
-/// The run of the object of a file, if it is accepted, and again where a fault is detected.
+/// The run of the object of a file, if it is accepted, and again if a fault is detected.
 #[derive(Drop)]
 pub(crate) struct RecoverCommand<'w> {
     pub run: Run<'w>,

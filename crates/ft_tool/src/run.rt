@@ -5,9 +5,9 @@ ghost use Rattle.ft_types.specs.Spellable.{IsSpellable};
 ghost use Rattle.ft_tool.specs.Answers.{RunsObject};
 ghost use Rattle.ft_tool.specs.Endings.{Ends};
 
-use crate::check::check;
 use crate::ending::{Ending, ending_of_run, refuse_check};
 use crate::over_object::ObjectCommand;
+use ft_checker::check_uncounted;
 use ft_command::Run;
 use ft_edge::Sink;
 use ft_isa::Plan;
@@ -21,7 +21,7 @@ fn run_object<P: Program, K: Sink>(alloc: Global, program: &P, run: &Run, out: &
     ensures { Ends result (RunsObject (run_view run.now) (P.object program.now))
         (K.log out.old) (K.log out.new) ⊥ }
 {
-    let checked = match check(alloc, program) {
+    let checked = match check_uncounted(alloc, program) {
         Ok(checked) => checked,
         Err(error) => return refuse_check(error, out),
     };

@@ -4,10 +4,9 @@ ghost use Rattle.ft_types.specs.Spellable.{IsSpellable};
 ghost use Rattle.ft_tool.specs.Answers.{SchedulesAccepted, SchedulesObject};
 ghost use Rattle.ft_tool.specs.Endings.{Ends};
 
-use crate::check::check;
 use crate::ending::{Ending, put_object, refuse_check};
 use crate::over_object::ObjectCommand;
-use ft_checker::Checked;
+use ft_checker::{Checked, check_uncounted};
 use ft_edge::Sink;
 use ft_sched::schedule;
 use ft_types::Program;
@@ -35,7 +34,7 @@ fn schedule_object<P: Program, K: Sink>(alloc: Global, program: &P, out: &mut K)
     ensures { Ends result (SchedulesObject (P.object program.now))
         (K.log out.old) (K.log out.new) ⊥ }
 {
-    match check(alloc, program) {
+    match check_uncounted(alloc, program) {
         Ok(checked) => put_schedule(alloc, &checked, out),
         Err(error) => refuse_check(error, out),
     }

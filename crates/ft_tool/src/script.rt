@@ -1,4 +1,4 @@
-//! What the script of a command holds.
+//! The script of a command.
 ghost use Rattle.std.specs.Prelude.{◌≡◌};
 ghost use Rattle.ft_edge.specs.Streams.{TakesAtMost};
 ghost use Rattle.ft_tool.specs.Scripts.{TakesScript, TakeCause};
@@ -7,10 +7,10 @@ use ft_edge::Source;
 use std::alloc::Global;
 use thiserror::Error;
 
-/// The most bytes that are taken as a script.
+/// The maximum bytes of a script.
 const SCRIPT_LIMIT: usize = 1_048_576;
 
-/// How many bytes are taken at once at most.
+/// The maximum bytes of one take.
 const PIECE: usize = 4096;
 
 /// Why there is no script.
@@ -19,16 +19,16 @@ pub(crate) enum ScriptFault {
     /// The script has more than 1,048,576 bytes.
     #[error("the script is too long")]
     TooLong,
-    /// The script could not be taken.
+    /// The script could not be read.
     #[error("the script could not be taken")]
     Failed,
-    /// There was no memory left.
+    /// Memory ran out.
     #[error("out of memory")]
     NoMemory,
 }
 
-/// Takes the script to its end, or to one byte past the limit. Nothing is taken after the end, nor
-/// after a take that failed.
+/// Reads the script to its end, or to one byte past the limit. It is not read after its end, nor after a take that
+/// failed.
 pub(crate) fn take_script<I: Source>(alloc: Global, script: &mut I) -> Result<Vec<u8>, ScriptFault>
     ensures takes { TakesScript (λ v. v.items) (I.log script.old).left result }
     ensures cause { TakeCause (I.log script.old).failures (I.log script.new).failures result }

@@ -31,7 +31,7 @@ use ft_command::{Command, command_of};
 use ft_edge::{Shelf, Sink, Source};
 use std::alloc::Global;
 
-/// Does what a command is for. The script is taken by `debug` alone.
+/// Does what a command is for. Only `debug` reads the script.
 fn obey<F: Shelf, I: Source, K: Sink>(
     alloc: Global,
     command: Command,
@@ -102,8 +102,7 @@ fn carry_out<F: Shelf, I: Source, K: Sink>(
     }
 }
 
-/// Does what the words ask for, over the files of a shelf, and answers the program's status. The
-/// script is taken by `debug` alone.
+/// Obeys the command line, with the files of a shelf, and returns the program's status. Only `debug` reads the script.
 pub fn tool<F: Shelf, I: Source, K: Sink>(
     alloc: Global,
     words: &[String],
@@ -113,11 +112,12 @@ pub fn tool<F: Shelf, I: Source, K: Sink>(
 ) -> u8
     ensures status { IsTrue (is_status result) }
 
-    // Each piece of the answer of the command that the words ask for was put by one put, and the status is its status. So
-    // a source is compiled exactly when its text has a program: to an object that is accepted and whose run commits what
-    // the program means and ends when it ends. And the run of an accepted object has under its plan after each number of
-    // steps exactly what the run without the strike has, or it is detected and has a prefix of that. A recovery puts the
-    // whole output of the run without the strike. And what is linked of accepted modules is accepted and runs as they do.
+    // Each piece of the answer of the command that the words ask for was put with one put, and the status is its
+    // status. So a source is compiled exactly if its text has a program: to an object that is accepted and whose run
+    // commits what the program means and ends when that does. After each number of steps, the run of an accepted object
+    // under its plan has exactly what the run without the strike has, or it is detected and has a prefix of that. A
+    // recovery puts the whole output of the run without the strike. The object linked from accepted modules is accepted
+    // and runs as they do.
     ensures headline { result ≢ 3 → result ≢ 4 → result ≢ 5 →
         Concludes (IsAnswer (map string_bytes words.now) (F.log shelf.old).files (I.log script.old).left) result
         (K.log out.old) (K.log out.new) }
@@ -139,13 +139,13 @@ pub fn tool<F: Shelf, I: Source, K: Sink>(
     // Nothing was put. This status is meant for memory that ran out.
     ensures no_memory_puts_nothing { result ≡ 5 → K.log out.new ≡ K.log out.old }
 
-    // The count of failed puts stays where the answer is another.
+    // The count of failed puts is unchanged if the answer is another.
     ensures write_failures { result ≢ 4 → (K.log out.new).failures ≡ (K.log out.old).failures }
 
-    // The counts of failed loads and takes stay where the answer is another. The script is taken only in a session over
-    // an object, at most 1,048,577 bytes of it, and never again after its end or a failure. Each file is loaded once, in the
-    // order of the request and up to its limit, and a fault list or a module exactly when the command comes to it; with
-    // statuses 3 and 5 it may be that it is not, and with status 5 that nothing is.
+    // The counts of failed loads and takes are unchanged if the answer is another. The script is read only in a session
+    // over an object, at most 1,048,577 bytes of it, and never again after its end or a failure. Each file is loaded
+    // once, in the order of the request and up to its limit, and a fault list or a module exactly if the command gets
+    // to it; with statuses 3 and 5 it is perhaps not loaded, and with status 5 perhaps nothing is.
     ensures load_failures { result ≢ 3 → NoLoadFails (F.log shelf.old) (F.log shelf.new) }
     ensures script { TakesFrom (map string_bytes words.now) (F.log shelf.old).files
         (I.log script.old) (I.log script.new) ⊎ (script.new ≡ script.old) }

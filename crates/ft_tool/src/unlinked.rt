@@ -1,4 +1,4 @@
-//! How links end that are refused.
+//! How refused links end.
 ghost use Rattle.std.specs.Prelude.{◌≡◌, ◌≢◌};
 ghost use Rattle.ft_tool.specs.Endings.{Ends};
 ghost use Rattle.ft_tool.specs.Files.{IsMapRefused, IsUnlinkedBy};

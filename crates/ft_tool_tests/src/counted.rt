@@ -122,8 +122,8 @@ fn late_fault(r40: Reg) -> Strike
     }
 }
 
-/// Finds the verdict of a fault before step 99,000, with 100,000 steps. It costs 101,696 steps at most,
-/// since the last snapshot before the fault is at step 98,304.
+/// Finds the verdict of a fault before step 99,000, with 100,000 steps. It costs at most 101,696 steps, since the last
+/// snapshot before the fault is at step 98,304.
 fn judge_late<P: Program, L: Ledger>(
     alloc: Global,
     checked: &Checked<P>,
@@ -174,7 +174,7 @@ fn check_and_repeat<P: Program, L: Ledger>(
     Ok(campaign(alloc, &checked, &[fault; 10], &[], 100_000, out, &mut steps))
 }
 
-/// The totals of so many faults that are masked.
+/// The totals of `count` faults that are masked.
 fn all_masked(count: u32) -> CampaignEnd {
     CampaignEnd::Finished(Totals {
         masked: count,

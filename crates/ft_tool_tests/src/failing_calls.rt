@@ -3,7 +3,7 @@ use ft_edge::{MemShelf, MemSink};
 use ft_tests::{Row, check_row, worked_objects};
 use std::test::Fail;
 
-/// Texts that are there beside the worked objects.
+/// Texts besides the worked objects.
 const TEXTS: &[(&str, &[u8])] = &[
     ("list", b"4:r1:6\n10:r1:6\n0:pcg:3\n9:qv0:6\n"),
     ("map", b"module A\nmodule Q\n"),

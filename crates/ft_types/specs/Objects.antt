@@ -1,4 +1,4 @@
--- The parts of an object, and what it is asked.
+-- The parts of an object, and queries on it.
 use Rattle.std.specs.Prelude.{ℕ, zero, suc, ◌<◌, ◌^◌, List, [], length, Option, None, Some, All, slice_get, slice_range}
 use Rattle.std.specs.Option.{option_map, unwrap_or}
 use Rattle.ft_isa.specs.Words.{code_address}
@@ -51,7 +51,7 @@ regs_of t = t.regs
 abbrev pub queue_of : CodeType → List (ℕ × ℕ)
 queue_of t = t.queue
 
--- the register rows of code type t, none where it is not there
+-- the register rows of code type t, none if it does not exist
 abbrev pub reg_rows : Object → ℕ → List RegType
 reg_rows o t = unwrap_or (option_map regs_of (slice_get o.types t)) []
 
@@ -66,11 +66,11 @@ ints_of_type t = t.ints
 abbrev pub memory_of_type : CodeType → ℕ
 memory_of_type t = t.memory
 
--- the number of integer variables of code type t, 0 where it is not there
+-- the number of integer variables of code type t, 0 if it does not exist
 abbrev pub ints_of : Object → ℕ → ℕ
 ints_of o t = unwrap_or (option_map ints_of_type (slice_get o.types t)) 0
 
--- the node of the memory of code type t, 0 where it is not there
+-- the node of the memory of code type t, 0 if it does not exist
 abbrev pub memory_of : Object → ℕ → ℕ
 memory_of o t = unwrap_or (option_map memory_of_type (slice_get o.types t)) 0
 
@@ -81,11 +81,11 @@ start_of b = b.start
 abbrev pub code_type_of : Block → ℕ
 code_type_of b = b.code_type
 
--- the code type of block b, 0 where it is not there
+-- the code type of block b, 0 if it does not exist
 abbrev pub block_type : Object → ℕ → ℕ
 block_type o b = unwrap_or (option_map code_type_of (slice_get o.blocks b)) 0
 
--- the first instruction of block b, 0 where it is not there
+-- the first instruction of block b, 0 if it does not exist
 abbrev pub block_start : Object → ℕ → ℕ
 block_start o b = unwrap_or (option_map start_of (slice_get o.blocks b)) 0
 
@@ -110,11 +110,11 @@ instr_at o (suc i) = slice_get o.instrs i
 abbrev pub scope_of_node : Node → ℕ
 scope_of_node n = n.scope
 
--- the scope of node n, 0 where it is not there
+-- the scope of node n, 0 if it does not exist
 abbrev pub scope_of : Object → ℕ → ℕ
 scope_of o n = unwrap_or (option_map scope_of_node (slice_get o.nodes n)) 0
 
--- the initial word of a cell that is there
+-- the initial word of an existing cell
 abbrev pub init_or_zero : Option CellHead → ℕ
 init_or_zero None = 0
 init_or_zero (Some head) = head.init

@@ -18,7 +18,7 @@ use Rattle.ft_types.specs.declared.object.CodeType.{CodeType}
 use Rattle.ft_types.specs.declared.object.RegType.{RegType}
 use Rattle.ft_types.specs.Objects.{name_of, regs_of, queue_of}
 
--- a letter of ASCII or a low line
+-- an ASCII letter or an underscore
 abbrev pub is_letter : ℕ → Bool
 is_letter b = (nat_le 65 b && nat_le b 90) || (nat_le 97 b && nat_le b 122) || (b == 95)
 
@@ -30,21 +30,21 @@ is_digit b = nat_le 48 b && nat_le b 57
 abbrev pub is_bracket : ℕ → Bool
 is_bracket b = (b == 91) || (b == 93)
 
--- a byte that may stand in a name
+-- a byte that is allowed in a name
 abbrev pub is_name_byte : ℕ → Bool
 is_name_byte b = is_letter b || is_digit b || is_bracket b
 
--- a letter or a low line, and then letters, digits, low lines and square brackets
+-- a letter or an underscore, and then letters, digits, underscores and square brackets
 abbrev pub is_name : List ℕ → Bool
 is_name [] = false
 is_name (b ∷ bs) = is_letter b && list_all is_name_byte bs
 
--- the base `int`, or one of so many code types
+-- the base `int`, or one of n code types
 abbrev pub IsBase : ℕ → Base → Type 0
 IsBase types Int = Unit {0}
 IsBase types (Code t) = t < types
 
--- a basic type of at most 8 refs, where there are so many code types
+-- a basic type of at most 8 refs, if there are n code types
 pub record IsBasic (types : ℕ) (b : Basic) : Type 0 where
   pub refs : b.refs ≤ 8
   pub base : IsBase types b.base
@@ -65,7 +65,7 @@ pub record IsRegRow (types : ℕ) (nodes : List Node) (scope : ℕ) (r : RegType
   pub basic : IsBasic types r.basic
   pub expr : IsNodeIn nodes scope false r.expr
 
--- the registers of these rows rise, and none is below the least
+-- the registers of these rows increase, and none is below the least
 abbrev pub AreRising : ℕ → List RegType → Type 0
 AreRising least [] = Unit {0}
 AreRising least (r ∷ rs) = (least ≤ r.reg.number) × AreRising (suc r.reg.number) rs
@@ -85,27 +85,27 @@ pub record IsCodeType (types : ℕ) (nodes : List Node) (t : CodeType) : Type 0 
   pub queue : All (IsQueueRow nodes t.ints) t.queue
   pub memory : IsNodeIn nodes t.ints true t.memory
 
--- a block of one of so many code types
+-- a block of one of n code types
 abbrev pub HasCodeType : ℕ → Block → Type 0
 HasCodeType types b = b.code_type < types
 
--- these blocks begin one after the other, each at the least place or after it, and below the end
+-- these blocks begin one after the other, none before the least place, and all below the end
 abbrev pub AreBlocks : ℕ → ℕ → List Block → Type 0
 AreBlocks end least [] = Unit {0}
 AreBlocks end least (b ∷ bs) = (least ≤ b.start) × (b.start < end) × AreBlocks end (suc b.start) bs
 
--- the first of these blocks, which there is, begins at instruction 0, and the others after it
+-- there is a first block, which begins at instruction 0, and the others begin after it
 abbrev pub BeginAtZero : List Block → Type 0
 BeginAtZero [] = ⊥
 BeginAtZero (b ∷ bs) = b.start ≡ 0
 
--- a run of so many cells from the first one on, where there are so many cells
+-- a run of `length` cells from `first`, out of `count`
 pub record IsRun (cells first m : ℕ) : Type 0 where
   pub begins : first < cells
   pub length : IsLength m
   pub ends : first + m ≤ cells
 
--- what is asked of an instruction alone: its number is a word, its basic type is one, and its cells are there
+-- the rules for an instruction by itself: its number is a word, its basic type is valid, and its cells exist
 abbrev pub IsInstr : ℕ → ℕ → Instr → Type 0
 IsInstr types cells (OpWord op rd rs value) = IsWord value.word
 IsInstr types cells (Mov rd value basic) = IsWord value.word × IsBasic types basic
@@ -118,7 +118,7 @@ subst_of (JmpB rd subst) = Some subst
 subst_of (BzB rz rd subst) = Some subst
 subst_of i = None
 
--- a substitution takes the rows that follow the first ones, at most 128 of so many, and names a memory
+-- a substitution takes the rows that follow the first ones, at most 128 of all there are, and names a memory
 pub record IsSubst (nodes : List Node) (rows first : ℕ) (s : Subst) : Type 0 where
   pub first_is : s.first ≡ first
   pub rising : s.first ≤ s.past
@@ -136,7 +136,7 @@ abbrev pub substs_of : List Instr → List Subst
 substs_of [] = []
 substs_of (i ∷ is) = before (subst_of i) (substs_of is)
 
--- these substitutions take the rows from the first ones on, each in turn, up to the last of so many
+-- these substitutions take the rows from the first ones, each in turn, up to the last
 abbrev pub Cover : List Node → ℕ → ℕ → List Subst → Type 0
 Cover nodes rows first [] = first ≡ rows
 Cover nodes rows first (s ∷ ss) = IsSubst nodes rows first s × Cover nodes rows s.past ss

@@ -122,7 +122,7 @@ pub fn copy_object<P: Program>(alloc: Global, program: &P) -> Result<Object, NoM
     }
 }
 
-/// A copy of the object that a program stands for, with these instructions in the place of its own.
+/// A copy of the object that a program stands for, with these instructions in place of its own.
 pub fn copy_with_instrs<P: Program>(
     alloc: Global,
     program: &P,

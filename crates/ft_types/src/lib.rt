@@ -1,9 +1,9 @@
-//! Objects and programs: the tables of an object, and how they are asked.
+//! Objects and programs: an object's tables, and how to read them.
 //!
-//! The crate promises that an object tells its parts as they are in its tables. It defines the parts
-//! of an object (`specs/Objects.antt`), the numbers that stand for a node (`specs/NodeRows.antt`), the
-//! objects that have bytes (`specs/Spellable.antt`) and the line of an output (`specs/Texts.antt`). A copy
-//! of a program is the object that the program stands for, or that object with other instructions.
+//! The crate promises that an object returns its parts exactly as its tables hold them. It defines the
+//! parts of an object (`specs/Objects.antt`), the numbers that stand for a node (`specs/NodeRows.antt`),
+//! the objects that have bytes (`specs/Spellable.antt`) and the line of an output (`specs/Texts.antt`). A
+//! copy of a program is the object that the program stands for, or that object with other instructions.
 #![tactic(auto)]
 
 mod copying;
@@ -15,6 +15,6 @@ mod words;
 
 pub use copying::{copy_cells, copy_object, copy_with_instrs};
 pub use object::{Block, Cell, CellHead, CodeType, Counts, Object, RegType, TypeHead};
-pub use program::{INSTR_BYTES, Program};
+pub use program::{INSTR_BYTES, Program, end_of};
 pub use table::Table;
-pub use words::{joined, row_words};
+pub use words::{ShapeNumbers, high_half, joined, low_half, row_words, shape_numbers};

@@ -3,8 +3,8 @@ use crate::table::Table;
 use ft_isa::{Basic, Colour, Instr, Reg};
 use ft_static::Node;
 
-/// What a code type says of a register: its colour, the basic type of its word, and the node of the
-/// integer that it holds.
+/// What a code type says about a register: its colour, the basic type of its word, and the node of the integer that it
+/// holds.
 #[derive(Clone, Copy, Debug, PartialEq, Eq)]
 pub struct RegType {
     pub reg: Reg,
@@ -13,9 +13,9 @@ pub struct RegType {
     pub expr: u32,
 }
 
-/// What holds where a block of this type begins: the number of its integer variables (0 to 128), the
-/// registers that have a type, in rising order, the pairs of address node and value node that wait in
-/// the store queue, oldest first (at most 8), and the node of the memory.
+/// What holds where a block of this type begins: the number of its integer variables (0 to 128), the registers that
+/// have a type, in increasing order, the pairs of address node and value node that wait in the store queue, oldest
+/// first (at most 8), and the node of the memory.
 #[derive(Drop)]
 pub struct CodeType {
     pub ints: u8,
@@ -41,8 +41,8 @@ pub struct Cell {
     pub init: u64,
 }
 
-/// Code with its types, its blocks and its cells, and the number of the block in which a run begins.
-/// The rows that blue jumps and branches put for variables are nodes, in the order of the code.
+/// Code with its types, its blocks and its cells, and the number of the block in which a run begins. The rows that blue
+/// jumps and branches substitute for variables are nodes, in the order of the code.
 #[derive(Drop)]
 pub struct Object {
     pub cells: Table<Cell>,

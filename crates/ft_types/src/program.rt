@@ -1,16 +1,18 @@
 //! Programs: objects, however they are kept.
 ghost use Rattle.std.specs.Prelude.{◌≡◌, ◌<◌, ◌*◌, ◌/◌, ◌^◌, Some, length, slice_get};
 ghost use Rattle.std.specs.Option.{option_map};
+ghost use Rattle.ft_types.specs.Objects.{block_end};
+ghost use Rattle.ft_types.specs.Spellable.{IsSpellable};
 
 use crate::object::{Block, CellHead, Counts, Object, RegType, TypeHead};
 use crate::words::node_words;
 use ft_isa::Instr;
 use ft_static::{Node, Nodes};
 
-/// How many bytes an instruction takes in the object format.
+/// The bytes of an instruction in the object format.
 pub const INSTR_BYTES: usize = 16;
 
-/// An object, however it is kept. Its meaning is one `Object`, and each call tells a part of it.
+/// An object, however it is kept. Its meaning is one `Object`, and each call returns a part of it.
 pub trait Program: Nodes {
     ghost use Rattle.ft_types.specs.NodeRows.{node_words};
     ghost use Rattle.ft_types.specs.Objects.{IsCounted, cell_head_of, name_of, type_head_of, reg_rows, queue_rows};
@@ -18,12 +20,12 @@ pub trait Program: Nodes {
 
     ghost object: { Self → Object };
 
-    /// What a loop holds on to while it fetches instructions one after the other: a slice of their
-    /// records, say, so that no fetch has to find them again.
+    /// What a loop keeps while it fetches instructions one after the other: a slice of their records, say, so that no
+    /// fetch has to find them again.
     type Code: Copy;
 
-    // What a loop holds on to is what `code` tells of the program, where `fetch` reads it. Where `fetch`
-    // does not read it, it may be anything.
+    // Where `fetch` reads what a loop keeps, that is the result of `code` for the program. Elsewhere it may be
+    // anything.
     ghost is_code: { Self → Self.Code → Type 0 };
 
     /// How many there are of each kind of part.
@@ -48,8 +50,8 @@ pub trait Program: Nodes {
     fn code(&self) -> Self::Code
         ensures { is_code self.now result };
 
-    /// The instruction that stands `at` bytes after the first one, where each takes `INSTR_BYTES`, from what `code` told. A loop
-    /// counts these bytes, so that no fetch has to multiply.
+    /// The instruction `at` bytes after the first one, where each takes `INSTR_BYTES`, from the result of `code`. A
+    /// loop counts these bytes, so that no fetch has to multiply.
     fn fetch(&self, code: Self::Code, at: usize) -> Instr
         requires there { at / 16 < length (object self.now).instrs }
         requires whole { at ≡ 16 * (at / 16) }
@@ -191,4 +193,17 @@ impl Program for Object {
     fn name(&self, k: u32) -> &[u8] {
         self.cells.at(k as usize).name.as_slice()
     }
+}
+
+/// Where block `b` ends: where the next block begins, or after the last instruction.
+pub fn end_of<P: Program>(program: &P, b: u32) -> u32
+    requires spellable { IsSpellable (P.object program.now) }
+    requires there { b < length (P.object program.now).blocks }
+    ensures { result ≡ block_end (P.object program.now) b }
+{
+    let counts = program.counts();
+    if b + 1 < counts.blocks {
+        return program.block(b + 1).start;
+    }
+    counts.instrs
 }

@@ -22,7 +22,7 @@ pub fn copy_nodes<P: Program>(alloc: Global, program: &P) -> Result<Vec<Node>, A
     Ok(nodes)
 }
 
-/// So many register rows of code type `t`, which are all.
+/// All register rows of code type `t`, which are this many.
 #[tactic(auto, using(crate::proofs::Copies::grown))]
 pub fn copy_regs<P: Program>(
     alloc: Global,
@@ -41,7 +41,7 @@ pub fn copy_regs<P: Program>(
     Ok(regs)
 }
 
-/// So many queue rows of code type `t`, which are all.
+/// All queue rows of code type `t`, which are this many.
 #[tactic(auto, using(crate::proofs::Copies::grown))]
 pub fn copy_queue<P: Program>(
     alloc: Global,

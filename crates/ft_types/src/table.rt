@@ -22,7 +22,7 @@ impl<T> Model for Table<T> {
 }
 
 impl<T> Table<T> {
-    /// The empty table, which takes no memory.
+    /// The empty table, which needs no memory.
     pub fn new(alloc: Global) -> Table<T>
         ensures { result ≡ [] }
     {
@@ -31,14 +31,14 @@ impl<T> Table<T> {
         }
     }
 
-    /// The table of these values, which takes no memory.
+    /// The table of these values, without allocating.
     pub fn from_vec(values: Vec<T>) -> Table<T>
         ensures { result ≡ values.items }
     {
         Table { values }
     }
 
-    /// The table's values, which takes no memory.
+    /// The table's values, without allocating.
     pub fn into_vec(self) -> Vec<T>
         ensures { result.items ≡ self }
     {

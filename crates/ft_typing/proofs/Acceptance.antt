@@ -28,13 +28,8 @@ has_none_is [] = (λ e. refl, λ e. refl)
 has_none_is (x ∷ xs) = (λ e. cc, λ e. cc)
 
 is_variable_is : (x : Shape) → Decides (is_variable x) (x ≡ shape.Memory)
-is_variable_is (shape.Word w) = (λ e. cc, λ e. cc)
-is_variable_is (shape.Var i) = (λ e. cc, λ e. cc)
-is_variable_is (shape.Op op a b) = (λ e. cc, λ e. cc)
-is_variable_is (shape.Sel m a) = (λ e. cc, λ e. cc)
 is_variable_is shape.Memory = (λ e. refl, λ e. refl)
-is_variable_is (shape.Upd m a v) = (λ e. cc, λ e. cc)
-is_variable_is (shape.Rem a m) = (λ e. cc, λ e. cc)
+is_variable_is x = (λ e. cc, λ e. cc)
 
 is_memory_variable_is : (o : Object) (n : ℕ) (x : Option Node) → slice_get o.nodes n ≡ x →
     Decides (is_memory_variable x) (HasShape o.nodes n shape.Memory)
@@ -76,20 +71,20 @@ walked o c k i (j ∷ js) (Goes d) e h w = next_row d e (h d w)
 walked o c k i [] Ends e h w = last_row e
 walked o c k i (j ∷ js) Ends e h w = cc
 
--- where the walk refuses nothing, the rows apply
+-- if the walk refuses nothing, the rows apply
 applies_walked : (o : Object) (c : Context) (k : ℕ) (is : List Instr) → walk o c k is ≡ None → Applies o c is
 unfolding walk
 applies_walked o c k [] w = cc
 applies_walked o c k (i ∷ is) w = walked o c k i is (row o c i) refl (λ d. applies_walked o d (suc k) is) w
 
--- what the walk gives after a row that goes on
+-- the verdict of the walk after a row that goes on
 after_goes : (o : Object) (d : Context) (k : ℕ) (is : List Instr) (x : Outcome) → x ≡ Goes d → Applies o d is →
     walk o d (suc k) is ≡ None → after_row x k is (λ d. walk o d (suc k) is) ≡ None
 unfolding after_row
 after_goes o d k [] x e a w = elim a [ ]
 after_goes o d k (i ∷ is) x e a w = rw e w
 
--- where the rows apply, the walk refuses nothing
+-- if the rows apply, the walk refuses nothing
 walk_applied : (o : Object) (c : Context) (k : ℕ) (is : List Instr) → Applies o c is → walk o c k is ≡ None
 unfolding walk after_row
 walk_applied o c k [] a = elim a [ ]
@@ -103,7 +98,7 @@ pub or_parts : {A : Type 0} (x y : Option A) → option_or x y ≡ None → (x �
 or_parts None y e = (refl, e)
 or_parts (Some a) y e = cc
 
--- where nothing is refused, each is not
+-- if nothing is refused, each is not
 first_none : {X : Type 0} (refuse : ℕ → X → Option Refusal) (k : ℕ) (xs : List X) → first_refusal refuse k xs ≡ None →
     (n : ℕ) (x : X) → slice_get xs n ≡ Some x → refuse (k + n) x ≡ None
 unfolding first_refusal
@@ -118,7 +113,7 @@ first_none refuse k (y ∷ ys) e (suc n) x f =
     let here : k + suc n ≡ suc k + n = omega arith in
     rw here (first_none refuse (suc k) ys p.1 n x f)
 
--- where each is not refused, nothing is
+-- if each is not refused, nothing is
 none_first : {X : Type 0} (refuse : ℕ → X → Option Refusal) (k : ℕ) (xs : List X) →
     ((n : ℕ) (x : X) → slice_get xs n ≡ Some x → refuse (k + n) x ≡ None) → first_refusal refuse k xs ≡ None
 unfolding first_refusal

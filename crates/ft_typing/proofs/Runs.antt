@@ -31,7 +31,7 @@ taken_within (suc n) [] k x e = cc
 taken_within (suc n) (y ∷ xs) zero x e = omega arith
 taken_within (suc n) (y ∷ xs) (suc k) x e = let h = taken_within n xs k x e in omega (arith, h)
 
--- a run as the first so many after so many
+-- a run as the first n after k
 range_is : {X : Type 0} (xs : List X) (first m : ℕ) → slice_range xs first (first + m) ≡ take m (drop first xs)
 range_is xs first m = let n : first + m - first ≡ m = omega arith in rw n refl
 
@@ -74,7 +74,7 @@ common_is (y ∷ ys) b e k x f = go (list_all (same_basic y) ys) refl e k f
     go true h e zero f = cc
     go true h e (suc j) f = let same : y ≡ b = cc in sym (same_basic_is y x (all_at (same_basic y) ys j x h f)) ∙ same
 
--- where there is one and each is this type, it is the one of all
+-- if there is one and each is this type, it is the type of all
 is_common : (xs : List Basic) (b : Basic) → slice_get xs 0 ≡ Some b →
     ((k : ℕ) (x : Basic) → slice_get xs k ≡ Some x → x ≡ b) → common_type xs ≡ Some b
 unfolding common_type

@@ -13,7 +13,7 @@ use Rattle.ft_typing.specs.TypedWord.{cell_type, code_type_at, HasTypeOver, HasT
 use Rattle.ft_typing.specs.TypedWord.{is_seen_as, is_code_type, is_cell_type, has_type_over, has_type}
 use Rattle.ft_typing.specs.TypingRow.{same_colour}
 
--- two bases are equal where the test says so
+-- two bases are equal if the test says so
 same_base_is : (a b : Base) → same_base a b ≡ true → a ≡ b
 same_base_is Int Int e = refl
 same_base_is Int (Code t) e = cc
@@ -25,7 +25,7 @@ same_base_itself : (a : Base) → same_base a a ≡ true
 same_base_itself Int = refl
 same_base_itself (Code t) = eq-eqb t t refl
 
--- two basic types are equal where the test says so
+-- two basic types are equal if the test says so
 pub same_basic_is : (a b : Basic) → same_basic a b ≡ true → a ≡ b
 unfolding same_basic
 same_basic_is a b e =
@@ -34,7 +34,7 @@ same_basic_is a b e =
     let s = same_base_is a.base b.base p.1 in
     λ i. record { refs = r i; base = s i }
 
--- and the test says so where they are
+-- and the test says so if they are
 pub is_same_basic : (a b : Basic) → a ≡ b → same_basic a b ≡ true
 unfolding same_basic
 is_same_basic a b e = rw e (and_from _ _ (eq-eqb b.refs b.refs refl) (same_base_itself b.base))

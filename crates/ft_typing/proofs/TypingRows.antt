@@ -20,11 +20,11 @@ use Rattle.ft_typing.specs.TypingTable.{Test, premise_of, refers, referred, lead
 use Rattle.ft_typing.specs.TypingTable.{is_code, is_conditional, code_of_d, form_of_d, test_of_d, oldest, others, holds}
 use Rattle.ft_typing.specs.TypingTable.{tests, effect, first_failing, refused_or, IsTheRow}
 
--- what is known of a register, where nothing is
+-- what is known of a register, if nothing is
 abbrev unknown : Typed
 unknown = record { colour = Green; basic = int; form = nought }
 
--- a list of tests as a chain: where the first one holds, what the others give
+-- a list of tests as a chain: if the first one holds, the result of the others
 judged : Object → Context → List Test → Outcome → Outcome
 judged o c [] e = e
 judged o c (t ∷ ts) e = need (premise_of t) (holds o c t) (judged o c ts e)
@@ -76,14 +76,14 @@ code_next zero Int f e = refl
 code_next zero (Code t) f e = e
 code_next (suc k) base f e = refl
 
--- StateOfD, where Zero is wanted
+-- StateOfD, which requires Zero
 zero_next : (d : StateOfD) {x y : Outcome} → x ≡ y → for_zero d x ≡ need premise.StateOfD (is_zero d) y
 unfolding need for_zero
 zero_next d_zero e = e
 zero_next (d_code t f) e = refl
 zero_next (d_conditional z t f) e = refl
 
--- StateOfD, where Code is wanted
+-- StateOfD, which requires Code
 target_next : (d : StateOfD) (f : ℕ → Polynomial → Outcome) {y : Outcome} → f (code_of_d d) (form_of_d d) ≡ y →
     for_target d f ≡ need premise.StateOfD (is_code d) y
 unfolding need for_target
@@ -91,7 +91,7 @@ target_next d_zero f e = refl
 target_next (d_code t p) f e = e
 target_next (d_conditional z t p) f e = refl
 
--- StateOfD, where Conditional is wanted
+-- StateOfD, which requires Conditional
 conditional_next : (d : StateOfD) (f : Polynomial → ℕ → Polynomial → Outcome) {y : Outcome} →
     f (test_of_d d) (code_of_d d) (form_of_d d) ≡ y → for_conditional d f ≡ need premise.StateOfD (is_conditional d) y
 unfolding need for_conditional
@@ -145,7 +145,7 @@ pub record Holds (o : Object) (c : Context) (i : Instr) (x : Outcome) : Type 0 w
   pub tested : HoldAll o c (tests i)
   pub gives : effect o c i ≡ x
 
--- where no test fails, all hold
+-- if no test fails, all hold
 hold_next : (o : Object) (c : Context) (t : Test) (ts : List Test) (b : Bool) → holds o c t ≡ b →
     (if b then first_failing o c ts else Some (premise_of t)) ≡ None → (first_failing o c ts ≡ None → HoldAll o c ts) →
     HoldAll o c (t ∷ ts)

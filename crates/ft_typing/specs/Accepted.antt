@@ -49,20 +49,15 @@ pub data Refusal : Type 0 where
 
 -- whether this is the shape of the memory variable
 abbrev pub is_variable : Shape → Bool
-is_variable (shape.Word w) = false
-is_variable (shape.Var i) = false
-is_variable (shape.Op op a b) = false
-is_variable (shape.Sel memory at) = false
 is_variable shape.Memory = true
-is_variable (shape.Upd memory at value) = false
-is_variable (shape.Rem a m) = false
+is_variable x = false
 
--- whether a node is there and is the memory variable
+-- whether a node exists and is the memory variable
 abbrev pub is_memory_variable : Option Node → Bool
 is_memory_variable None = false
 is_memory_variable (Some n) = is_variable n.shape
 
--- whether a list has nothing in it
+-- whether a list is empty
 abbrev pub has_none : {X : Type 0} → List X → Bool
 has_none [] = true
 has_none (x ∷ xs) = false
@@ -71,7 +66,7 @@ has_none (x ∷ xs) = false
 unfoldable pub is_entry_type : Object → ℕ → Bool
 is_entry_type o t = (ints_of o t == 0) && has_none (reg_rows o t) && has_none (queue_rows o t) && is_memory_variable (slice_get o.nodes (memory_of o t))
 
--- what comes after the row of instruction k of a block, whose others are these: the first refusal, or nothing
+-- the verdict after the row of instruction k of a block with these other instructions: the first refusal, or nothing
 unfoldable pub after_row : Outcome → ℕ → List Instr → (Context → Option (ℕ × Premise)) → Option (ℕ × Premise)
 after_row (Fails p) k others next = Some (k, p)
 after_row (Goes d) k [] next = Some (k, BlockEnd)
@@ -90,11 +85,11 @@ unfoldable pub first_refusal : {X : Type 0} → (ℕ → X → Option Refusal) �
 first_refusal refuse k [] = None
 first_refusal refuse k (x ∷ xs) = option_or (refuse k x) (first_refusal refuse (suc k) xs)
 
--- cell k is refused where its initial word hasn't its basic type
+-- cell k is refused if its initial word doesn't have its basic type
 abbrev pub cell_refusal : Object → ℕ → Cell → Option Refusal
 cell_refusal o k x = if has_type o x.init x.basic then None else Some (CellType k)
 
--- block b is refused at its first instruction that is
+-- block b is refused at its first refused instruction
 abbrev pub block_refusal : Object → ℕ → Block → Option Refusal
 block_refusal o b x = option_map (λ r. Refused b r.0 r.1) (walk o (start_context o x.code_type) 0 (block_instrs o b))
 

@@ -20,7 +20,7 @@ pub record Typed : Type 0 where
   pub basic : Basic
   pub form : Polynomial
 
--- what is known of d: it is 0; it is the code address of a code type, of this form; or it is so where the test denotes
+-- what is known of d: it is 0; it is the code address of a code type, of this form; or it is that if the test denotes
 -- 0, and 0 otherwise
 pub data StateOfD : Type 0 where
   d_zero : StateOfD
@@ -60,7 +60,7 @@ integer_form_of o n = norm_integer (integer_at (trees o.nodes) n)
 unfoldable pub memory_form_of : Object → ℕ → Updates
 memory_form_of o n = norm_memory (memory_at (trees o.nodes) n)
 
--- what is put for variables: a form for each integer variable, and one for the memory variable
+-- the substitutes of variables: a form for each integer variable, and one for the memory variable
 pub record Replacement : Type 0 where
   pub integers : List Polynomial
   pub memory : Updates
@@ -73,19 +73,19 @@ integer_form_after o x n = norm_under (integer_at (trees o.nodes) n) x.integers 
 unfoldable pub memory_form_after : Object → Replacement → ℕ → Updates
 memory_form_after o x n = norm_memory_under (memory_at (trees o.nodes) n) x.integers x.memory
 
--- the rows of a substitution: the nodes put for the target's integer variables in turn
+-- the rows of a substitution: the nodes substituted for the target's integer variables in turn
 abbrev pub rows_of : Object → Subst → List ℕ
 rows_of o u = slice_range o.substs u.first u.past
 
--- what a substitution puts for the target's variables, in the variables of the block that it stands in
+-- what a substitution substitutes for the target's variables, in the variables of its own block
 unfoldable pub replacement : Object → Subst → Replacement
 replacement o u = record { integers = map (integer_form_of o) (rows_of o u); memory = memory_form_of o u.memory }
 
--- what a register row says of its register
+-- what a register row says about its register
 abbrev pub typed_row : Object → RegType → Typed
 typed_row o r = record { colour = r.colour; basic = r.basic; form = integer_form_of o r.expr }
 
--- what is known of the registers after these rows, each of which counts above those before it
+-- what is known of the registers after these rows, each of which overrides those before it
 unfoldable pub registers_after : Object → TypedRegisters → List RegType → TypedRegisters
 registers_after o m [] = m
 registers_after o m (r ∷ rs) = registers_after o (finite.insert m r.reg.number (typed_row o r)) rs
@@ -94,8 +94,8 @@ registers_after o m (r ∷ rs) = registers_after o (finite.insert m r.reg.number
 abbrev pub queue_pair : Object → ℕ × ℕ → FormPair
 queue_pair o q = (integer_form_of o q.0, integer_form_of o q.1)
 
--- what is known where a block of code type t begins: the code type's registers, queue and memory, with its variables
--- as they are, and that d is 0
+-- what is known where a block of code type t begins: the code type's registers, queue and memory, with its variables as
+-- they are, and that d is 0
 abbrev pub start_context : Object → ℕ → Context
 start_context o t = record {
   ints = ints_of o t;

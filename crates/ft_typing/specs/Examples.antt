@@ -17,7 +17,7 @@ use Rattle.ft_isa.specs.declared.basic.Basic.{Basic}
 use Rattle.ft_isa.specs.declared.basic.Base.TheVariants.{Int}
 use Rattle.ft_isa.specs.BasicTypes.{int, code, ref}
 
--- registers, r0 on of the green computation and r32 on of the blue one
+-- registers, from r0 of the green computation and from r32 of the blue one
 abbrev pub r0 : Reg
 r0 = record { number = 0; in_range = lit< tt }
 
@@ -90,18 +90,18 @@ one_block init instrs = record {
 abbrev pub over_cells : List Cell → List Instr → Object
 over_cells cells instrs = record (one_block 0 instrs) { cells = cells }
 
--- a run of three cells, of which the second has this basic type and initial word
+-- a run of three cells, the second of which has this basic type and initial word
 abbrev pub run_of_three : Basic → ℕ → List Cell
 run_of_three basic init =
     int_cell (codes "a[0]") 0 ∷ record { name = codes "a[1]"; basic = basic; init = init } ∷ int_cell (codes "a[2]") 0 ∷ []
 
--- so many cells from this one on, of which each holds the address of the one before it; cell k has k refs
+-- n cells from cell k, each of which holds the address of the one before it; cell k has k refs
 abbrev pub refs_upwards : ℕ → ℕ → List Cell
 refs_upwards k zero = []
 refs_upwards k (suc n) = record { name = (97 + k) ∷ []; basic = record { refs = k; base = Int }; init = 1048575 + k } ∷ refs_upwards (suc k) n
 
--- these instructions as two blocks, of which the second begins here and has the variable's code type; the node 5 is put
--- for the variable
+-- these instructions as two blocks, the second of which begins here and has the variable's code type; the node 5 is
+-- substituted for the variable
 abbrev pub two_blocks : ℕ → List Instr → Object
 two_blocks second instrs = record {
   cells = int_cell (codes "out") 0 ∷ [];
@@ -142,13 +142,13 @@ doubles =
     ∷ Mov r32 (blue out) (ref int) ∷ Ld Blue r33 r32 ∷ OpReg Add r34 r33 r33
     ∷ St Green r0 r2 ∷ St Blue r32 r34 ∷ Halt ∷ []
 
--- nine is stored in the cell of a run of three that 4 names, the second one
+-- 9 is stored in the cell that index 4 selects in a run of three, the second one
 abbrev pub stores_in_run : List Instr
 stores_in_run =
     Mov r0 (green 4) int ∷ Idx r1 r0 0 3 ∷ Mov r2 (green 9) int ∷ Mov r32 (blue 4) int ∷ Idx r33 r32 0 3 ∷ Mov r34 (blue 9) int
     ∷ St Green r1 r2 ∷ St Blue r33 r34 ∷ Halt ∷ []
 
--- the address of the cell of a run is taken and left
+-- the address of the cell of a run is computed and not used
 abbrev pub takes_address : ℕ → ℕ → List Instr
 takes_address first length = Mov r0 (green 4) int ∷ Idx r1 r0 first length ∷ Halt ∷ []
 
@@ -163,19 +163,19 @@ stores_nine_times =
 abbrev pub stores_variable : List Instr
 stores_variable = Mov r2 (green out) (ref int) ∷ Mov r34 (blue out) (ref int) ∷ St Green r2 r0 ∷ St Blue r34 r32 ∷ Halt ∷ []
 
--- five is handed to a block that stores it
+-- five is passed to a block that stores it
 abbrev pub jumps : List Instr
 jumps =
     Mov r0 (green 5) int ∷ Mov r32 (blue 5) int ∷ Mov r1 (green 7) (code 1) ∷ Mov r33 (blue 7) (code 1)
     ∷ JmpG r1 ∷ JmpB r33 five ∷ stores_variable
 
--- five is not zero, so the block isn't taken
+-- five is not zero, so the branch is not taken
 abbrev pub branches : List Instr
 branches =
     Mov r0 (green 5) int ∷ Mov r32 (blue 5) int ∷ Mov r1 (green 8) (code 1) ∷ Mov r33 (blue 8) (code 1)
     ∷ BzG r0 r1 ∷ BzB r32 r33 five ∷ Halt ∷ stores_variable
 
--- five is stored before it is handed over, so the memory isn't the memory variable
+-- five is stored before it is passed on, so the memory isn't the memory variable
 abbrev pub stores_and_jumps : List Instr
 stores_and_jumps =
     Mov r0 (green 5) int ∷ Mov r32 (blue 5) int ∷ Mov r1 (green 11) (code 1) ∷ Mov r33 (blue 11) (code 1)

@@ -1,4 +1,4 @@
--- The types of words: what a basic type says of a word, and when a basic type is seen as another.
+-- The types of words: what a basic type says of a word, and when a basic type is accepted as another.
 use Rattle.std.specs.Prelude.{◌≡◌, ◌⊎◌, ◌<◌, ℕ, zero, suc, ◌+◌, ◌-◌, Bool, true, false, ◌&&◌, ◌||◌, ◌==◌, nat_le, nat_lt, if◌then◌else◌, List, [], ◌∷◌, map, Option, None, Some, slice_get, slice_range, find}
 use Rattle.std.specs.List.{list_all}
 use Rattle.std.specs.Option.{option_map}
@@ -28,18 +28,18 @@ block_at o w = find (λ b. w == code_address b.start) o.blocks
 abbrev pub code_type_at : Object → ℕ → Option ℕ
 code_type_at o w = option_map code_type_of (block_at o w)
 
--- a word has the basic type of so many refs over a base
+-- a word has the basic type of n refs over a base
 abbrev pub HasTypeOver : Object → ℕ → ℕ → Base → Type 0
 HasTypeOver o w zero Int = Unit {0}
 HasTypeOver o w zero (Code t) = code_type_at o w ≡ Some t
 HasTypeOver o w (suc k) base = cell_type o w ≡ Some (record { refs = k; base = base })
 
--- a word has a basic type: each has `int`; the code address of the first instruction of a block of code type T has
--- `code T`; the address of a cell of basic type b has `ref b`
+-- a word has a basic type: every word has `int`; the code address of the first instruction of a block of code type T
+-- has `code T`; the address of a cell of basic type b has `ref b`
 abbrev pub HasType : Object → ℕ → Basic → Type 0
 HasType o w b = HasTypeOver o w b.refs b.base
 
--- a basic type is seen as another where the two are equal or the other is `int`
+-- a basic type is accepted as another if the two are equal or the other is `int`
 abbrev pub IsSeenAs : Basic → Basic → Type 0
 IsSeenAs a b = (a ≡ b) ⊎ (b ≡ int)
 
@@ -54,11 +54,11 @@ same_base (Code t) (Code u) = t == u
 unfoldable pub same_basic : Basic → Basic → Bool
 same_basic a b = (a.refs == b.refs) && same_base a.base b.base
 
--- whether a basic type is seen as another
+-- whether a basic type is accepted as another
 unfoldable pub is_seen_as : Basic → Basic → Bool
 is_seen_as a b = same_basic a b || same_basic b int
 
--- the type of these basic types where all are equal; none where there are none
+-- the type of these basic types if all are equal; none if there are none
 unfoldable pub common_type : List Basic → Option Basic
 common_type [] = None
 common_type (b ∷ bs) = if list_all (same_basic b) bs then Some b else None
@@ -72,7 +72,7 @@ abbrev pub only_referable : Option Basic → Option Basic
 only_referable None = None
 only_referable (Some b) = if nat_lt b.refs 8 then Some b else None
 
--- the type of the cells of a run, where they are of one type and a `ref` can refer to it
+-- the type of the cells of a run, if they are of one type and a `ref` can refer to it
 unfoldable pub run_type : Object → ℕ → ℕ → Option Basic
 run_type o first m = only_referable (common_type (types_of_run o first m))
 
@@ -91,7 +91,7 @@ abbrev pub is_cell_type : Option Basic → Basic → Bool
 is_cell_type None b = false
 is_cell_type (Some a) b = same_basic a b
 
--- whether a word has the basic type of so many refs over a base
+-- whether a word has the basic type of n refs over a base
 abbrev pub has_type_over : Object → ℕ → ℕ → Base → Bool
 has_type_over o w zero Int = true
 has_type_over o w zero (Code t) = is_code_type (code_type_at o w) t

@@ -22,7 +22,7 @@ use Rattle.ft_typing.specs.declared.why.Why.TheVariants as premise
 use Rattle.ft_typing.specs.Premise.{Premise}
 use Rattle.ft_typing.specs.Context.{Typed, StateOfD, d_zero, d_code, d_conditional, FormPair, Context, typed, with_type, Replacement, replacement, rows_of, integer_form_after, memory_form_after}
 
--- what a row gives: the context of the next instruction, the end of the block, or the first failing premise
+-- the result of a row: the context of the next instruction, the end of the block, or the first failing premise
 pub data Outcome : Type 0 where
   Goes : Context → Outcome
   Ends : Outcome
@@ -35,7 +35,7 @@ same_colour Green Blue = false
 same_colour Blue Green = false
 same_colour Blue Blue = true
 
--- a premise that is a test: what comes after it, where the test holds
+-- a premise that is a test: what comes after it, if the test holds
 unfoldable pub need : Premise → Bool → Outcome → Outcome
 need p b next = if b then next else Fails p
 
@@ -61,19 +61,19 @@ for_code_over (suc k) base next = Fails premise.NotCode
 abbrev pub for_code : Basic → (ℕ → Outcome) → Outcome
 for_code b next = for_code_over b.refs b.base next
 
--- premise StateOfD, where Zero is wanted
+-- premise StateOfD, which requires Zero
 unfoldable pub for_zero : StateOfD → Outcome → Outcome
 for_zero d_zero next = next
 for_zero (d_code t f) next = Fails premise.StateOfD
 for_zero (d_conditional z t f) next = Fails premise.StateOfD
 
--- premise StateOfD, where Code is wanted: what comes after, by the code type and the form
+-- premise StateOfD, which requires Code: what comes after, by the code type and the form
 unfoldable pub for_target : StateOfD → (ℕ → Polynomial → Outcome) → Outcome
 for_target d_zero next = Fails premise.StateOfD
 for_target (d_code t f) next = next t f
 for_target (d_conditional z t f) next = Fails premise.StateOfD
 
--- premise StateOfD, where Conditional is wanted: what comes after, by the test, the code type and the form
+-- premise StateOfD, which requires Conditional: what comes after, by the test, the code type and the form
 unfoldable pub for_conditional : StateOfD → (Polynomial → ℕ → Polynomial → Outcome) → Outcome
 for_conditional d_zero next = Fails premise.StateOfD
 for_conditional (d_code t f) next = Fails premise.StateOfD
@@ -89,7 +89,7 @@ unfoldable pub for_run : Option Basic → (Basic → Outcome) → Outcome
 for_run None next = Fails premise.Array
 for_run (Some b) next = next b
 
--- the form of the address of a run's cell, by the form of the word that names it
+-- the form of the address of a run's cell, by the form of the word that selects it
 abbrev pub run_form : ℕ → ℕ → Polynomial → Polynomial
 run_form first m p = norm_add (constant (cell_address first)) (norm_rem p m)
 
@@ -108,12 +108,12 @@ abbrev pub seen_memory : Colour → Context → Updates
 seen_memory Green c = pending_memory c.memory c.queue
 seen_memory Blue c = c.memory
 
--- whether the register here is as the target's row wants it, under the substitution
+-- whether the register here is as the target's row requires, under the substitution
 unfoldable pub is_like : Object → Replacement → Option Typed → RegType → Bool
 is_like o x None r = false
 is_like o x (Some t) r = same_colour t.colour r.colour && is_seen_as t.basic r.basic && same_polynomial t.form (integer_form_after o x r.expr)
 
--- whether each register of the target's code type is so
+-- whether all registers of the target's code type are
 abbrev pub are_like : Object → Replacement → Context → List RegType → Bool
 are_like o x c rows = list_all (λ r. is_like o x (typed c r.reg.number) r) rows
 

@@ -1,5 +1,5 @@
 -- The table of typing rows, as data: for each instruction the tests that it makes, in order, and its effect; for each
--- test the premise that fails where it does not hold.
+-- test the premise that fails if it does not hold.
 use Rattle.std.specs.Prelude.{ℕ, zero, suc, Bool, true, false, ◌&&◌, not, ◌==◌, ◌≡◌, nat_lt, if◌then◌else◌, List, [], ◌∷◌, ◌++◌, length, Option, Some, None, is_some}
 use Rattle.std.specs.Option.{unwrap_or}
 use Rattle.ft_isa.specs.declared.basic.Base.{Base}
@@ -37,7 +37,7 @@ pub data Test : Type 0 where
   is_colour_of : Colour → Reg → Test
   -- the word has the claimed type
   is_claimed : ℕ → Basic → Test
-  -- the value register's type is seen as the type to which the address register refers
+  -- the value register's type is accepted as the type to which the address register refers
   is_stored_as : Reg → Reg → Test
   -- the register's basic type is a `ref`
   is_reference : Reg → Test
@@ -60,7 +60,7 @@ pub data Test : Type 0 where
   is_announced : Reg → Test
   -- the substitution is one for T, the code type of the register
   is_substitution : Reg → Subst → Test
-  -- the registers, the static queue, the memory are as T wants them, under the substitution
+  -- the registers, the static queue, the memory are as T requires, under the substitution
   has_registers : Reg → Subst → Test
   has_queue : Reg → Subst → Test
   has_memory : Reg → Subst → Test
@@ -69,7 +69,7 @@ pub data Test : Type 0 where
   -- the cells of the run are of one type, to which a `ref` can refer
   is_array : ℕ → ℕ → Test
 
--- the premise that fails where a test does not hold
+-- the premise that fails if a test does not hold
 abbrev pub premise_of : Test → Premise
 premise_of (is_typed r) = premise.Untyped
 premise_of (is_coloured r k) = premise.Colour
@@ -95,13 +95,13 @@ premise_of (has_memory r u) = premise.MemoryUnlike
 premise_of has_empty_queue = premise.QueueUnlike
 premise_of (is_array first m) = premise.Array
 
--- WHAT TESTS READ; where it is not there, an earlier test of each row fails, and what is given instead plays no part
+-- WHAT TESTS READ; if it is absent, an earlier test of the row has failed, so the default does not matter
 
 -- what is known of a register
 abbrev pub known : Context → Reg → Typed
 known c r = unwrap_or (typed c r.number) (record { colour = Green; basic = int; form = nought })
 
--- whether so many refs over a base are a `ref`, and the type referred to
+-- whether n refs over a base are a `ref`, and the type referred to
 abbrev pub refers : ℕ → Bool
 refers zero = false
 refers (suc k) = true
@@ -110,7 +110,7 @@ abbrev pub referred : ℕ → Base → Basic
 referred zero base = int
 referred (suc k) base = record { refs = k; base = base }
 
--- whether so many refs over a base are `code T`, and T
+-- whether n refs over a base are `code T`, and T
 abbrev pub leads_to_code : ℕ → Base → Bool
 leads_to_code zero Int = false
 leads_to_code zero (Code t) = true
@@ -224,7 +224,7 @@ tests (BzB rz rd u) =
 tests Halt = is_d_zero ∷ has_empty_queue ∷ []
 tests (Idx rd rs first m) = is_typed rs ∷ is_array first m ∷ []
 
--- what an instruction's row gives where all its tests hold
+-- the result of an instruction's row if all its tests hold
 abbrev pub effect : Object → Context → Instr → Outcome
 effect o c (OpReg op rd rs rt) =
     Goes (with_type rd.number (record { colour = (known c rs).colour; basic = int; form = norm_op op (known c rs).form (known c rt).form }) c)
@@ -247,11 +247,11 @@ abbrev pub first_failing : Object → Context → List Test → Option Premise
 first_failing o c [] = None
 first_failing o c (t ∷ ts) = if holds o c t then first_failing o c ts else Some (premise_of t)
 
--- the refusal, where a premise fails, and else the effect
+-- the refusal, if a premise fails, else the effect
 abbrev pub refused_or : Option Premise → Outcome → Outcome
 refused_or None e = e
 refused_or (Some p) e = Fails p
 
--- the row of an instruction gives the premise of the first of its tests that fails, and where none fails its effect
+-- the row of an instruction gives the premise of the first of its tests that fails, and if none fails its effect
 abbrev pub IsTheRow : Object → Context → Instr → Type 0
 IsTheRow o c i = row o c i ≡ refused_or (first_failing o c (tests i)) (effect o c i)

@@ -1,4 +1,6 @@
 //! The premises of the typing rules.
+ghost use Rattle.std.specs.Prelude.{◌≡◌};
+
 use thiserror::Error;
 
 /// The first failing premise of a typing rule. They are numbered from 1 in this order
@@ -8,20 +10,20 @@ pub enum Why {
     /// A register that the rule reads has no type.
     #[error("a register that is read has no type")]
     Untyped,
-    /// A register that the rule reads, or the word of an operation, has another colour than it wants.
+    /// A register that the rule reads, or the word of an operation, has another colour than it requires.
     #[error("a register or a word has another colour")]
     Colour,
-    /// The stored value's type is not seen as the cell's type, or the word of a `mov` does not have the
-    /// claimed type.
+    /// The stored value's type is not accepted as the cell's type, or the word of a `mov` does not have the claimed
+    /// type.
     #[error("a word has another basic type")]
     BasicType,
-    /// The address register's basic type is no `ref`.
+    /// The address register's basic type is not a `ref`.
     #[error("the address is not a ref")]
     NotRef,
-    /// The target register's basic type is no `code`.
+    /// The target register's basic type is not `code`.
     #[error("the target is not code")]
     NotCode,
-    /// d is not in the state that the rule wants.
+    /// d is not in the state that the rule requires.
     #[error("d is in another state")]
     StateOfD,
     /// The static queue has 8 pairs.
@@ -42,9 +44,8 @@ pub enum Why {
     /// The code type differs from d's, or the target is not the same as d's form.
     #[error("the targets of a transfer differ")]
     Targets,
-    /// For some register of the target's code type, the register here has no type, another colour, a basic
-    /// type that is not seen as the target's, or a form that is not the same as the target's expression
-    /// under the substitution.
+    /// For some register of the target's code type, the register here has no type, another colour, a basic type that is
+    /// not accepted as the target's, or a form that is not the same as the target's expression under the substitution.
     #[error("a register is not as the target wants it")]
     RegisterUnlike,
     /// The static queue differs in length from the target's, or a pair is not the same under the
@@ -65,4 +66,34 @@ pub enum Why {
     /// The cells of a run are not all of one basic type, or that type has 8 `ref`.
     #[error("the cells of a run are not of one type to which a ref can refer")]
     Array,
+}
+
+impl Why {
+    ghost use Rattle.ft_typing.specs.Premise.{number_of};
+
+    /// The number of the premise, from 1.
+    pub fn number(self) -> u32
+        ensures { result ≡ number_of self }
+    {
+        match self {
+            Why::Untyped => 1,
+            Why::Colour => 2,
+            Why::BasicType => 3,
+            Why::NotRef => 4,
+            Why::NotCode => 5,
+            Why::StateOfD => 6,
+            Why::QueueFull => 7,
+            Why::QueueEmpty => 8,
+            Why::Addresses => 9,
+            Why::Values => 10,
+            Why::Conditions => 11,
+            Why::Targets => 12,
+            Why::RegisterUnlike => 13,
+            Why::QueueUnlike => 14,
+            Why::MemoryUnlike => 15,
+            Why::Annotation => 16,
+            Why::BlockEnd => 17,
+            Why::Array => 18,
+        }
+    }
 }

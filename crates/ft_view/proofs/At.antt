@@ -42,7 +42,7 @@ cell_at names start [] k row e = absurd (cc)
 cell_at names start (r ∷ rs) zero row e = let same : r ≡ row = cc in ap (λ x. Some (cell_of names start x)) same
 cell_at names start (r ∷ rs) (suc k) row e = cell_at names (past_of r) rs k row e
 
--- the type of a record, where the rows before end at these places
+-- the type of a record, if the rows before end at these places
 abbrev pub type_taken : ℕ → ℕ → List ℕ → List RegType → List (ℕ × ℕ) → CodeType
 type_taken from queue_from row regs queue = record {
   ints = type_ints_of row;

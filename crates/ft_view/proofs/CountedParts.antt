@@ -69,7 +69,7 @@ pub entry_is : (bytes : List ℕ) → (object_of bytes).entry ≡ (header_at byt
 unfolding tables_read
 entry_is bytes = refl
 
--- parts that their records alone tell
+-- parts that only their records determine
 pub node_is : (bytes row : List ℕ) (i : ℕ) (x : Node) → slice_get (node_records bytes) i ≡ Some row → x ≡ node_of row →
     slice_get (object_of bytes).nodes i ≡ Some x
 unfolding tables_read
@@ -110,7 +110,7 @@ name_is bytes name k start past refs base code_type init there last is =
     ap (option_map name_of) (cell_at (names_part (header_at bytes) bytes) 0 (cell_records bytes) k _ there)
     ∙ sym (ap Some (is ∙ ap (λ s. take (past - s) (drop s (names_part (header_at bytes) bytes))) last))
 
--- ends where no rule is broken
+-- ends if no rule is broken
 pub cell_ends : (h : Header) (p : Places) (bytes seen : List ℕ) → IsView h p bytes → bytes ≡ seen →
     AreEnds past_of (header_at seen).names 0 (cell_records seen)
 cell_ends h p bytes seen v e =

@@ -19,7 +19,7 @@ use Rattle.ft_format.proofs.Unbroken.{both}
 use Rattle.ft_format.proofs.Shapes.{shape_5, shape_7}
 use Rattle.ft_format.proofs.Layouts.{rows_more}
 
--- the end that the first record tells
+-- the end in the first record
 pub first_end : (end_of : List ℕ → ℕ) (all start : ℕ) (ws : List Width) (m n : ℕ) (bs row : List ℕ) → m ≡ suc n → row
     ≡ numbers ws (take (size ws) bs)
     → AreEnds end_of all start (rows ws m bs) → (start ≤ end_of row) × (end_of row ≤ all)
@@ -94,7 +94,7 @@ ends_of_cells h (suc n) bs start at none =
     let here = cell_ends h start at row refl parts.0 in
     (here.0, here.1, ends_of_cells h n (drop 16 bs) (past_of row) (at + 16) parts.1)
 
--- what follows where a reader found no broken rule
+-- what follows if a reader found no broken rule
 pub found_fine : {X : Type 0} (r : Result X ObjectError) (rule : Option ObjectError) (P : Type 0) → Finds r rule →
     (rule ≡ None → P) → OnOk r P
 found_fine (Ok x) rule P h f = f h

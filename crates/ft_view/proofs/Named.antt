@@ -16,7 +16,7 @@ use Rattle.ft_view.specs.Ends.{AreEnds}
 use Rattle.ft_view.specs.Viewed.{last_end}
 use Rattle.ft_view.proofs.RowsAfter.{rows_snoc}
 
--- the rows from here on, by the first of them
+-- the rows from here, by the first of them
 first_row : (m n : ℕ) (bs row : List ℕ) → m ≡ suc n → row ≡ numbers cell_layout (take 16 bs) → rows cell_layout m bs
     ≡ row ∷ rows cell_layout n (drop 16 bs)
 first_row m n bs row e is = rows_more cell_layout m n bs e ∙ ap (λ r. r ∷ rows cell_layout n (drop 16 bs)) (sym is)

@@ -8,7 +8,7 @@ use Rattle.ft_format.specs.Versions.{may_follow}
 use Rattle.ft_format.specs.Rules.{must, ◌next◌}
 use Rattle.ft_format.specs.Broken.{name_rest_broken}
 
--- a byte that may stand there
+-- a byte that is allowed there
 pub byte_goes : (v : Version) (bytes : List ℕ) (i at : ℕ) (broken : Option ObjectError) → i < length bytes →
     must (may_follow v (get_or bytes i 0)) (errors.Name at) ≡ None
     → name_rest_broken v at (drop i bytes) ≡ broken → name_rest_broken v (at + 1) (drop (i + 1) bytes) ≡ broken

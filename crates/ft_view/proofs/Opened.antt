@@ -1,4 +1,4 @@
--- What a view's bytes tell at a place.
+-- What a view's bytes show at a place.
 use Rattle.std.proofs.Common.{◌≡◌, ℕ, ◌+◌, ◌-◌, ◌*◌, ◌<◌, ◌≤◌, List, [], ◌∷◌, length, take, drop, None, Some, refl, sym}
 use Rattle.std.proofs.Common.{ap, ◌∙◌, subst, arith}
 use Rattle.std.specs.Prelude.{slice_get}
@@ -16,7 +16,7 @@ use Rattle.ft_format.specs.Broken.{header_at, instrs_at, instrs_part, instr_rows
 use Rattle.ft_format.specs.Broken.{tables_read, broken}
 use Rattle.ft_format.specs.Values.{instr_of}
 use Rattle.ft_format.proofs.Layouts.{length_rows}
-use Rattle.ft_format.proofs.Instrs.{IsPlain, row_plain}
+use Rattle.ft_format.proofs.InstrsBack.{IsPlain, row_plain}
 use Rattle.ft_format.proofs.ReadWhole.{tables_of}
 use Rattle.ft_view.specs.Viewed.{IsView}
 use Rattle.ft_view.specs.Sections.{section_of}

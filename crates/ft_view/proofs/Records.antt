@@ -5,7 +5,7 @@ use Rattle.std.specs.Int.{Width}
 use Rattle.std.proofs.lemmas.List.{drop-drop}
 use Rattle.ft_format.specs.Layout.{size, numbers, rows}
 
--- record i of so many
+-- record i of n
 pub row_at : (ws : List Width) (n i : ℕ) (bs : List ℕ) → i < n → slice_get (rows ws n bs) i
     ≡ Some (numbers ws (take (size ws) (drop (size ws * i) bs)))
 unfolding rows

@@ -37,14 +37,14 @@ type_reg_at types nodes ints least at (r ∷ rs) (suc i) reg colour pad refs bas
     (type_regs_broken types nodes ints (first_of_row r + 1) (at + 12) rs) n in
     type_reg_at types nodes ints (first_of_row r + 1) (at + 12) rs i reg colour pad refs base code_type expr p.1 e
 
--- what stands in two lists stands in one of them
+-- what is in two lists is in one of them
 in_either : {X : Type 0} (xs ys : List X) (k : ℕ) (x : X) → slice_get (xs ++ ys) k ≡ Some x →
     (slice_get xs k ≡ Some x) ⊎ ((j : ℕ) × (slice_get ys j ≡ Some x))
 in_either [] ys k x h = inr (k, h)
 in_either (y ∷ xs) ys zero x h = inl h
 in_either (y ∷ xs) ys (suc k) x h = in_either xs ys k x h
 
--- no row stands among none
+-- there is no row among none
 nothing : (n k : ℕ) (bs : List ℕ) (row : List ℕ) (P : Type 0) → n ≡ 0 → slice_get (rows reg_layout n bs) k ≡ Some row →
     P
 nothing n k bs row P e h =

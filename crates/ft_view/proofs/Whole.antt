@@ -1,4 +1,4 @@
--- What is known of each section where no rule is broken.
+-- What is known of each section if no rule is broken.
 use Rattle.std.proofs.Common.{◌≡◌, ℕ, min, List, [], length, None}
 use Rattle.std.specs.Prelude.{◌==◌, nat_le}
 use Rattle.ft_format.specs.declared.object_error.ObjectError.TheVariants as errors

@@ -1,7 +1,7 @@
--- Ends of rows that rise, as the types' records tell them: private to the code.
+-- Ends of rows that increase, as the types' records give them: private to the code.
 use Rattle.std.specs.Prelude.{ℕ, ◌≤◌, List, [], ◌∷◌}
 
--- the ends that records tell rise from this number on, up to so many rows
+-- the ends in these records increase from this number, up to this many rows
 unfoldable pub AreEnds : (List ℕ → ℕ) → ℕ → ℕ → List (List ℕ) → Type 0
 AreEnds end_of all start [] = Unit {0}
 AreEnds end_of all start (row ∷ rest) = (start ≤ end_of row) × (end_of row ≤ all) × AreEnds end_of all (end_of row) rest

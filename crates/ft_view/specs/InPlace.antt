@@ -1,4 +1,4 @@
--- The numbers of an instruction's record, each by where it stands in the record's bytes.
+-- The numbers of an instruction's record, each by its place in the record's bytes.
 use Rattle.std.specs.Prelude.{ℕ, List, drop}
 use Rattle.std.specs.Int.{w8, w32}
 use Rattle.ft_isa.specs.declared.instr.Instr.{Instr}

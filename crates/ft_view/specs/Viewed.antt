@@ -14,7 +14,7 @@ pub record IsView (h : Header) (p : Places) (bytes : List ℕ) : Type 0 where
   pub places : ArePlaces h p
   pub unbroken : broken bytes ≡ None
 
--- where the rows of the last of some records end, the first of which begin at `start`
+-- where the rows of the last of some records end, if those of the first begin at `start`
 abbrev pub last_end : (List ℕ → ℕ) → ℕ → List (List ℕ) → ℕ
 last_end end_of start [] = start
 last_end end_of start (row ∷ rest) = last_end end_of (end_of row) rest

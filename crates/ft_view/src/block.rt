@@ -9,7 +9,7 @@ use crate::rules::check;
 use ft_format::{Header, ObjectError, PairRow};
 use ft_types::Block;
 
-/// Whether a block may begin here, after a block that begins at the previous place: at 0 where there is none.
+/// Whether a block may begin here, after a block that begins at the previous place: at 0 if there is none.
 fn may_begin(previous: Option<u32>, start: u32) -> bool
     ensures { result ≡ may_begin previous start }
 {
@@ -19,9 +19,9 @@ fn may_begin(previous: Option<u32>, start: u32) -> bool
     }
 }
 
-/// The rules of the record of a block, after a block that begins at the previous instruction; `previous` is `None`
-/// for block 0, which begins at 0. `Order` where it begins elsewhere, not behind the previous one or not within the
-/// instructions, `Index` for a type that is not there.
+/// The rules of the record of a block, after a block that begins at the previous instruction; `previous` is `None` for
+/// block 0, which begins at 0. `Order` if it begins elsewhere, not after the previous one or not within the
+/// instructions, `Index` for a type that does not exist.
 pub fn check_block(
     header: Header,
     previous: Option<u32>,

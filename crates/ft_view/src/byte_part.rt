@@ -1,7 +1,7 @@
 //! Stretches of the bytes.
 ghost use Rattle.std.specs.Prelude.{◌≡◌, ◌+◌, ◌≤◌, length, take, drop};
 
-/// So many bytes from a place on.
+/// `count` bytes from a place.
 pub fn stretch(bytes: &[u8], at: usize, count: usize) -> &[u8]
     requires { at + count ≤ length bytes.now }
     ensures bytes { result.now ≡ take count (drop at bytes.now) }

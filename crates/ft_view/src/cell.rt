@@ -10,9 +10,9 @@ use crate::rules::{check, check_basic};
 use ft_format::{CellRow, Header, ObjectError};
 use ft_types::CellHead;
 
-/// The rules of the record of a cell, whose name begins at `start` in the name bytes: `Order` for a name whose end
-/// is not above `start` or lies beyond them, `Name` for one of more bytes than the version allows, and what is wrong with the basic
-/// type.
+/// The rules of the record of a cell, whose name begins at `start` in the name bytes: `Order` for a name whose end is
+/// not above `start` or is beyond them, `Name` for one of more bytes than the version allows, and what is wrong with
+/// the basic type.
 pub fn check_cell(header: Header, start: u32, at: usize, row: CellRow) -> Result<(), ObjectError>
     requires places { at ≤ 2 ^ 27 }
     requires start { start ≤ 2 ^ 27 }

@@ -10,7 +10,7 @@ use crate::node_records::NodeRecords;
 use crate::rules::{check, check_count, check_named, check_zero};
 use ft_format::{Header, ObjectError, TypeRow};
 
-/// The rules of a type's record, where the rows of the types before end at `regs` and `queue`.
+/// The rules of a type's record, if the rows of the types before end at `regs` and `queue`.
 fn check_type(
     header: Header,
     nodes: &NodeRecords,

@@ -43,7 +43,7 @@ fn kind(bytes: &[u8]) -> u8
     byte_at(bytes, 0)
 }
 
-/// The register that a record has first.
+/// The first register of a record.
 #[inline(always)]
 fn reg_a(bytes: &[u8]) -> Reg
     requires there { 16 ≤ length bytes.now }
@@ -53,7 +53,7 @@ fn reg_a(bytes: &[u8]) -> Reg
     register(byte_at(bytes, 1))
 }
 
-/// The register that a record has second.
+/// The second register of a record.
 #[inline(always)]
 fn reg_b(bytes: &[u8]) -> Reg
     requires there { 16 ≤ length bytes.now }
@@ -63,7 +63,7 @@ fn reg_b(bytes: &[u8]) -> Reg
     register(byte_at(bytes, 2))
 }
 
-/// The register that a record has third.
+/// The third register of a record.
 #[inline(always)]
 fn reg_c(bytes: &[u8]) -> Reg
     requires there { 16 ≤ length bytes.now }
@@ -91,7 +91,7 @@ fn field_x(bytes: &[u8]) -> u32
     number_at(bytes, 4)
 }
 
-/// The operation of a code that there is, which its last byte tells.
+/// The operation of an existing code, by its last byte.
 #[inline(always)]
 fn known_op(code: u32) -> Op
     requires { code ≤ last_op_code }
@@ -125,8 +125,8 @@ fn subst_in(bytes: &[u8]) -> Subst
     }
 }
 
-/// The instruction of the record in the first 16 bytes, which breaks no rule. Where the colour tells two instructions of a kind
-/// apart, each has an arm of its own, so that the machine's loop makes this choice and no other.
+/// The instruction of the record in the first 16 bytes, which breaks no rule. If the colour distinguishes two
+/// instructions of a kind, each has an arm of its own, so that the machine's loop makes this choice and no other.
 #[inline(always)]
 pub fn instr_in(bytes: &[u8]) -> Instr
     requires there { 16 ≤ length bytes.now }

@@ -163,7 +163,7 @@ fn check_halt(at: usize, row: CodeRow) -> Result<(), ObjectError>
     check_no_word(at + 8, row)
 }
 
-/// The word of a record, which is the length of a run from cell x on.
+/// The word of a record, which is the length of a run from cell x.
 fn check_run(cells: u32, at: usize, row: CodeRow) -> Result<(), ObjectError>
     ensures { Finds result (run_broken cells at row.x row.high row.low) }
 {
@@ -173,7 +173,7 @@ fn check_run(cells: u32, at: usize, row: CodeRow) -> Result<(), ObjectError>
     check(past <= u64::from(cells), ObjectError::Index { at })
 }
 
-/// An `idx`: two registers, and a run of so many cells.
+/// An `idx`: two registers, and a run of cells.
 fn check_index(cells: u32, at: usize, row: CodeRow) -> Result<(), ObjectError>
     requires { at ≤ 2 ^ 27 }
     ensures { Finds result (index_broken cells at row.a row.b row.c row.x row.high row.low) }
@@ -185,10 +185,10 @@ fn check_index(cells: u32, at: usize, row: CodeRow) -> Result<(), ObjectError>
     check_run(cells, at + 8, row)
 }
 
-/// The rules of the record of an instruction, where the substitutions before took the rows up to `first`: `Kind` for
-/// a code that stands for nothing or a substitution's memory that is an integer, `Index` for a register, type,
-/// node or cell that is not there, `Pad`, `Order` and `Count` for the rows of its substitution, and `Count` for the
-/// length of a run.
+/// The rules of the record of an instruction, where earlier substitutions took the rows up to `first`: `Kind` for a
+/// code without a meaning or a substitution's memory that is an integer, `Index` for a register, type, node or cell
+/// that does not exist, `Pad`, `Order` and `Count` for the rows of its substitution, and `Count` for the length of a
+/// run.
 pub fn check_instr(
     header: Header,
     nodes: &NodeRecords,
@@ -217,8 +217,8 @@ pub fn check_instr(
     }
 }
 
-/// The row after those that the substitutions up to the instruction of this record take, where the ones before took
-/// the rows up to `first`.
+/// The row after those that the substitutions up to the instruction of this record take, where earlier ones took the
+/// rows up to `first`.
 pub fn rows_past(first: u32, row: CodeRow) -> u32
     ensures { result ≡ rows_past first (code_numbers row) }
 {

@@ -1,9 +1,10 @@
 //! Objects read in place.
 //!
-//! A `View` is bytes that spell an object, with nothing copied. The crate promises that the bytes are accepted and
-//! refused as the format says (`ft_format`), with the first rule that is broken and its place (`specs/Found.antt`), and
-//! that each call tells the part of the object that the bytes spell. A record is checked and read by a module of its
-//! own. A place is counted in bytes from the object's first one.
+//! A `View` is bytes that spell an object, with nothing copied. The crate promises that the bytes are
+//! accepted and refused as the format says (`ft_format`), with the first broken rule and its place
+//! (`specs/Found.antt`), and that each call returns that part of the object that the bytes spell. Each kind
+//! of record has its own module, which checks and reads it. A place is an offset in bytes from the start of
+//! the object.
 #![tactic(auto)]
 
 mod block;

@@ -32,7 +32,7 @@ fn is_name_byte(b: u8) -> bool
     is_letter(b) || is_digit(b) || is_bracket(b)
 }
 
-/// Whether a byte may stand in a name after its first.
+/// Whether a byte is allowed in a name after its first.
 fn may_follow(version: Version, b: u8) -> bool
     ensures { result ≡ may_follow version b }
 {
@@ -55,7 +55,7 @@ fn check_name_rest(version: Version, at: usize, bytes: &[u8]) -> Result<(), Obje
     Ok(())
 }
 
-/// The rules of the bytes of a name that begins at a place: `Name` for one that may not stand there.
+/// The rules of the bytes of a name that begins at a place: `Name` for one that is not allowed there.
 #[tactic(auto, unfolding(ft_format::specs::Broken::name_bytes_broken))]
 pub fn check_name_bytes(version: Version, at: usize, name: &[u8]) -> Result<(), ObjectError>
     requires { at + length name.now ≤ 2 ^ 27 }

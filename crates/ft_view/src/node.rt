@@ -29,7 +29,7 @@ fn check_variable(at: usize, row: NodeRow) -> Result<(), ObjectError>
     Ok(())
 }
 
-/// An operation on two integers, or what a memory holds at an address.
+/// An operation on two integers, or the word of a memory at an address.
 #[inline(always)]
 fn check_pair(
     earlier: &NodeRecords,
@@ -79,7 +79,7 @@ fn check_rem(earlier: &NodeRecords, at: usize, row: NodeRow) -> Result<(), Objec
     Ok(())
 }
 
-/// The parts a, b and c of a node, by its kind, where any above 5 is that of a remainder.
+/// The parts a, b and c of a node, by its kind; any kind above 5 is that of a remainder.
 #[inline(always)]
 fn check_parts(earlier: &NodeRecords, at: usize, row: NodeRow) -> Result<(), ObjectError>
     requires { at ≤ 2 ^ 27 }
@@ -99,7 +99,7 @@ fn check_parts(earlier: &NodeRecords, at: usize, row: NodeRow) -> Result<(), Obj
     }
 }
 
-/// The rules of a node's record from its scope on.
+/// The rules of a node's record after its scope.
 #[inline(always)]
 fn check_rest(earlier: &NodeRecords, at: usize, row: NodeRow) -> Result<(), ObjectError>
     requires { at ≤ 2 ^ 27 }
@@ -110,8 +110,8 @@ fn check_rest(earlier: &NodeRecords, at: usize, row: NodeRow) -> Result<(), Obje
     check_parts(earlier, at, row)
 }
 
-/// The rules of the record of a node, after the earlier ones: `Kind` for a code that stands for nothing or a node of
-/// the wrong sort, `Pad`, `Count` for the scope or a length, `Index` for a node or variable that may not be named.
+/// The rules of the record of a node, after the earlier ones: `Kind` for a code without a meaning or a node of the
+/// wrong sort, `Pad`, `Count` for the scope or a length, `Index` for a node or variable that may not be used.
 #[inline(always)]
 pub fn check_node(
     version: Version,
@@ -135,7 +135,7 @@ pub fn check_node(
     }
 }
 
-/// The shape of a record, by its kind, where any above 5 is that of a remainder.
+/// The shape of a record, by its kind; any kind above 5 is that of a remainder.
 fn shape(row: NodeRow) -> Shape
     requires { row.kind ≡ 1 → row.a < 256 }
     ensures { result ≡ shape_of row.kind row.op row.a row.b row.c }

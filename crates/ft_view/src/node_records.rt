@@ -9,7 +9,7 @@ use crate::byte_part::stretch;
 use ft_format::NodeRow;
 use std::marker::Model;
 
-/// So many records of nodes, one after the other. They are seen as the nodes that they stand for.
+/// Records of nodes, one after the other. Their model is the nodes that they stand for.
 #[derive(Drop)]
 pub struct NodeRecords<'a> {
     count: u32,
@@ -30,7 +30,7 @@ impl<'a> Model for NodeRecords<'a> {
 }
 
 impl<'a> NodeRecords<'a> {
-    /// The nodes of so many records, which stand first in the bytes.
+    /// The nodes of `count` records, which come first in the bytes.
     pub fn new(count: u32, bytes: &'a [u8]) -> NodeRecords<'a>
         requires { 16 * count ≤ length bytes.now }
         ensures { result ≡ map node_of (rows code_layout count bytes.now) }

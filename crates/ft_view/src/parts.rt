@@ -12,7 +12,7 @@ pub(crate) fn register(number: u8) -> Reg
     Reg::below(number)
 }
 
-/// The colour of a code, where any but 0 is blue.
+/// The colour of a code; any code but 0 is blue.
 pub(crate) fn colour(code: u8) -> Colour
     ensures { result ≡ colour_of code }
 {
@@ -22,7 +22,7 @@ pub(crate) fn colour(code: u8) -> Colour
     }
 }
 
-/// The base of a code, where any but 0 is that of code.
+/// The base of a code; any code but 0 is that of code.
 fn base(code: u8, code_type: u16) -> Base
     ensures { result ≡ base_of code code_type }
 {

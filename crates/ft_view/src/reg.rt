@@ -1,4 +1,4 @@
-//! Register rows: what each type says of registers.
+//! Register rows: what each type says about registers.
 ghost use Rattle.std.specs.Prelude.{◌≡◌, ◌≤◌, ◌^◌, ◌<◌, OnOk};
 ghost use Rattle.ft_view.specs.Found.{Finds};
 ghost use Rattle.ft_format.specs.Fields.{reg_numbers};
@@ -11,9 +11,9 @@ use crate::rules::{check, check_basic, check_colour, check_named, check_register
 use ft_format::{ObjectError, RegRow};
 use ft_types::RegType;
 
-/// The rules of the record of a register row, in a type of so many variables whose rows before leave the registers
-/// from `least` on: `Index` for no register, `Order` for one below `least`, `Kind` for the colour, `Pad`, what is
-/// wrong with the basic type, `Index` and `Kind` for the expression.
+/// The rules of the record of a register row, in a type with this many variables whose earlier rows leave the registers
+/// from `least`: `Index` for no register, `Order` for one below `least`, `Kind` for the colour, `Pad`, what is wrong
+/// with the basic type, `Index` and `Kind` for the expression.
 pub fn check_reg(
     types: u32,
     nodes: &NodeRecords,

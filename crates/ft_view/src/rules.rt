@@ -1,4 +1,4 @@
-//! Rules that several records share. Each answers the error with its place where its rule is broken.
+//! Rules that several records share. Each returns the error with its place if its rule is broken.
 ghost use Rattle.std.specs.Prelude.{◌≤◌, ◌^◌};
 ghost use Rattle.ft_view.specs.Found.{Finds};
 ghost use Rattle.ft_format.specs.Rules.{must, zero_broken, count_broken, some_broken, colour_broken, op_broken, register_broken, code_type_broken, basic_broken, node_number_broken, named_broken};
@@ -6,7 +6,7 @@ ghost use Rattle.ft_format.specs.Rules.{must, zero_broken, count_broken, some_br
 use crate::node_records::NodeRecords;
 use ft_format::{ObjectError, Version};
 
-/// Nothing where the test holds, else the error.
+/// Nothing if the test holds, else the error.
 pub fn check(holds: bool, error: ObjectError) -> Result<(), ObjectError>
     ensures { Finds result (must holds error) }
 {
@@ -20,14 +20,14 @@ pub(crate) fn check_zero(at: usize, n: u32) -> Result<(), ObjectError>
     check(n == 0, ObjectError::Pad { at })
 }
 
-/// The count at this place is at most so many.
+/// The count at this place is at most `most`.
 pub(crate) fn check_count(most: u32, at: usize, n: u32) -> Result<(), ObjectError>
     ensures { Finds result (count_broken most at n) }
 {
     check(n <= most, ObjectError::Count { at })
 }
 
-/// The count at this place is at least 1 and at most so many.
+/// The count at this place is at least 1 and at most `most`.
 pub(crate) fn check_some(most: u32, at: usize, n: u32) -> Result<(), ObjectError>
     ensures { Finds result (some_broken most at n) }
 {
@@ -56,7 +56,7 @@ pub(crate) fn check_register(at: usize, number: u8) -> Result<(), ObjectError>
     check(number < 64, ObjectError::Index { at })
 }
 
-/// The code type at this place: zero for `int`, one of so many for `code`.
+/// The code type at this place: zero for `int`, an existing one for `code`.
 fn check_code_type(types: u32, at: usize, base: u8, code_type: u16) -> Result<(), ObjectError>
     ensures { Finds result (code_type_broken types at base code_type) }
 {
@@ -67,7 +67,7 @@ fn check_code_type(types: u32, at: usize, base: u8, code_type: u16) -> Result<()
     }
 }
 
-/// The basic type at this place, where there are so many code types.
+/// The basic type at this place, if there are this many code types.
 pub(crate) fn check_basic(
     types: u32,
     at: usize,
@@ -83,8 +83,7 @@ pub(crate) fn check_basic(
     check_code_type(types, at + 2, base, code_type)
 }
 
-/// The number at this place is that of a node, else `Index`, and of a memory or an integer as wanted, else
-/// `Kind`.
+/// The number at this place is that of a node, else `Index`, and of a memory or an integer as required, else `Kind`.
 #[inline(always)]
 pub fn check_node_number(
     nodes: &NodeRecords,

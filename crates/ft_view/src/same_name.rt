@@ -1,4 +1,4 @@
-//! Whether two names are the same, seen quickly where they are not: each name of an object is compared with all before.
+//! Whether two names are the same; quick if they are not, since each name of an object is compared with all before it.
 ghost use Rattle.std.specs.Prelude.{◌≡◌, ◌+◌, ◌≤◌, true, length, take, drop};
 ghost use Rattle.std.specs.Int.{w64};
 ghost use Rattle.std.specs.Str.{bytes_eq};
@@ -6,7 +6,7 @@ ghost use Rattle.ft_format.specs.Layout.{number_of};
 
 use crate::byte_part::stretch;
 
-/// Eight bytes from a place on, as a number.
+/// Eight bytes from a place, as a number.
 #[inline(always)]
 #[tactic(auto, unfolding(ft_format::specs::Layout::number_of))]
 fn word(bytes: &[u8], at: usize) -> u64
@@ -19,7 +19,7 @@ fn word(bytes: &[u8], at: usize) -> u64
     ])
 }
 
-/// Whether the eight bytes from a place on are the same in both names.
+/// Whether the eight bytes from a place are the same in both names.
 #[inline(always)]
 fn has_word_of(name: &[u8], other: &[u8], at: usize) -> bool
     requires here { at + 8 ≤ length name.now }
@@ -29,8 +29,8 @@ fn has_word_of(name: &[u8], other: &[u8], at: usize) -> bool
     word(name, at) == word(other, at)
 }
 
-/// Whether two names of one length may be the same: `false` only for unlike ones, which is quickly seen by words
-/// of eight bytes, and seldom `true` for them.
+/// Whether two names of one length may be the same: `false` only for different ones, which words of eight bytes show
+/// quickly, and seldom `true` for them.
 #[inline(always)]
 fn may_be_same(name: &[u8], other: &[u8]) -> bool
     requires { length name.now ≡ length other.now }

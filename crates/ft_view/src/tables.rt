@@ -23,7 +23,7 @@ use crate::sections::regs::check_regs;
 use crate::sections::substs::check_substs;
 use ft_format::{Header, ObjectError, Places};
 
-/// The most bytes that an object file may have.
+/// The maximum bytes of an object file.
 const LIMIT: usize = 67108864;
 
 /// The rules of the cells, whose names end within the name bytes.
@@ -86,7 +86,7 @@ fn judge_instrs(header: Header, nodes: &NodeRecords, bytes: &[u8]) -> Result<u32
     check_instrs(header, nodes, at, part(bytes, at))
 }
 
-/// The rules of the substitution rows, so many of which the instructions take.
+/// The rules of the substitution rows, as many as the instructions take.
 fn judge_substs(
     header: Header,
     nodes: &NodeRecords,

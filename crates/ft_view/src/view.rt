@@ -17,7 +17,7 @@ use ft_static::{Node, Nodes};
 use ft_types::{Block, CellHead, Counts, INSTR_BYTES, Program, RegType, TypeHead};
 use std::marker::Model;
 
-/// Bytes that spell an object. A view is seen as its bytes, and the object that they spell is one (`object_of`).
+/// Bytes that spell an object. A view's model is its bytes, and the object that they spell is one (`object_of`).
 #[derive(Drop)]
 pub struct View<'a> {
     header: Header,
@@ -55,14 +55,14 @@ impl<'a> View<'a> {
 
     /// The object that the bytes spell, in place; or the first rule of the format that they break, with its place.
     pub fn over(bytes: &'a [u8]) -> Result<View<'a>, ObjectError>
-        // An error is the first rule broken, and none is broken where a view is given.
+        // An error is the first rule broken, and none is broken if a view is returned.
         ensures judged { Finds result (broken bytes.now) }
-        // A view is seen as the bytes.
+        // A view's model is its bytes.
         ensures seen { IfOk result (λ v. v ≡ bytes.now) }
-        // What it is a view of is the object that the bytes spell, and no other.
+        // It is a view of the object that the bytes spell, and no other.
         ensures spelled { IfOk result (λ v. Spells bytes.now (version_at bytes.now) (object_of v)) }
         ensures one { (version : Version) (o : Object) → Spells bytes.now version o → IfOk result (λ v. object_of v ≡ o) }
-        // No rule is broken exactly when some object is spelled.
+        // No rule is broken exactly if some object is spelled.
         ensures exact { (broken bytes.now ≡ None) ↔ ((version : Version) × (o : Object) × Spells bytes.now version o) }
     {
         let header = judge(bytes)?;

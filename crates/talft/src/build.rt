@@ -4,16 +4,16 @@ use std::alloc::Global;
 use std::fs;
 use std::rt::Files;
 
-/// Where the system names the file of the program that runs.
+/// Where the system names the file of the running program.
 const OWN_FILE: &str = "/proc/self/exe";
 
 /// Where an installation names its build, in the folder that has `bin`.
 const BUILD: &str = "share/doc/talft/BUILD";
 
-/// The most bytes of that file.
+/// The maximum bytes of that file.
 const LIMIT: usize = 1024;
 
-/// The name of the file of the build of the program that runs.
+/// The name of the file that describes the running program's build.
 fn file_of_build<R: Files + AllocGlobal>(rt: &R) -> Option<String> {
     let own = fs::read_link(rt, OWN_FILE).ok()?;
     let (bin, _) = own.as_str().rsplit_once('/')?;
@@ -21,7 +21,7 @@ fn file_of_build<R: Files + AllocGlobal>(rt: &R) -> Option<String> {
     format!(in rt.alloc(); "{above}/{BUILD}").ok()
 }
 
-/// The line that names version, commit and kit, with its line feed; `None` where the program is not installed.
+/// The line that gives version, commit and kit, with its line feed; `None` if the program is not installed.
 pub(crate) fn line_of_build<R: Files + AllocGlobal>(rt: &R, alloc: Global) -> Option<String> {
     let name = file_of_build(rt)?;
     let mut bytes = Vec::new(alloc);

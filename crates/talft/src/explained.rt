@@ -11,20 +11,20 @@ use std::alloc::Global;
 use std::rt::{Env, Files};
 use std::{env, fs, io};
 
-/// The variable of the environment that forbids explanations, by the value 0.
+/// The environment variable that forbids explanations, by the value 0.
 const VARIABLE: &str = "TALFT_EXPLAIN";
 
-/// What is said of arguments that are no text.
+/// The explanation for arguments that are not UTF-8.
 const NO_TEXT: &str = "talft: error: an argument is not UTF-8 text\n";
 
-/// What is said before commands of the debugger are read from a terminal.
+/// The message before debugger commands are read from a terminal.
 const COMMANDS: &str =
     "talft: note: debugger commands are read from the terminal up to Ctrl-D; `tools/debugger OBJECT` has a prompt and help\n";
 
-/// The most bytes of a link map.
+/// The maximum bytes of a link map.
 const MAP_LIMIT: usize = 65_536;
 
-/// Whether calls are to be explained: unless the environment forbids it.
+/// Whether calls are explained: unless the environment forbids it.
 pub(crate) fn is_wanted<R: Env + AllocGlobal>(rt: &R) -> bool {
     match env::var(rt, VARIABLE) {
         Ok(value) => value.as_str() != "0",
@@ -32,7 +32,7 @@ pub(crate) fn is_wanted<R: Env + AllocGlobal>(rt: &R) -> bool {
     }
 }
 
-/// Whether what has this name gives its bytes once, as a pipe or a device does.
+/// Whether this name gives its bytes only once, as a pipe or a device does.
 fn is_read_once<R: Files>(rt: &R, name: &str) -> bool {
     match fs::metadata(rt, name) {
         Ok(found) => !found.is_file() && !found.is_dir(),
@@ -82,7 +82,7 @@ fn are_read_again<R: Files, S: Shelf>(
     true
 }
 
-/// Whether an argument of the program is no text: then the call has no words.
+/// Whether an argument of the program is not UTF-8: then the call has no words.
 fn is_some_argument_no_text<R: Env + AllocGlobal>(rt: &R) -> bool {
     match env::args(rt) {
         Ok(_) => false,
@@ -90,7 +90,7 @@ fn is_some_argument_no_text<R: Env + AllocGlobal>(rt: &R) -> bool {
     }
 }
 
-/// What is said of a call.
+/// The explanation of a call.
 fn explanation<R: Files + AllocGlobal + Clone + Drop>(
     rt: &R,
     words: &[String],
@@ -115,7 +115,7 @@ fn explanation<R: Files + AllocGlobal + Clone + Drop>(
     )
 }
 
-/// Says why standard output could not be written; nothing where the reader of a pipe has enough.
+/// Explains why standard output could not be written; nothing if the reader of a pipe has enough.
 fn say_unwritten<R: Files + Eprint + AllocGlobal>(rt: &R, reason: &str) {
     if !is_pipe(rt) {
         let _ = rt.eprint("talft: error: the output could not be written");
@@ -124,8 +124,8 @@ fn say_unwritten<R: Files + Eprint + AllocGlobal>(rt: &R, reason: &str) {
     }
 }
 
-/// Says on standard error what a person is told of a call. The status is what the call is about: what cannot be
-/// written there changes nothing.
+/// Writes the explanation of a call to standard error. The status is that of the call: what cannot be written there
+/// changes nothing.
 fn say<R: Env + Files + Eprint + AllocGlobal + Clone + Drop>(
     rt: &R,
     words: &[String],
@@ -147,7 +147,7 @@ fn say<R: Env + Files + Eprint + AllocGlobal + Clone + Drop>(
     }
 }
 
-/// Whether the words ask for a session of the debugger.
+/// Whether the words ask for a debugger session.
 fn ask_for_session(words: &[String]) -> bool {
     match words {
         [command, _] => command.as_str() == "debug",
@@ -156,8 +156,8 @@ fn ask_for_session(words: &[String]) -> bool {
     }
 }
 
-/// Does what the words ask for, and says on standard error what a person is told of it. What is written to
-/// standard output and the status are as without.
+/// Does what the words ask for, and writes the explanation to standard error. Standard output and the status are the
+/// same as without it.
 pub(crate) fn run<R: Env + Files + Print + Eprint + Input + AllocGlobal + Clone + Drop>(
     rt: &R,
     words: &[String],
@@ -178,7 +178,7 @@ pub(crate) fn run<R: Env + Files + Print + Eprint + Input + AllocGlobal + Clone 
         say_unwritten(rt, watched.reason());
         return Ok(status);
     }
-    // The bytes of an object end in no line feed.
+    // The bytes of an object do not end with a line feed.
     if watched.has_shown_object() && is_terminal(rt, STANDARD_ERROR) {
         let _ = rt.eprint("\n");
     }

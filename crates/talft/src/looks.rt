@@ -1,4 +1,4 @@
-//! What stands under names in the folders of the system.
+//! What the system has under a name.
 use ft_explain::{Found, Look};
 use std::fs;
 use std::fs::File;
@@ -19,11 +19,11 @@ fn is_forbidden<R: Files>(rt: &R, name: &str) -> bool {
     }
 }
 
-/// What stands under a name.
+/// What the system has under a name.
 fn found<R: Files>(rt: &R, name: &str) -> Found {
     match fs::metadata(rt, name) {
         Ok(found) if found.is_dir() => Found::Folder,
-        // A pipe that nobody writes to would be waited for.
+        // Opening a pipe without a writer would wait for one.
         Ok(found) if found.is_file() && is_forbidden(rt, name) => Found::Forbidden,
         Ok(_) => Found::File,
         Err(error) => match error.kind() {

@@ -1,10 +1,10 @@
 //! The tool over the files of the system, standard input and standard output.
 //!
 //! The program's words are its arguments, and `ft_tool::tool` does what they ask for: its contract says
-//! what it writes and answers. Arguments that are no text are no command, so they are handed over as no
-//! words at all. Lines are gathered and written in large pieces. What is gathered at the end is written
-//! before the program ends; the status is that of `tool`, or 4 when this last write fails. A call that is
-//! refused, detected or cut is explained on standard error.
+//! what it writes and returns. Arguments that are not UTF-8 are not a command, so `tool` then gets no
+//! words. Lines are gathered and written in large pieces. What is gathered at the end is written before the
+//! program ends; the status is that of `tool`, or 4 if this last write fails. A refused, detected or cut
+//! call is explained on standard error.
 #![tactic(auto)]
 
 mod build;
@@ -63,7 +63,7 @@ fn run<R: Env + Files + Print + Eprint + Input + AllocGlobal + Clone + Drop>(
     Ok(ended(out, status))
 }
 
-/// Hands on what is still gathered, unless a put failed: then nothing more is written.
+/// Writes what is still gathered, unless a put failed: then nothing more is written.
 fn ended<W: Write + Drop>(out: GatheringSink<W>, status: u8) -> u8 {
     if status == NOT_WRITTEN {
         let _ = out.discard();

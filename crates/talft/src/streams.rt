@@ -2,13 +2,13 @@
 use std::fs;
 use std::rt::Files;
 
-/// Where the system tells what standard output is.
+/// Where the system describes standard output.
 pub(crate) const STANDARD_OUTPUT: &str = "/proc/self/fd/1";
 
-/// Where the system tells what standard input is.
+/// Where the system describes standard input.
 pub(crate) const STANDARD_INPUT: &str = "/proc/self/fd/0";
 
-/// Where the system tells what standard error is.
+/// Where the system describes standard error.
 pub(crate) const STANDARD_ERROR: &str = "/proc/self/fd/2";
 
 /// What the names of terminals begin with.
@@ -27,7 +27,7 @@ pub(crate) fn is_terminal<R: Files + AllocGlobal>(rt: &R, stream: &str) -> bool 
     false
 }
 
-/// Whether standard output is a pipe, by its name. A pipe refuses bytes where nobody reads it any more.
+/// Whether standard output is a pipe, by its name. A pipe refuses bytes if nobody reads it any more.
 pub(crate) fn is_pipe<R: Files + AllocGlobal>(rt: &R) -> bool {
     match fs::read_link(rt, STANDARD_OUTPUT) {
         Ok(name) => name.as_str().starts_with("pipe:"),

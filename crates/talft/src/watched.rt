@@ -4,14 +4,14 @@ ghost use Rattle.std.specs.Prelude.{◌≡◌};
 use std::io;
 use std::io::{Error, ErrorKind, Write};
 
-/// What is said before an object goes to a terminal.
+/// The message before an object goes to a terminal.
 const BINARY: &str =
     "talft: note: an object is binary: redirect it to a file, as in `talft compile SOURCE >FILE.obj`\n";
 
 /// What an object begins with.
 const MAGIC: &[u8] = b"TALFT";
 
-/// The system's number of a stream that is closed.
+/// The system's number for a closed stream.
 const CLOSED: i32 = 9;
 
 /// A writer that remembers why its last write failed. Before an object goes to a terminal it says what that is.
@@ -53,7 +53,7 @@ impl<'r, R: Eprint, W: Write> Watched<'r, R, W> {
         self.has_shown_object
     }
 
-    /// Why the last write failed, with a colon before it; nothing where that is not known.
+    /// Why the last write failed, after a colon; nothing if that is not known.
     pub fn reason(&self) -> &'static str {
         self.reason
     }

@@ -38,7 +38,7 @@ impl CellRow {
         }
     }
 
-    /// Puts the record's bytes at the end. Where memory runs out, some of them may stand there.
+    /// Appends the record's bytes. If memory runs out, some of them may be there.
     #[inline(always)]
     pub fn write(self, out: &mut Vec<u8>) -> Result<(), NoMemory>
         ensures { OnOk result (Puts out.old.items out.new.items (written cell_layout (cell_numbers self))) }

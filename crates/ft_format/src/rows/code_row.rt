@@ -44,7 +44,7 @@ impl CodeRow {
         }
     }
 
-    /// Puts the record's bytes at the end. Where memory runs out, some of them may stand there.
+    /// Appends the record's bytes. If memory runs out, some of them may be there.
     #[inline(always)]
     pub fn write(self, out: &mut Vec<u8>) -> Result<(), NoMemory>
         ensures { OnOk result (Puts out.old.items out.new.items (written code_layout (code_numbers self))) }

@@ -24,7 +24,7 @@ impl SubstRow {
         SubstRow { node }
     }
 
-    /// Puts the record's bytes at the end. Where memory runs out, some of them may stand there.
+    /// Appends the record's bytes. If memory runs out, some of them may be there.
     #[tactic(auto, unfolding(crate::specs::Layout::written))]
     pub fn write(self, out: &mut Vec<u8>) -> Result<(), NoMemory>
         ensures { OnOk result (Puts out.old.items out.new.items (written subst_layout (subst_numbers self))) }

@@ -46,7 +46,7 @@ impl TypeRow {
         }
     }
 
-    /// Puts the record's bytes at the end. Where memory runs out, some of them may stand there.
+    /// Appends the record's bytes. If memory runs out, some of them may be there.
     #[inline(always)]
     pub fn write(self, out: &mut Vec<u8>) -> Result<(), NoMemory>
         ensures { OnOk result (Puts out.old.items out.new.items (written type_layout (type_numbers self))) }

@@ -206,7 +206,7 @@ pub(crate) const RUNS: &[Row] = &[
     ),
 ];
 
-/// Lawful alterations of `J` with byte 7 as 2.
+/// Valid alterations of `J` with byte 7 as 2.
 pub(crate) const LAWFUL_SECOND: &[Lawful] = &[
     ("as it is", &[]),
     (
@@ -245,7 +245,7 @@ pub(crate) const LAWFUL_SECOND: &[Lawful] = &[
     ("brackets in a name", &[(365, 91), (366, 93)]),
 ];
 
-/// Lawful alterations of `I`.
+/// Valid alterations of `I`.
 pub(crate) const LAWFUL_RUNS: &[Lawful] = &[
     ("the last cell alone", &[(159, 2), (167, 1)]),
     ("the last two cells", &[(159, 1), (167, 2)]),

@@ -35,7 +35,7 @@ fn has_name(names: &[u8], count: u32, records: &[u8], name: &[u8]) -> bool
     false
 }
 
-/// The rules of a name at a place, after those of so many earlier cells.
+/// The rules of a name at a place, after those of earlier cells.
 fn check_name(
     version: Version,
     names: &[u8],
@@ -54,8 +54,8 @@ fn check_name(
     check(!is_there, ObjectError::Name { at })
 }
 
-/// The rules of the names of so many cells, whose bytes begin at a place and take all up to the end: `Name` for a byte
-/// that may not stand there or a name that an earlier cell has, `Order` for a byte that is left.
+/// The rules of the cells' names, whose bytes begin at a place and take all up to the end: `Name` for a byte that is
+/// not allowed there or a name that an earlier cell has, `Order` for a byte that is left over.
 pub(crate) fn check_names(
     version: Version,
     end: usize,

@@ -8,7 +8,8 @@ use crate::node::check_node;
 use crate::node_records::NodeRecords;
 use ft_format::{NodeRow, ObjectError, Version};
 
-/// The rules of so many records of nodes, the first of which is at a place. By itself the loop has enough registers.
+/// The rules of `count` records of nodes, the first of which is at a place. A function of its own: the loop then has
+/// enough registers.
 #[inline(never)]
 pub(crate) fn check_nodes(
     version: Version,

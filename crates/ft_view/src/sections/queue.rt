@@ -1,4 +1,4 @@
-//! Queue rows: what each type says of the stores that wait.
+//! Queue rows: what each type says about the stores that wait.
 ghost use Rattle.std.specs.Prelude.{◌≡◌, ◌+◌, ◌*◌, ◌≤◌, ◌^◌, length, drop, IfOk};
 ghost use Rattle.ft_format.specs.Layout.{rows, pair_layout, type_layout};
 ghost use Rattle.ft_format.specs.Values.{queue_end_of};

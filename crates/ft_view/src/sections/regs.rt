@@ -1,4 +1,4 @@
-//! Register rows: what each type says of registers.
+//! Register rows: what each type says about registers.
 ghost use Rattle.std.specs.Prelude.{◌≡◌, ◌+◌, ◌*◌, ◌≤◌, ◌^◌, length, drop, IfOk};
 ghost use Rattle.ft_format.specs.Layout.{rows, reg_layout, type_layout};
 ghost use Rattle.ft_format.specs.Values.{regs_end_of};

@@ -1,4 +1,4 @@
--- A text is refused where its tree is; and the cells of a program have lawful names.
+-- A text is refused if its tree is; and the cells of a program have valid names.
 use Rattle.std.proofs.Common.{inr}
 use Rattle.ft_syntax.specs.TreeOf.{tree_of}
 use Rattle.ft_scope.specs.ProgramOf.{program_of}

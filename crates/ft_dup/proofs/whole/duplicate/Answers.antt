@@ -6,7 +6,7 @@ use Rattle.ft_dup.specs.Shape.{HasTarget}
 use Rattle.ft_dup.specs.Images.{starts, blocks_images}
 use Rattle.ft_dup.proofs.WellFormedBlocks.{targets_there, images_there}
 use Rattle.ft_dup.proofs.Laying.{blocks_length}
-use Rattle.ft_dup.proofs.Following.{runs_as}
+use Rattle.ft_dup.proofs.WholeRuns.{runs_as}
 use Rattle.ft_dup.proofs.whole.duplicate.Goals as goal
 
 pub put_blocks-requires-clause-targets : goal.put_blocks-requires-clause-targets

@@ -1,4 +1,4 @@
--- A block of the list is one of the blocks of which the conditions speak.
+-- A block of the list is one of the blocks that the conditions are about.
 use Rattle.std.proofs.Common.{◌<◌, length, sym, subst}
 use Rattle.std.specs.List.{All}
 use Rattle.ft_lower.specs.Size.{pairs_of}

@@ -18,7 +18,7 @@ record Means (text : List ℕ) (r : Result Strike Form) : Type 0 where
   exact : (strike : Strike) → IsStrikeText text strike → r ≡ Ok strike
   err : IfErr r (λ form. IsRefusedAt IsStrikeText text form.at)
 
--- at the end of the text the result is the strike that was read whole
+-- at the end of the text the result is the strike that was read completely
 at_end : (text : List ℕ) (read : StrikeRead) (o : Option Strike) → state_after next_strike (AtStep None) text
     ≡ Some read → whole_strike read ≡ o → Means text (ok_or o (record { at = length text }))
 at_end text read None e f =

@@ -18,13 +18,13 @@ use Rattle.ft_isa.proofs.wild_text.read_wild.Goals.{else-byte-eq44+in-Some-next}
 abbrev start : WildRead
 start = wild_at [] Empty
 
--- a text is refused at a byte by which it can't go on
+-- a text is refused at a byte that can't continue it
 refused : (text : List ℕ) (at : ℕ) (read : WildRead) → at < length text → state_after next_wild start (take at text)
     ≡ Some read → next_wild read (get_or text at 0) ≡ None → IsRefusedAt IsWildText text at
 refused text at read below e f = refused_at next_wild whole_wild start wild_told IsWildRead IsWildText wild_reader read
     text at below e f
 
--- a text is refused at its end, where it lacks something
+-- a text is refused at its end, if it lacks something
 refused_end : (text : List ℕ) (done : List Wild) (part : AnswerRead) → state_after next_wild start text
     ≡ Some (wild_at done part) → whole_answer part ≡ None → IsRefusedAt IsWildText text (length text)
 refused_end text done part e f =
@@ -47,7 +47,7 @@ returns-then-len-ge-WILD_LIMIT-clause-exact c = let none = full c in λ answers 
 pub returns-then-len-ge-WILD_LIMIT-clause-err : goal.returns-then-len-ge-WILD_LIMIT-clause-err
 returns-then-len-ge-WILD_LIMIT-clause-err c = full c
 
--- the byte is a comma after a part that is no answer
+-- the byte is a comma after a part that is not an answer
 early : (c : goal.After-drop-answers-in_default) → IsRefusedAt IsWildText c.args.text.now c.loop-at.at
 early c =
     refused c.args.text.now c.loop-at.at (wild_at c.loop-at.answers.items c.loop-at.read) c.loop-at-test.true
@@ -62,7 +62,7 @@ returns-in_default-clause-exact c = let none = early c in λ answers h. absurd (
 pub returns-in_default-clause-err : goal.returns-in_default-clause-err
 returns-in_default-clause-err c = early c
 
--- the byte is no comma, and no part goes on by it
+-- the byte is not a comma, and continues no part
 stuck : (c : goal.After-drop-answers-in_default-next) → IsRefusedAt IsWildText c.args.text.now c.loop-at.at
 stuck c =
     refused c.args.text.now c.loop-at.at (wild_at c.loop-at.answers.items c.loop-at.read) c.loop-at-test.true

@@ -3,10 +3,9 @@ use Rattle.std.proofs.lemmas.Option.{slice_get-get_or}
 use Rattle.std.specs.BTreeMap.{is_at}
 use Rattle.ft_static.specs.declared.node.Node.{Node}
 use Rattle.ft_static.specs.declared.node.Shape.TheVariants as shape
-use Rattle.ft_linker.specs.contracts.key.KeyOrd.TheImpl as key_order
+use Rattle.ft_static.specs.contracts.node.ShapeOrd.TheImpl as key_order
 use Rattle.ft_linker.specs.Keys.{look}
 use Rattle.ft_modules.specs.TreeKeys.{key_of}
-use Rattle.ft_linker.specs.Keys.{key_as}
 use Rattle.std.specs.Map.{lookup}
 use Rattle.ft_static.specs.NodeTree.{HasPartsBelow}
 use Rattle.ft_static.proofs.NodeTrees.{parts_below}
@@ -41,7 +40,7 @@ loop-n-preserved c =
     (look c.loop-n.known) (look c.number_key.new.known) (is_at ((key_order.ghosts).cmp c.key_of-key.result))
     c.key_of-key.result
     c.requires c.loop-n.invariant there (c.key_of-key.ensures
-    ∙ ap (λ z. key_as (key_of z y.shape)) c.as_slice.ensures.value) c.in_ok-number.ensures.number
+    ∙ ap (λ z. key_of z y.shape) c.as_slice.ensures.value) c.in_ok-number.ensures.number
     c.in_ok-number.ensures.known
     (only_key c.key_of-key.result) (own_key c.key_of-key.result) c.in_ok-push.ensures.items
 

@@ -7,7 +7,7 @@ use Rattle.ft_lower.proofs.Pairs.{lowered_below}
 use Rattle.ft_lower.proofs.WellFormed.{lowered_is_well}
 use Rattle.ft_lower.proofs.laws.array_words_are_run.Goals as goal
 
--- each name is there
+-- each name exists
 names : StatementsFit 3 1 array_program.body
 names = (
   (omega arith, omega arith),

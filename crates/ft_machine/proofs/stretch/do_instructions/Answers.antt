@@ -75,12 +75,12 @@ has_room : (at past limit : ℕ) → at < past → past ≤ limit → at ≡ 16 
     at + 16 ≤ limit
 has_room at past limit lt le whole limit_whole = omega (arith, lt, le, whole, limit_whole)
 
--- the steps of one instruction more
+-- the steps of one more instruction
 on_done : (all limit at : ℕ) → at + 16 ≤ limit → limit - at ≤ 16 * all → 2 * (all - (limit - at) / 16) + 2
     ≡ 2 * (all - (limit - (at + 16)) / 16)
 on_done all limit at room left = omega (arith, room, left)
 
--- what is left stays, wherever the next instruction stands
+-- what is left stays, wherever the next instruction is
 same_rest : (all to rest : ℕ) → 2 * (all - rest / 16) ≡ 2 * (all - (to + rest - to) / 16)
 same_rest all to rest = ap (λ n. 2 * (all - n / 16)) (omega arith)
 

@@ -32,7 +32,7 @@ annotated_parts o ints u t h =
     let q = and_parts _ _ p.0 in
     (eqb-true (length (rows_of o u)) (ints_of o t) q.0, q.1, p.1)
 
--- so as many forms are put for variables as the target has
+-- so as many forms are substituted as the target has variables
 as_many : (o : Object) (fs : List Normal) (v : Variables) (u : Subst) (ints t : ℕ) → replacement_in fs v
     ≡ replacement o u → is_annotated o ints u t ≡ true → length v.integers ≡ ints_of o t
 unfolding replacement

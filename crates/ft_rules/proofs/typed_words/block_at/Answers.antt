@@ -10,7 +10,7 @@ use Rattle.ft_contexts.proofs.Registers.{apart}
 use Rattle.ft_rules.proofs.Blocks.{starts_rise, find_first}
 use Rattle.ft_rules.proofs.typed_words.block_at.Goals as goal
 
--- a block that begins at the address is the one that is found
+-- a block that begins at the address is the result
 block_found : (o : Object) (address n : ℕ) (b : Block) → IsSpellable o → slice_get o.blocks n ≡ Some b → b.start + 1
     ≡ address → Some b ≡ block_at o address
 unfolding block_at
@@ -19,7 +19,7 @@ block_found o address n b h e s = sym (find_first _ o.blocks n b e (eq-eqb addre
     let r = starts_rise _ 0 o.blocks k n y b h.blocks l f e in
     apart address (1 + y.start) (λ q. absurd (omega arith))))
 
--- where none begins there, none is found
+-- if none begins there, none is found
 block_lacks : (o : Object) (address : ℕ) → ((k : ℕ) (b : Block) → slice_get o.blocks k ≡ Some b →
     b.start + 1 ≢ address) → None ≡ block_at o address
 unfolding block_at

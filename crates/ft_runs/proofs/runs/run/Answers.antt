@@ -32,7 +32,7 @@ returns-clause-sound g c =
     (subst (λ (x : CleanRun). IsSpellable x.object) c.start.view_is c.start.invariant.spellable)
     (subst (λ (x : CleanRun). IsAccepted x.object) c.start.view_is c.start.invariant.accepted)
 
--- a run that did not end detected by its status does not answer so
+-- a run whose status is not detected does not end as detected
 undetected_end : (end : RunEnd) (s : Status) → EndsAs end s → s ≢ status.Detected → end ≢ Detected
 undetected_end Done s ends never e = cc
 undetected_end Detected s ends never e = never ends

@@ -8,7 +8,7 @@ use Rattle.ft_static.proofs.laws.rows_denote.Goals as goal
 pub returns : goal.returns
 returns c = record {
   words = λ w s h. value_constant w s ∙ mod-eq_of_lt h;
-  variables = λ i s lawful. value_alone (variable_atom i) s lawful;
+  variables = λ i s lawful. value_alone (variable_atom i) s (lawful.integers i);
   operations = value_op;
   selections = value_sel;
   remainders = value_rem;

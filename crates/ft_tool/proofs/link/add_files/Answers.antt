@@ -5,7 +5,8 @@ use Rattle.ft_tool.specs.Links.{LinksFiles}
 use Rattle.ft_tool.specs.LinkTurns.{EndsWithFile, FailsInTurn}
 use Rattle.ft_edge.specs.Logs.{LoadFails}
 use Rattle.ft_tool.proofs.Answered.{Ends-map, answered_or_early}
-use Rattle.ft_tool.proofs.Linking.{added_next, ends_next, fails_next, makes_next, ok_no_err}
+use Rattle.ft_tool.proofs.ModulesInTurn.{added_next, ends_next, fails_next, makes_next}
+use Rattle.ft_tool.proofs.Linking.{ok_no_err}
 use Rattle.ft_tool.proofs.link.add_files.Goals as goal
 
 pub returns-in-Err-clause-ends : goal.returns-in-Err-clause-ends

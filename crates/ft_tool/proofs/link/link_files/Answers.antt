@@ -1,5 +1,5 @@
 use Rattle.ft_tool.specs.Endings.{ends_early}
-use Rattle.ft_tool.proofs.Linking.{makes_none, makes_all}
+use Rattle.ft_tool.proofs.ModulesInTurn.{makes_none, makes_all}
 use Rattle.ft_tool.proofs.link.link_files.Goals as goal
 
 pub returns-in_default-clause-made : goal.returns-in_default-clause-made

@@ -2,7 +2,7 @@ use Rattle.std.proofs.Common.{◌≡◌, length, true, is_ok, ap, sym, ◌∙◌
 use Rattle.std.proofs.lemmas.Bool.{cond-true}
 use Rattle.ft_types.specs.declared.object.Block.{Block}
 use Rattle.ft_asm.specs.Held.{Closes}
-use Rattle.ft_asm.proofs.HeldLaws.{block_held}
+use Rattle.ft_asm.proofs.ClosedLaws.{block_held}
 use Rattle.ft_asm.proofs.draft.Draft.add_block.Goals as goal
 
 pub returns : goal.returns

@@ -1,6 +1,6 @@
 use Rattle.std.proofs.Common.{subst}
 use Rattle.ft_asm.specs.Held.{Closes}
-use Rattle.ft_asm.proofs.HeldLaws.{entry_held}
+use Rattle.ft_asm.proofs.ClosedLaws.{entry_held}
 use Rattle.ft_asm.proofs.draft.Draft.add_entry.Goals as goal
 
 pub returns : goal.returns

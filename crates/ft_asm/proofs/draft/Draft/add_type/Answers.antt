@@ -1,6 +1,6 @@
 use Rattle.std.proofs.Common.{sym, ◌∙◌, subst}
 use Rattle.ft_asm.specs.Held.{Closes}
-use Rattle.ft_asm.proofs.HeldLaws.{type_held}
+use Rattle.ft_asm.proofs.ClosedLaws.{type_held}
 use Rattle.ft_asm.proofs.draft.Draft.add_type.Goals as goal
 
 pub returns : goal.returns

@@ -2,7 +2,7 @@ use Rattle.std.proofs.Common.{◌≡◌, [], true, is_ok, ap, sym, ◌∙◌, ar
 use Rattle.std.proofs.lemmas.Bool.{cond-true}
 use Rattle.std.proofs.lemmas.Grind.{common_steps}
 use Rattle.ft_types.specs.declared.object.CodeType.{CodeType}
-use Rattle.ft_asm.proofs.HeldLaws.{closes_start, closes_block, closes_type}
+use Rattle.ft_asm.proofs.ClosedLaws.{closes_start, closes_block, closes_type}
 use Rattle.ft_asm.proofs.draft.Draft.close.Goals as goal
 
 pub returns-in-Start : goal.returns-in-Start

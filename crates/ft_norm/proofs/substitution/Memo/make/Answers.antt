@@ -5,7 +5,8 @@ use Rattle.ft_static.specs.FormUnder.{form_under}
 use Rattle.ft_static.specs.NodeTree.{tree_at}
 use Rattle.ft_norm.specs.Held.{held, polynomials, updates_held}
 use Rattle.ft_norm.specs.Parts.{form_of_parts, updates_of_parts}
-use Rattle.ft_norm.proofs.Made.{node_made, part_lower, parts_count, parts_sorts, stands_kept, stands_more}
+use Rattle.ft_static.proofs.NodeTrees.{parts_below}
+use Rattle.ft_norm.proofs.Made.{node_made, parts_count, parts_sorts, stands_kept, stands_more}
 use Rattle.ft_norm.proofs.Memos.{remembered, remembers_kept, remembers_same, stands_from}
 use Rattle.ft_norm.proofs.Paths.{count, count_bound, count_less, count_more, path_end, path_first, path_pop, path_push}
 use Rattle.ft_norm.proofs.Paths.{steps_all, steps_more}
@@ -31,8 +32,8 @@ loop-part-smaller-in-Err g c =
     let u = updates_held s c.args.memory in
     let look = get nat_eq c.loop-part.self.made in
     let k = c.loop-part.k in
-    let l = part_lower ns k c.node.result.scope c.in-Err.part c.node.result.shape
-    (c.requires.nodes.each k c.node.result c.node.ensures).shape c.in-Err.ensures.missing.0 in
+    let l = c.in-Err.ensures.missing.0 k (parts_below ns k c.node.result.scope c.node.result.shape
+    (c.requires.nodes.each k c.node.result c.node.ensures).shape) in
     let z = ap length c.in-Ok-push.ensures.items in
     omega (arith, l, z, c.loop-part.invariant.path.near, length-append c.loop-part.open.items (k ∷ []))
 
@@ -44,8 +45,8 @@ loop-part-preserved-in-Err g c =
     let u = updates_held s c.args.memory in
     let look = get nat_eq c.loop-part.self.made in
     let k = c.loop-part.k in
-    let l = part_lower ns k c.node.result.scope c.in-Err.part c.node.result.shape
-    (c.requires.nodes.each k c.node.result c.node.ensures).shape c.in-Err.ensures.missing.0 in
+    let l = c.in-Err.ensures.missing.0 k (parts_below ns k c.node.result.scope c.node.result.shape
+    (c.requires.nodes.each k c.node.result c.node.ensures).shape) in
     record {
       kept = c.loop-part.invariant.kept;
       made = c.loop-part.invariant.made;

@@ -6,7 +6,7 @@ ghost use Rattle.ft_typing.specs.TypingRow.{same_colour};
 use ft_isa::{Base, Basic, Colour, INT};
 
 /// Whether two colours are equal.
-#[tactic(auto, unfolding(ft_typing::specs::TypingRow::same_colour))]
+#[tactic(auto, unfolding(crate::specs::TypingRow::same_colour))]
 pub fn same_colour(a: Colour, b: Colour) -> bool
     ensures { result ≡ same_colour a b }
 {
@@ -31,15 +31,15 @@ fn same_base(a: Base, b: Base) -> bool
 }
 
 /// Whether two basic types are equal.
-#[tactic(auto, unfolding(ft_typing::specs::TypedWord::same_basic))]
+#[tactic(auto, unfolding(crate::specs::TypedWord::same_basic))]
 pub fn same_basic(a: Basic, b: Basic) -> bool
     ensures { result ≡ same_basic a b }
 {
     a.refs == b.refs && same_base(a.base, b.base)
 }
 
-/// Whether the first basic type is seen as the second: they are equal, or the second is `int`.
-#[tactic(auto, unfolding(ft_typing::specs::TypedWord::is_seen_as))]
+/// Whether the first basic type is accepted as the second: they are equal, or the second is `int`.
+#[tactic(auto, unfolding(crate::specs::TypedWord::is_seen_as))]
 pub fn is_seen_as(a: Basic, b: Basic) -> bool
     ensures { result ≡ is_seen_as a b }
 {
