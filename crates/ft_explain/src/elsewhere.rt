@@ -66,10 +66,7 @@ const MNEMONICS: &[Row] = &[
         "sra srai sar asr",
         "`shr` fills with zeros; there is no arithmetic shift",
     ),
-    (
-        "rol ror rotl rotr",
-        "combine `shl` and `shr` with `or`",
-    ),
+    ("rol ror rotl rotr", "combine `shl` and `shr` with `or`"),
     (
         "slt slti setl setb",
         "write `ltu`: comparisons are unsigned",
