@@ -5,16 +5,16 @@
  * docs/PROMISES.md has the clauses. The proofs assume what a caller owes; nothing checks that. docs/EMBEDDING.md has more.
  *
  * WHAT A CALLER OWES
- *   - No pointer is NULL, not even if a length or a room is 0.
+ *   - No pointer is NULL, not even if a length or `room` is 0.
  *   - A pointer with a length points to that many bytes, or elements; one without a length points to one element. They exist,
- *     are aligned for their type, and are initialized, even those that a call only writes. All of it is shorter than 2^63
- *     bytes. This also holds for the pointers in a talft_module.
+ *     are aligned for their type, and are initialized, even those that a call only writes. No pointer covers 2^63 bytes
+ *     or more. This also holds for the pointers in a talft_module.
  *   - During a call nothing else reads what the call may write, or writes what it reads. What a call writes overlaps
  *     neither what it reads nor anything else that it writes.
  *   - malloc, realloc and free belong to one allocator, report when memory runs out, and align blocks to 16. With
  *     embed/arena.c they are not used: the library then takes its memory from one block that the caller provides and nothing
- *     else uses. If several threads call, malloc, realloc and free may be called by several at once.
- *   - A talft_machine begins as TALFT_NO_MACHINE, and only calls of this file change it: see there.
+ *     else uses. Threads that use the library at the same time may call malloc, realloc and free at the same time.
+ *   - A talft_machine is initialized with TALFT_NO_MACHINE, and only the functions declared here change it: see below.
  *   - The stack is large enough: see STACK.
  *   - No call is made from a signal handler, or in the child of a multithreaded process after a fork.
  *
@@ -23,8 +23,8 @@
  * THREADS    The library has no state of its own. Several threads may call it at the same time if they share nothing
  *            that one of the calls writes. A talft_machine stays on the thread that opened it. (With embed/arena.c all
  *            calls share the arena, so only one thread may call.)
- * UNITS      Lengths and rooms are in bytes. Byte offsets start at 0. Room for outputs or verdicts is counted in elements.
- *            A step is a step of the machine: an instruction takes two, its fetch and its execution.
+ * UNITS      Lengths, and room for bytes, are in bytes. Byte offsets start at 0. Room for outputs or verdicts is counted
+ *            in elements. A step is a step of the machine: an instruction takes two, its fetch and its execution.
  * STACK      talft_compile used up to 169 KiB in all tests, with 97 nested loops, 98 nested brackets and 199 operators. The
  *            others used up to 17 KiB. This is measured, not proved.
  *
@@ -55,11 +55,11 @@ enum {
     TALFT_CUT = 9,           /* the machine is still running after the steps */
     TALFT_BAD_LIST = 11,     /* the fault list is refused: part 8 */
     TALFT_BAD_ASSEMBLY = 12, /* the assembly text is refused: part 6 */
-    TALFT_NOT_LINKED = 13,   /* the link map is refused, or what it links: part 7 */
+    TALFT_NOT_LINKED = 13,   /* the link map, or what it links, is refused: part 7 */
     TALFT_FULL = 14,         /* the array of outputs is full, and the machine is still running */
     TALFT_NO_ROOM = 15,      /* too little room; *made says how many bytes are needed, or totals->count how many verdicts */
     TALFT_NO_CELL = 16,      /* the object has no such cell */
-    TALFT_NOT_NOW = 17,      /* the talft_machine is already open, or not open */
+    TALFT_NOT_NOW = 17,      /* the talft_machine is already open (talft_open) or not open (other calls) */
     TALFT_NOT_STRUCK = 18,   /* nothing is struck: there was a strike before, the run has stopped, or the site is absent */
     TALFT_OTHER_TYPE = 19,   /* the cell is not of type `int` */
     TALFT_NO_MODULE = 20     /* the link map gives a name that no module in the array has */
@@ -69,8 +69,8 @@ enum {
 typedef struct talft_refusal {
     uint32_t part;   /* 0 nothing, 1 the bytes, 2 the entry, 3 a cell, 4 an instruction, 5 a source, 6 an assembly text,
                         7 a link, 8 a fault list */
-    uint32_t number; /* 1: the rule, 1 to 9. 4: the premise, 1 to 18. The refusal of 5: 1 to 12. 6: 1 to 3. 7: 1 to 11.
-                        8: 1 to 3 */
+    uint32_t number; /* 1: the rule, 1 to 9. 4: the premise, 1 to 18. 5: the refusal, 1 to 12; likewise 6: 1 to 3,
+                        7: 1 to 11, 8: 1 to 3 */
     uint64_t place;  /* 1: the byte. 3: the cell. 4: the block. 5: the byte, 1048576 (number 1), or what is above a limit
                         (numbers 8 to 10). 6: the line from 1, or 134217728 (number 3). 7: the line from 1, the module from
                         0, the block (number 5), or 65536 (number 11). 8: the line from 1, 65536 (number 2), or the faults
@@ -181,7 +181,7 @@ typedef struct talft_module {
 uint32_t talft_link(const uint8_t *map, size_t map_len, const talft_module *modules, size_t count, uint8_t *out,
                     size_t room, size_t *made, uint32_t *module, talft_refusal *why);
 
-/* What a fault did to a run, compared with the run without it. In an accepted object a fault does nothing else. */
+/* What a fault did to a run, compared with the run without it. In an accepted object a fault has no other effect. */
 enum {
     TALFT_FAULT_MASKED = 0,   /* outputs and end are the same */
     TALFT_FAULT_DETECTED = 1, /* the machine noticed it and has stopped; its outputs are a prefix of those without it */
@@ -207,7 +207,7 @@ typedef struct talft_totals {
  * `steps` is at most 1,000,000. The list is a text of at most 65,536 lines such as `4:r1:6`; `wild` is as in talft_run. OK:
  * the array has the verdict of each fault, in the list's order, and the totals count them. NO_ROOM: totals->count is how many
  * faults there are, and the other totals are 0. BAD_LIST, part 8: number 1, a line is not a fault; 2, there are too many, or
- * the text has more than 4,194,304 bytes; 3, the number of faults times that of the steps is above 1,000,000,000. Or BAD_PLAN,
+ * the text has more than 4,194,304 bytes; 3, faults times steps exceeds 1,000,000,000. Or BAD_PLAN,
  * MALFORMED, REFUSED or NO_MEMORY. In each case but OK and NO_ROOM the totals are 0, and in each but OK the array is
  * unchanged.
  */

@@ -1,8 +1,8 @@
-"""Makes the body of a tool's manual page of what the tool's --help writes: `help.py NAME <HELP`."""
+"""Turns a tool's --help into the body of its manual page: `help.py NAME <HELP`."""
 import re
 import sys
 
-# Documents that are pages.
+# Documents that are also manual pages.
 PAGES = {"docs/TOOLS.md": "talft-tools(7)", "docs/C.md": "talft-c(7)", "docs/DEBUGGING.md": "talft-debugging(7)",
          "docs/SOURCE_LANGUAGE.md": "talft-source(5)", "docs/ASSEMBLY.md": "talft-assembly(5)"}
 LISTS = {"positional arguments": "ARGUMENTS", "options": "OPTIONS", "optional arguments": "OPTIONS"}

@@ -79,7 +79,7 @@ page() {
   shift 2
   if [ -z "$is_asked" ]; then
     text=$("$@") || exit 1
-    printf '.\\" Made by man/make.sh from %s. Its sources and the lines below have the sums:\n.\\" %s %s\n%s\n' \
+    printf '.\\" Made by man/make.sh from %s. Checksums of its sources and of the lines below:\n.\\" %s %s\n%s\n' \
       "$source" "$(sum_of_sources "$source")" "$(printf '%s\n' "$text" | sum)" "$text" >"$file"
   elif [ "$(sed -n '2s/^\.\\" //p' "$file")" != "$(sum_of_sources "$source") $(tail -n +3 "$file" | sum)" ]; then
     echo "$file is stale: run \`bash man/make.sh\`"

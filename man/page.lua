@@ -1,5 +1,6 @@
--- Makes a manual page's body of a document: code is bold, a document that is a page is named as a page, a link is its
--- text, and each row of a table is an entry: its first cell is the term, and the others follow, each after its column's name.
+-- Turns a document into the body of a manual page: code is bold, a document with a manual page is cited as that page, a
+-- link becomes its text, and each row of a table is an entry: its first cell is the term, and the others follow, each
+-- after its column's name.
 
 local pages = {
   ["COMMANDS.md"] = "talft(1)",
@@ -30,7 +31,7 @@ local function is_unknown(text)
   return false
 end
 
--- Names of definitions and of clauses as code looks: letters of both cases, or an underscore; and some that are one word.
+-- Names of definitions and clauses, recognized by mixed case or an underscore, and some plain words.
 local bare = { headline = true, loads = true, script = true, tool = true, same = true, value = true, degree = true,
   substitute = true, either = true, is_run = true }
 local function is_name(text)
@@ -38,7 +39,7 @@ local function is_name(text)
     or text:match("^crates/")
 end
 
--- Where the bracket that begins here ends, if it has nothing but such names; else nothing.
+-- The end of the bracket that starts here, if it contains only such names; else nil.
 local function end_of_names(inlines, at)
   local first = inlines[at]
   if first.t ~= "Str" or first.text ~= "(" then
@@ -55,7 +56,7 @@ local function end_of_names(inlines, at)
   end
 end
 
--- Takes away the blank before what was left out.
+-- Removes the space before an omission.
 local function close_up(sentence)
   local last = sentence[#sentence]
   if last and (last.t == "Space" or last.t == "SoftBreak") then
@@ -75,7 +76,7 @@ local function standing(inlines)
   local at = 1
   while at <= #inlines do
     local one, name, last = inlines[at], inlines[at + 1], inlines[at + 2]
-    -- A document in brackets that is no page is left out alone.
+    -- Omits only the brackets if they cite a document without a page.
     if one.t == "Str" and one.text == "(" and name and name.t == "Strong" and is_unknown(pandoc.utils.stringify(name))
         and last and last.t == "Str" and last.text:match("^%)") then
       close_up(sentence)
@@ -104,7 +105,7 @@ local function standing(inlines)
   return kept
 end
 
--- The words of the proofs in plainer ones.
+-- Replaces proof terms by plainer words.
 local function named(inlines)
   return pandoc.walk_inline(pandoc.Span(inlines), {
     Str = function(word)
@@ -185,7 +186,7 @@ function Table(whole)
   local is_empty = true
   for _, row in ipairs(plain.rows) do
     local term, text = pandoc.List(inlines(row[1])), pandoc.List()
-    -- A number alone says too little.
+    -- A bare number needs its column name.
     if pandoc.utils.stringify(row[1]):match("^[%d, ]*$") then
       term = pandoc.List({ pandoc.Str(names[1]), pandoc.Space() }) .. term
     end

@@ -55,9 +55,9 @@ def largest(n, version=1, length=32):
 # The check refuses the first of the blocks that jump.
 LARGEST = {c: (lambda n, a=a: (a(n)[0], f"check block {n - n // 8} index 0 premise 1" if a(n)[0] == 8 else a(n)[1]))
            for c, a in unaccepted("").items()}
-over_objects("largest", "every table at its limit, scaled by instructions", 65536, "instructions", largest,
+over_objects("largest", "every table at its limit, by number of instructions", 65536, "instructions", largest,
              LARGEST)
-over_objects("largest-second", "every table of version 2 at its limit, scaled by instructions", 65536, "instructions",
+over_objects("largest-second", "every version 2 table at its limit, by number of instructions", 65536, "instructions",
              lambda n: largest(n, 2, 40), {c: LARGEST[c] for c in ("check", "upgrade", "dis")})
 over_objects("halts", "blocks of one instruction", 65536, "blocks",
              lambda n: spell(memory(), HALT * n, None, b"".join(pair(k, 0) for k in range(n))), HALTS)

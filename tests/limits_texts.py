@@ -14,7 +14,7 @@ def missing(number):
     return lambda n: (12, f"asm 2 {number(n)}")
 
 
-text_row("largest", "the text of every table of version 2 at its limit, scaled by instructions", 65536, "instructions",
+text_row("largest", "the text of every version 2 table at its limit, by number of instructions", 65536, "instructions",
          lambda n: "".join(f"{line}\n" for line in disassemble(largest(n, 2, 40))), same(0, None))
 text_row("lines", "empty lines", MOST, "bytes", lambda n: "\n" * n, missing(lambda n: n + 1))
 text_row("comment", "one comment", MOST, "bytes", lambda n: "#" * n, missing(lambda n: 2))

@@ -72,7 +72,7 @@ def local(campaign, asked, progress):
                                                  start_new_session=True)
             if ended:
                 part, status = ended.pop(0)
-                campaign.failures[part] = f"no answer (status {status} of the shell)"
+                campaign.failures[part] = f"no answer (shell status {status})"
                 campaign.take(part)
             else:
                 time.sleep(0.002)
@@ -107,7 +107,7 @@ def spread(campaign, progress, command, stop, grace=0):
     remove(out)
     for part in waiting:
         campaign.failures[part] = ("no answer: a machine may have gone away "
-                                   f"(status {engine.returncode} of the engine)")
+                                   f"(engine status {engine.returncode})")
 
 
 def parallel(campaign, asked, progress):

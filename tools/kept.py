@@ -23,7 +23,7 @@ def kept_in(folder):
         raise Refused(f"--dir: {named(folder)}: {'is not a folder' if os.path.exists(folder) else 'no such folder'}; "
                       "give the folder of the tool `campaign`")
     if not os.path.exists(file):
-        raise Refused(f"--dir: {named(folder)}: no campaign is kept there (no campaign.json); give the folder of the "
+        raise Refused(f"--dir: {named(folder)}: it holds no campaign (no campaign.json); give the folder of the "
                       "tool `campaign`, or the object with --object")
     with open(file, encoding="utf-8") as text:
         try:

@@ -110,7 +110,7 @@ else
 fi
 
 refuses 'another campaign in the same folder' \
-  'campaign: here: another campaign is kept there: give another --dir, or remove it' \
+  'campaign: here: it holds another campaign: give another --dir, or remove it' \
   campaign fibonacci.obj --faults piece.aa --steps "$most" --dir here
 no_number='is not a decimal number below 2^64'
 while IFS='|' read -r line told; do

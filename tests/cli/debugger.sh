@@ -344,7 +344,7 @@ if has tmux 'the screen and the prompt in a terminal'; then
   screen=$(on 'await (talft)' text:c Enter 'pause 2' C-c 'await interrupted' text:where Enter 'await pcb' shot text:c \
     Enter kill)
   report 'a run that is interrupted' \
-    'at P running|interrupted: the run stays at P; `continue` continues it|at P running' \
+    'at P running|interrupted: the run stays at P; `continue` resumes it|at P running' \
     "$(position=$(sed -n 's/.*the run stays at \([1-9][0-9]*\);.*/\1/p' <<<"$screen"); sed "s/^^C//; s/ pcg.*//
       s/\<$position\>/P/" <<<"$screen" | kept '^(interrupted|at P running)')"
   for ((n = 0; n < 50; n++)); do pgrep -f 'debugger endless.obj' >written || break; sleep 0.1; done

@@ -250,7 +250,7 @@ explained 'a label' 12 'asm 1 1\n' \
   asm label.asm
 printf 'cell a[4] = 0;\na[5] = 2;\n' >beyond.src
 explained 'a constant index beyond its array' 0 'a[1] 2\n' \
-  'beyond.src:2:3: note: `a` has 4 cells: the index 5 means cell 1\n a[5] = 2;\n   ^\n' mean beyond.src
+  'beyond.src:2:3: note: `a` has 4 cells: the index 5 selects cell 1\n a[5] = 2;\n   ^\n' mean beyond.src
 
 # More habits, with the first line of the explanation: for a source, an instruction in a text with the cell `out`, and words.
 habit_in() {
@@ -263,7 +263,7 @@ while IFS='|' read -r text message; do
 done <<'END'
 cell out = 0;\nout := 5;|2:5: error: unexpected character `:`: write `=` to assign
 cell out = 0;\nout = 2 ** 3;|2:10: error: unexpected `*`: there are no powers, only products
-cell a[3] = 0;\nvar i;\na[i++] = 3;|3:5: error: unexpected `+`: write a statement of its own, as in `a = a + 1;`
+cell a[3] = 0;\nvar i;\na[i++] = 3;|3:5: error: unexpected `+`: write it as a separate statement, as in `a = a + 1;`
 cell a[3] = {1, 2};|1:15: error: unexpected character `,`: all cells of an array have the same initial value
 cell a = 0, b = 0;|1:11: error: unexpected character `,`: there are no lists: each name has its own declaration, as in `var a; var b;`
 cell out = 0;\nout = out + 1);|2:14: error: unexpected `)`: no matching `(`
@@ -280,7 +280,7 @@ while IFS='|' read -r line message; do
   report "what is said of \`$line\`" "habit.asm:5:$message" "$(habit_in asm habit.asm)"
 done <<'END'
 mov r1 G out ref:int|10: error: invalid `out`: numbers are decimal digits, as in `42`; the address of this cell is 1048576
-st_G out r1|6: error: invalid `out`: a register is r0 to r63; put the address of this cell, 1048576, into a register by `mov`
+st_G out r1|6: error: invalid `out`: a register is r0 to r63; put the address of this cell, 1048576, into a register with `mov`
 mov r1 G r2 int|10: error: invalid `r2`: numbers are decimal digits, as in `42`; to copy a register, add 0 to it, as in `add r1 r2 G 0`
 mov r1 G #5 int|10: error: invalid `#5`: numbers are written without `#`
 add r1 r2 5|11: error: invalid `5`: a register is r0 to r63, and a number comes after its colour, as in `G 5`
@@ -293,7 +293,7 @@ nop|1: error: unknown instruction `nop`: leave the line out
 hlt|1: error: unknown instruction `hlt`: write `halt`
 push r1|1: error: unknown instruction `push`: there is no stack: `st_G` and `st_B` store, and `ld_G` and `ld_B` load
 cmp r1 r2|1: error: unknown instruction `cmp`: there are no flags: `eq` and `ltu` write 1 or 0 into a register
-beq r1 r2 4|1: error: unknown instruction `beq`: `eq` and `ltu` compare, and `bz_G` and `bz_B` branch if a register is 0
+beq r1 r2 4|1: error: unknown instruction `beq`: `eq` and `ltu` compare, and `bz_G` and `bz_B` branch where a register is 0
 lw r1 0(r2)|1: error: unknown instruction `lw`: write `ld_G` for green or `ld_B` for blue
 sw r1 0(r2)|1: error: unknown instruction `sw`: write `st_G` for green or `st_B` for blue
 rem r1 r2 r3|1: error: unknown instruction `rem`: there is no division; `idx` takes a number modulo the length of an array
@@ -394,8 +394,8 @@ info registers|1: error: unknown command `info`: `where`, `reg R`, `cell NAME` a
 list|1: error: unknown command `list`: `talft dis OBJECT` writes the instructions; `tools/debugger` knows `disassemble`
 x/4 out|1: error: unknown command `x/4`: `cell NAME` shows the word of a cell; `tools/debugger` knows `x`
 backtrace|1: error: unknown command `backtrace`: `where` shows the place: there are no calls
-continue|1: error: unknown command `continue`: `go N` takes at most N steps, to the next breakpoint
-next|1: error: unknown command `next`: `step N` takes N steps; an instruction takes two
+continue|1: error: unknown command `continue`: `go N` takes N steps, up to a breakpoint
+next|1: error: unknown command `next`: `step N` takes N steps, and an instruction takes two
 help|1: error: unknown command `help`: a script has `step`, `go`, `back`, `zap`, `reg`, `queue`, `cell`, `where` and `break`
 undo|1: error: unknown command `undo`: `tools/debugger` knows this command
 regs|1: error: unknown command `regs`; did you mean `reg`?

@@ -55,7 +55,7 @@ refuses 'a bit that is none' 'faults: --flip: invalid bit in `64`: the bits of a
 refuses 'a word that is none' \
   'faults: --values: invalid number `18446744073709551616`: expected decimal numbers below 2^64, separated by commas' \
   faults "$five" --values 18446744073709551616
-refuses 'words and bits' 'faults: --values and --flip exclude each other' faults "$five" --values 1 --flip 1
+refuses 'words and bits' 'faults: --values and --flip cannot be combined' faults "$five" --values 1 --flip 1
 refuses 'steps that are no range' \
   'faults: --steps: invalid range `3`: expected FIRST:LAST or FIRST:LAST:EVERY, as 4:5 for the step 4 alone' \
   faults "$five" --steps 3

@@ -83,10 +83,10 @@ done <<END
 1|plot cut|plot: cut:2: missing last line \`faults ..\`, with the totals: the file is incomplete
 1|plot lines --out nofolder/x|plot: nofolder/x.png: there is no folder \`nofolder\`
 1|plot lines --out .|plot: --out: .: expected the name of a picture
-1|plot lines --dir folder|plot: --dir: folder: no campaign is kept there (no campaign.json); give the folder of the tool \`campaign\`, or the object with --object
-1|plot lines --dir kept --object five.obj|plot: --dir and --object exclude each other
+1|plot lines --dir folder|plot: --dir: folder: it holds no campaign (no campaign.json); give the folder of the tool \`campaign\`, or the object with --object
+1|plot lines --dir kept --object five.obj|plot: --dir and --object cannot be combined
 1|plot lines --object list|plot: list: is not an object; \`talft compile\`, \`talft asm\` and \`cc\` make objects
-1|report lines --dir .|report: --dir: .: no campaign is kept there (no campaign.json); give the folder of the tool \`campaign\`, or the object with --object
+1|report lines --dir .|report: --dir: .: it holds no campaign (no campaign.json); give the folder of the tool \`campaign\`, or the object with --object
 1|report lines --dir nosuch|report: --dir: nosuch: no such folder; give the folder of the tool \`campaign\`
 1|report lines --dir list|report: --dir: list: is not a folder; give the folder of the tool \`campaign\`
 1|report lines --dir kept|report: kept/campaign.json: is not a file of the tool \`campaign\`, or is damaged

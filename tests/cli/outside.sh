@@ -35,13 +35,13 @@ refused_at_open
 
 got=$("$top/talft" debug "$top/examples/five.obj" <&- 2>errors; printf '/%d' $?)
 report 'standard input that is closed' "$(printf '/3')" "$got"
-report 'what is said of standard input that is closed' 'standard input: error: is closed' "$(cat errors)"
+report 'what is said of standard input that is closed' 'error: standard input is closed' "$(cat errors)"
 got=$("$top/talft" debug "$top/examples/five.obj" <"$work" 2>errors; printf '/%d' $?)
 report 'a folder as standard input' "$(printf '/3')" "$got"
-report 'what is said of a folder as standard input' 'standard input: error: is a folder' "$(cat errors)"
+report 'what is said of a folder as standard input' 'error: standard input is a folder' "$(cat errors)"
 got=$("$top/talft" debug "$top/examples/five.obj" 0>written 2>errors; printf '/%d' $?)
 report 'standard input that is written' "$(printf '/3')" "$got"
-report 'what is said of standard input that is written' 'standard input: error: cannot be read' "$(cat errors)"
+report 'what is said of standard input that is written' 'error: standard input cannot be read' "$(cat errors)"
 
 # A reader that closes the pipe after the first line.
 "$top/talft" compile "$top/examples/endless.src" >endless.obj

@@ -122,7 +122,7 @@ report 'the text' '' "$(cmp read.asm "$top/examples/five.asm" 2>&1)"
 for words in "explain $top/examples/five.obj --fault 4:r1:6" "debugger $top/examples/five.obj" "lines $top/examples/sieve.src" \
   "faults $top/examples/five.obj --steps 4 --sites r1 --values 6" "set $top/examples/five.obj --list"; do
   # shellcheck disable=SC2086
-  report "standard output that is closed: ${words%% *}" "${words%% *}: standard output: is closed" \
+  report "standard output that is closed: ${words%% *}" "${words%% *}: standard output is closed" \
     "$(timeout 20 "$top/tools/"$words 2>&1 >&- </dev/null)"
 done
 report 'standard input that is closed' 'at 0 running' "$("$top/tools/debugger" "$top/examples/five.obj" <&- 2>&1 | head -n 1)"

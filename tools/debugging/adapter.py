@@ -56,7 +56,7 @@ class Adapter(Views, Breaks):
         if not call:
             return self.wire.refuse(request, f"unknown request `{command}`")
         if not self.session and command not in FIRST:
-            return self.wire.refuse(request, "no program is launched: send `launch` first")
+            return self.wire.refuse(request, "no program has been launched: send `launch` first")
         try:
             return call(request, request.get("arguments") or {})
         except Refused as error:

@@ -48,7 +48,7 @@ class Breaks:
         kind, key = self.is_source(source), source.get("path") or source.get("sourceReference")
         self.line_breaks.pop(key, None)
         self.set_breaks()
-        why = "this is not the text that is debugged" if kind is None else "no instruction is on this line or after it"
+        why = "this is not the text being debugged" if kind is None else "no instruction is on this line or after it"
         shown = None if kind is None else self.source() if kind else self.text_source()
         made, told = {}, []
         for wanted in asked.get("breakpoints") or []:

@@ -185,7 +185,7 @@ class Commands(Shown):
         elif stop.reason == "start":
             self.say("this is the start")
         elif stop.reason == "interrupted":
-            self.say(f"interrupted: the run stays at {stop.position}; `continue` continues it")
+            self.say(f"interrupted: the run stays at {stop.position}; `continue` resumes it")
 
     def do_goto(self, words):
         if not words:

@@ -202,7 +202,7 @@ def stop_lines(session):
     if instruction and instruction.source_line:
         lines.append(f"  {instruction.source_line}: {session.target.source[instruction.source_line - 1].strip()}")
     return lines + ([f"  {told.sentence}"] + table(told.compared) if told else
-                    ["  no row of docs/MACHINE.md says why"])
+                    ["  docs/MACHINE.md has no row for this"])
 
 
 def end_line(session):

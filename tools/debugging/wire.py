@@ -26,7 +26,7 @@ def read_length(stream):
             break
         if name.strip().lower() == b"content-length":
             if not value.strip().isdigit() or int(value) > MOST_BYTES:
-                raise Broken("a Content-Length is no number, or too large")
+                raise Broken("Content-Length is not a number, or is too large")
             length = int(value)
     if length is None:
         raise Broken("a header has no Content-Length")
@@ -44,9 +44,9 @@ def read_message(stream):
     try:
         message = json.loads(data.decode("utf-8"))
     except (ValueError, RecursionError) as error:
-        raise Broken(f"a message is no JSON: {error}") from error
+        raise Broken(f"a message is not valid JSON: {error}") from error
     if not isinstance(message, dict):
-        raise Broken("a message is no object")
+        raise Broken("a message is not a JSON object")
     return message
 
 

@@ -65,7 +65,7 @@ class Decoder:
 
     def item(self, what, items, index):
         if index >= len(items):
-            self.wrong(f"names {what} {index}, but there are {len(items)}")
+            self.wrong(f"refers to {what} {index}, but there are {len(items)}")
         return items[index]
 
     # Decoding
@@ -292,9 +292,9 @@ class Decoder:
         if sub in (8, 9):
             index = self.data.u()
             if self.module.data_count is None:
-                self.wrong("names a data segment without the section of their number")
+                self.wrong("uses a data segment, but the module has no data count section")
             if index >= self.module.data_count:
-                self.wrong(f"names data segment {index}, but there are {self.module.data_count}")
+                self.wrong(f"refers to data segment {index}, but there are {self.module.data_count}")
         for _ in range({8: 1, 9: 0, 10: 2, 11: 1}[sub]):
             if self.data.byte():
                 self.wrong("a memory other than 0")

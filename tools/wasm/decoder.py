@@ -21,7 +21,7 @@ class Bytes:
 
     def take(self, count):
         if count > self.end - self.at:
-            raise Invalid(f"offset {self.at:#x}: the module is cut off")
+            raise Invalid(f"offset {self.at:#x}: the module is truncated")
         self.at += count
         return self.data[self.at - count:self.at]
 

@@ -91,7 +91,7 @@ class Module:
     def func(self, part, i):
         at, index = part.at, part.u()
         if index >= len(self.types):
-            part.refuse(f"names type {index}, but there are {len(self.types)}", at)
+            part.refuse(f"refers to type {index}, but there are {len(self.types)}", at)
         self.funcs.append(Func(self, i, *self.types[index]))
 
     def limits(self, part, most):
@@ -125,7 +125,7 @@ class Module:
         if what > 3 or index >= (len(self.funcs), len(self.tables), int(self.has_memory), len(self.globals))[what]:
             part.refuse("an export of something that is not defined", at)
         if name in self.exports:
-            part.refuse("two exports of one name", at)
+            part.refuse("two exports with the same name", at)
         self.exports[name] = (what, index)
 
     def element(self, part, _):
@@ -137,7 +137,7 @@ class Module:
         active = not flags & 1
         table = part.u() if active and flags & 2 else 0
         if active and table >= len(self.tables):
-            part.refuse(f"names table {table}, but there are {len(self.tables)}", at)
+            part.refuse(f"refers to table {table}, but there are {len(self.tables)}", at)
         offset = self.constant(part, I32) if active else None
         if flags & 3:
             kind = part.byte()
@@ -199,7 +199,7 @@ class Module:
         if len(self.bodies) != len(self.funcs):
             reader.refuse(f"{len(self.funcs)} functions and {len(self.bodies)} bodies")
         if self.data_count not in (None, len(self.segments)):
-            reader.refuse(f"{self.data_count} data segments are announced, but there are {len(self.segments)}")
+            reader.refuse(f"{self.data_count} data segments are declared, but there are {len(self.segments)}")
         if self.start is not None and (self.start >= len(self.funcs) or self.funcs[self.start].params
                                        or self.funcs[self.start].results):
             reader.refuse("a start function that is not defined, or that takes or returns values")

@@ -243,7 +243,7 @@ going_rows = mov_row ∷ idx_row ∷ ld_row Green ∷ ld_row Blue ∷ st_row Gre
 abbrev pub transfer_rows : List (Row Instr)
 transfer_rows = jmp_green_row ∷ jmp_blue_row ∷ bz_green_row ∷ bz_blue_row ∷ halt_row ∷ []
 
--- the first of two, where it is one
+-- the first of two options, or the second if the first is missing
 abbrev pub or_else : {A : Type 0} → Option A → Option A → Option A
 or_else None other = other
 or_else (Some a) other = Some a

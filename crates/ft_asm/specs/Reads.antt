@@ -66,20 +66,21 @@ pub record Stops (text : List ℕ) (number : ℕ) : Type 0 where
   pub begin : Begin before
   pub said : is_said (words_of line) ≡ true
 
--- line n is the first at fault: it has none of the forms
+-- line `number` is the first at fault: it has none of the forms
 pub record IsTextFault (text : List ℕ) (number : ℕ) : Type 0 where
   pub stop : Stops text number
   pub none : (form : Line) → ¬ (IsForm (words_of stop.line) form)
 
--- line n is the first at fault: it has one of the forms, but no text that reads as an object begins with the lines up
--- to it
+-- line `number` is the first at fault: it has one of the forms, but no text that reads as an object begins with the
+-- lines up to it
 pub record IsOrderFault (text : List ℕ) (number : ℕ) : Type 0 where
   pub stop : Stops text number
   pub form : Line
   pub is_form : IsForm (words_of stop.line) form
   pub none : ¬ (Begin (stop.before ++ stop.line ∷ []))
 
--- some text that reads as an object begins with all lines, but they are not one: line n, after the last, is missing
+-- some text that reads as an object begins with all lines, but they do not form one: line `number`, after the last, is
+-- missing
 pub record Lacks (text : List ℕ) (number : ℕ) : Type 0 where
   pub here : number ≡ suc (length (lines_of text))
   pub begin : Begin (lines_of text)

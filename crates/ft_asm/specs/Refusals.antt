@@ -1,4 +1,4 @@
--- What the assembler returns, against the outcomes of texts.
+-- How what the assembler returns relates to the outcomes of texts.
 use Rattle.std.specs.Prelude.{◌≡◌, List, ℕ, Result, Ok, Err}
 use Rattle.std.specs.declared.vec.Vec.{Vec}
 use Rattle.std.specs.declared.alloc.Global.{Global}
@@ -9,7 +9,7 @@ use Rattle.ft_asm.specs.declared.asm_error.AsmError.{AsmError}
 use Rattle.ft_asm.specs.declared.asm_error.AsmError.TheVariants as errors
 use Rattle.ft_asm.specs.Reads.{Answer, Is, TooLong, Text, Order, Broken, Applies}
 
--- a refusal applies to the text; out of memory claims nothing
+-- a refusal applies to the text; running out of memory claims nothing
 abbrev pub IsRefusal : List ℕ → AsmError → Type 0
 IsRefusal text (errors.Text line) = Applies text (Text line)
 IsRefusal text (errors.Order line) = Applies text (Order line)

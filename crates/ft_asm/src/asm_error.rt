@@ -15,7 +15,7 @@ pub enum AsmError {
     /// The text has more than 134,217,728 bytes.
     #[error("asm 3 134217728")]
     TooLong,
-    /// The spelling of the tables that the text means breaks this rule of the object format, the first.
+    /// This is the first rule of the object format that the spelling of the tables breaks.
     #[error("{0}")]
     Object(ObjectError),
     /// Memory ran out.

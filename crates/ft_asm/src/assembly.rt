@@ -19,12 +19,12 @@ use ft_types::Object;
 use ft_view::View;
 use std::alloc::Global;
 
-/// The maximum bytes of a text.
+/// The maximum size of a text in bytes.
 const LIMIT: usize = 134_217_728;
 
 /// What a line does to the lines so far.
 enum Turn {
-    /// They go on.
+    /// It continues them.
     On,
     /// It has none of the forms.
     Bad,

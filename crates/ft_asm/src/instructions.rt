@@ -131,7 +131,7 @@ fn put_idx(out: &mut Vec<u8>, rd: Reg, rs: Reg, first: u32, length: u32) -> Resu
     put_number(out, u64::from(length))
 }
 
-/// Puts a blue jump at the end, but for its rows.
+/// Appends a blue jump without its rows.
 fn put_jmp_blue(out: &mut Vec<u8>, rd: Reg, subst: Subst) -> Result<(), NoMemory>
     ensures { OnOk result (out.new.items ≡ out.old.items ++ spaced (form_words (instr_form (instrs.JmpB rd subst)))) }
 {
@@ -141,7 +141,7 @@ fn put_jmp_blue(out: &mut Vec<u8>, rd: Reg, subst: Subst) -> Result<(), NoMemory
     put_number(out, u64::from(subst.memory))
 }
 
-/// Puts a blue branch at the end, but for its rows.
+/// Appends a blue branch without its rows.
 fn put_bz_blue(out: &mut Vec<u8>, rz: Reg, rd: Reg, subst: Subst) -> Result<(), NoMemory>
     ensures { OnOk result (out.new.items ≡ out.old.items ++ spaced (form_words (instr_form (instrs.BzB rz rd subst)))) }
 {
@@ -151,7 +151,7 @@ fn put_bz_blue(out: &mut Vec<u8>, rz: Reg, rd: Reg, subst: Subst) -> Result<(), 
     put_number(out, u64::from(subst.memory))
 }
 
-/// Puts the words of an instruction at the end, but for the rows of its substitution.
+/// Appends the words of an instruction without the rows of its substitution.
 fn put_instr(out: &mut Vec<u8>, instr: Instr) -> Result<(), NoMemory>
     ensures { OnOk result (out.new.items ≡ out.old.items ++ spaced (form_words (instr_form instr))) }
 {

@@ -9,8 +9,8 @@ use std::alloc::Global;
 
 /// Writes the object that a link map makes of modules, in version 2 of the format. The map names the file of each
 /// module, and the first module of the array with this name is taken. Returns 0; 15 if the bytes do not fit; 13 for a
-/// map or modules that are refused; 7 or 8 for a module whose bytes are refused; 20 if no module has a name; or 5, out
-/// of memory.
+/// map or modules that are refused; 7 or 8 for a module whose bytes are refused; 20 if the map gives a name that no
+/// module has; or 5, out of memory.
 #[unsafe(no_mangle)]
 pub extern "C" fn talft_link(
     alloc: Global,

@@ -86,8 +86,8 @@ pub extern "C" fn talft_recover(
     answer.status
 }
 
-/// Writes the bytes of the object that bytes spell in version 2 of the format. Returns 0; 15 if they do not fit; 7 for
-/// bytes that spell no object; or 5, out of memory.
+/// Writes, in version 2 of the format, the object that bytes spell. Returns 0; 15 if they do not fit; 7 for bytes
+/// that spell no object; or 5, out of memory.
 #[unsafe(no_mangle)]
 pub extern "C" fn talft_upgrade(
     alloc: Global,

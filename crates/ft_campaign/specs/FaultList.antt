@@ -24,7 +24,7 @@ pub record GoesOn (lines before : List (List ℕ)) (line : List ℕ) : Type 0 wh
   pub after : List (List ℕ)
   pub whole : lines ≡ before ++ line ∷ after
 
--- line n, counted from 1, is the first that is not a strike
+-- line `number`, counted from 1, is the first that is not a strike
 pub record IsFirstBad (lines : List (List ℕ)) (number : ℕ) : Type 0 where
   pub before : List (List ℕ)
   pub line : List ℕ
@@ -40,7 +40,7 @@ pub record IsLong (lines : List (List ℕ)) : Type 0 where
   pub goes_on : GoesOn lines before line
   pub counted : length before ≡ 65536
 
--- a refusal, in the order in which they apply; out of memory claims nothing
+-- a refusal, in the order in which they apply; running out of memory claims nothing
 abbrev pub IsListError : List ℕ → ListError → Type 0
 IsListError text (Line number) = (length text ≤ 4194304) × IsFirstBad (lines_of text) number
 IsListError text TooMany = (4194304 < length text) ⊎ ((length text ≤ 4194304) × IsLong (lines_of text))

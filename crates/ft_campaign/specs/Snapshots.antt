@@ -12,7 +12,8 @@ use Rattle.ft_semantics.specs.State.{State}
 use Rattle.ft_semantics.specs.Strike.{struck_before}
 use Rattle.ft_semantics.specs.Run.{state_after, wild_after, outputs_after, status_after, is_struck}
 
--- the two runs meet after m steps: a snapshot is kept there, after the strike, and states and wild answers left are equal
+-- the two runs meet after m steps: a snapshot is kept there, after the strike, and states and wild answers left are
+-- equal
 pub record Meets (o : Object) (x : Strike) (w : List Wild) (m : ℕ) : Type 0 where
   pub kept : (j : ℕ) × (m ≡ 1024 * j)
   pub above : x.step < m
@@ -29,13 +30,13 @@ pub data IsEnd (o : Object) (x : Strike) (w : List Wild) (n e : ℕ) : Type 0 wh
 abbrev pub first : Strike → ℕ
 first x = 1024 * (x.step / 1024)
 
--- what a fault may cost in steps: 0 if it strikes nothing, else the steps from its snapshot to some end, such as the
--- first
+-- a bound on what a fault costs in steps: any number if it strikes nothing; else the steps from its snapshot to any
+-- end, so to the first
 pub data IsCost (o : Object) (w : List Wild) (n : ℕ) (x : Strike) (c : ℕ) : Type 0 where
   idle : is_struck o (Some x) w n ≡ false → IsCost o w n x c
   upto : (e : ℕ) → IsEnd o x w n e → c ≡ e - first x → IsCost o w n x c
 
--- what two runs that meet after m steps become after n
+-- where two runs that meet after m steps are after n
 pub record HasMet (o : Object) (x : Strike) (w : List Wild) (m n : ℕ) : Type 0 where
   pub rest : List Output
   pub struck : outputs_after o (Some x) w n ≡ outputs_after o (Some x) w m ++ rest

@@ -1,4 +1,4 @@
--- The verdict of a fault: the run with it against the run without it, each after n steps.
+-- The verdict of a fault: the run with it compared with the run without it, each after n steps.
 use Rattle.std.specs.Prelude.{◌≡◌, ℕ, ◌+◌, true, false, List, None, Some}
 use Rattle.std.specs.List.{AllZip}
 use Rattle.ft_isa.specs.declared.plan.Strike.{Strike}

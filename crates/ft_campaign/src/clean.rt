@@ -63,7 +63,7 @@ fn is_detected(status: Status) -> bool
     }
 }
 
-/// Whether a site exists beside a queue with this many entries.
+/// Whether a site exists if the queue has this many entries.
 fn is_site(site: Site, entries: u8) -> bool
     ensures { result ≡ is_site site entries }
 {

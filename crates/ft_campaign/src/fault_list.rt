@@ -22,10 +22,10 @@ pub enum ListError {
     NoMemory,
 }
 
-/// The maximum bytes of a fault list.
+/// The maximum size of a fault list in bytes.
 const BYTE_LIMIT: usize = 4_194_304;
 
-/// The maximum lines of a fault list.
+/// The maximum number of lines of a fault list.
 const LINE_LIMIT: usize = 65_536;
 
 /// Reads the lines of a text of at most `BYTE_LIMIT` bytes.

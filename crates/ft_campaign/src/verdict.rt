@@ -1,6 +1,6 @@
 //! Verdicts on faults.
 
-/// What a fault did to a run, against the run without it.
+/// What a fault did to a run, compared with the run without it.
 #[derive(Clone, Copy, Debug, PartialEq, Eq)]
 pub enum Verdict {
     /// Nothing was struck.

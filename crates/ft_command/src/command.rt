@@ -8,13 +8,13 @@ use crate::verb::Verb;
 use ft_isa::{NoMemory, Strike, Wild, read_number};
 use std::alloc::Global;
 
-/// The maximum steps of a run without `--steps`.
+/// The maximum number of steps of a run without `--steps`.
 const STEPS: u64 = 1_000_000;
 
-/// The maximum turns of a demonstration.
+/// The maximum number of turns of a demonstration.
 const DEMO_TURNS: u64 = 10_921;
 
-/// The maximum turns of a meaning without `--turns`.
+/// The maximum number of turns of a meaning without `--turns`.
 const TURNS: u64 = 1_000_000;
 
 /// A command with its operand and options.
@@ -56,7 +56,7 @@ pub enum Command<'w> {
     Link(&'w str),
 }
 
-/// The run of an object: the file's name, the maximum steps, and the plan.
+/// The run of an object: the file's name, the maximum number of steps, and the plan.
 #[derive(Drop)]
 pub struct Run<'w> {
     pub object: &'w str,
@@ -65,8 +65,8 @@ pub struct Run<'w> {
     pub wild: Vec<Wild>,
 }
 
-/// The runs of an object under the faults of a list: the files' names, the maximum steps of each run, and the answers
-/// to wild loads.
+/// The runs of an object under the faults of a list: the files' names, the maximum number of steps of each run, and the
+/// answers to wild loads.
 #[derive(Drop)]
 pub struct Campaign<'w> {
     pub object: &'w str,
@@ -75,14 +75,14 @@ pub struct Campaign<'w> {
     pub wild: Vec<Wild>,
 }
 
-/// The meaning of a source: the file's name, and the maximum turns of its loops.
+/// The meaning of a source: the file's name, and the maximum number of turns of its loops.
 #[derive(Drop)]
 pub struct Meaning<'w> {
     pub source: &'w str,
     pub turns: u64,
 }
 
-/// The run of the object that a source is compiled to: the file's name, and the maximum steps.
+/// The run of the object that a source is compiled to: the file's name, and the maximum number of steps.
 #[derive(Drop)]
 pub struct Execution<'w> {
     pub source: &'w str,

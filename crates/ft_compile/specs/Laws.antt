@@ -54,7 +54,7 @@ ProgramsHaveObjects = (text : List ℕ) (p : Program) → IsProgramOf text p →
 abbrev pub CompiledObjectsAreModules : Type 0
 CompiledObjectsAreModules = (text : List ℕ) (p : Program) (o : Object) → IsProgramOf text p → IsEmitted p o → IsModule o.cells o
 
--- nor to an object that comes from it by permitted exchanges, such as its schedule
+-- an object that comes from it by permitted exchanges, such as its schedule, is a module too
 abbrev pub SchedulesOfCompiledObjectsAreModules : Type 0
 SchedulesOfCompiledObjectsAreModules = (text : List ℕ) (p : Program) (o s : Object) → IsProgramOf text p → IsEmitted p o → ComesFrom o s → IsModule s.cells s
 
@@ -66,7 +66,7 @@ object_lines o xs = map (line_at o) xs
 abbrev pub LinesBegin : List (List ℕ) → List (List ℕ) → Type 0
 LinesBegin front all = (rest : List (List ℕ)) × (front ++ rest ≡ all)
 
--- if an object stands for a program, outputs have the same lines by the object's cells as by the program's names
+-- if an object stands for a program, outputs have the same lines whether named by the object's cells or by the program
 abbrev pub LinesAreByTheProgramsNames : Type 0
 LinesAreByTheProgramsNames = (p : Program) (o : Object) → StandsFor p o → (xs : List Output) → object_lines o xs ≡ output_lines p.names xs
 
@@ -82,6 +82,6 @@ RunningRunsBeginTheMeaning = (p : Program) (o : Object) → StandsFor p o → (n
 abbrev pub EndedMeaningsAreWritten : Type 0
 EndedMeaningsAreWritten = (p : Program) (o : Object) → StandsFor p o → (n t : ℕ) (s : State) → meaning p t ≡ Ended s → 16 * s.work + 320 ≤ n → (status_after o None [] n ≡ Done) × (object_lines o (outputs_after o None [] n) ≡ output_lines p.names s.out)
 
--- if the meaning is cut, its lines are a prefix of those of the run after the same number of steps
+-- if the meaning is cut, its lines are a prefix of those of the run after 16 times its work plus 320 steps, or more
 abbrev pub CutMeaningsBeginTheRun : Type 0
 CutMeaningsBeginTheRun = (p : Program) (o : Object) → StandsFor p o → (n t : ℕ) (s : State) → meaning p t ≡ Cut s → 16 * s.work + 320 ≤ n → LinesBegin (output_lines p.names s.out) (object_lines o (outputs_after o None [] n))

@@ -32,13 +32,12 @@ pub fn compiled_objects_are_modules()
     ensures scheduled { SchedulesOfCompiledObjectsAreModules }
 {}
 
-/// If an object stands for a program, outputs have the same lines by the names of the object's cells, as they are
-/// written for a run, as by the program's names, as they are written for a meaning. So the run and the meaning write
-/// the same if both end: a run that is done after n steps has the lines of the meaning with n turns, and a run of at
-/// least 16 times the work plus 320 steps is done, with the lines of the meaning. If one of them is cut short, its lines
-/// are a prefix of the other's: the lines of a run that is running after n steps are a prefix of those of the meaning
-/// with n turns, and the lines of a meaning that is cut are a prefix of those of a run of at least 16 times its work
-/// plus 320 steps.
+/// If an object stands for a program, outputs have the same lines whether named by the object's cells, as for a run,
+/// or by the program, as for a meaning. So the run and the meaning write the same if both end: a run that is done
+/// after n steps has the lines of the meaning with n turns, and a run of at least 16 times the work plus 320 steps is
+/// done, with the lines of the meaning. If one of them is cut short, its lines are a prefix of the other's: the lines
+/// of a run that is running after n steps are a prefix of those of the meaning with n turns, and the lines of a
+/// meaning that is cut are a prefix of those of a run of at least 16 times its work plus 320 steps.
 pub fn runs_and_meanings_write_the_same_lines()
     ensures lines { LinesAreByTheProgramsNames }
     ensures done { DoneRunsWriteTheMeaning }

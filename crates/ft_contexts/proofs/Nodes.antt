@@ -9,7 +9,7 @@ use Rattle.ft_static.specs.NodeRules.{AreNodes}
 use Rattle.ft_static.specs.NodeTree.{tree_at, trees, integer_at, memory_at}
 use Rattle.ft_static.specs.NormalForm.{alone}
 use Rattle.ft_static.proofs.NodeTrees.{tree_fits}
-use Rattle.ft_static.proofs.Under.{norm_under_itself, norm_memory_under_itself}
+use Rattle.ft_static.proofs.Under.{norm_under_itself}
 use Rattle.ft_norm.specs.declared.form.Form.{Form}
 use Rattle.ft_norm.specs.Held.{held, polynomials}
 use Rattle.ft_types.specs.declared.object.Object.{Object}
@@ -49,8 +49,9 @@ own_integer o fs ints v n h own k =
     let e = integer_in o.nodes (length v.integers) n h k in
     let w = subst (HasVariablesBelow k.node.scope) e (tree_fits o.nodes n k.node h k.found).1 in
     let u = updates_found fs v.memory unchanged own.memory in
-    rw u (norm_under_itself (integer_at (trees o.nodes) n) k.node.scope (polynomials fs v.integers) (λ i l.
-    polynomial_in fs v.integers i (alone (variable_atom i)) (omega (arith, k.scope_within)) (own.integers i)) w)
+    rw u ((norm_under_itself k.node.scope (polynomials fs v.integers) (λ i l.
+    polynomial_in fs v.integers i (alone (variable_atom i)) (omega (arith, k.scope_within)) (own.integers i))).0
+    (integer_at (trees o.nodes) n) w)
 
 -- so has a memory's
 pub own_memory : (o : Object) (fs : List Normal) (ints : ℕ) (v : Variables) (n : ℕ) → AreNodes o.nodes →
@@ -61,5 +62,6 @@ own_memory o fs ints v n h own k =
     let e = memory_in o.nodes (length v.integers) n h k in
     let w = subst (HasVariablesBelow k.node.scope) e (tree_fits o.nodes n k.node h k.found).1 in
     let u = updates_found fs v.memory unchanged own.memory in
-    rw u (norm_memory_under_itself (memory_at (trees o.nodes) n) k.node.scope (polynomials fs v.integers) (λ i l.
-    polynomial_in fs v.integers i (alone (variable_atom i)) (omega (arith, k.scope_within)) (own.integers i)) w)
+    rw u ((norm_under_itself k.node.scope (polynomials fs v.integers) (λ i l.
+    polynomial_in fs v.integers i (alone (variable_atom i)) (omega (arith, k.scope_within)) (own.integers i))).1
+    (memory_at (trees o.nodes) n) w)

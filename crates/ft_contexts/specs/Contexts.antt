@@ -118,7 +118,7 @@ DNamesType types Zero = Unit {0}
 DNamesType types (Code t f) = t < types
 DNamesType types (Conditional z t f) = t < types
 
--- so do the basic types of registers
+-- the code types that the basic types of registers name are among this many
 abbrev pub RegistersNameTypes : ℕ → List (Option RegForm) → Type 0
 RegistersNameTypes types xs = (r : ℕ) (x : RegForm) → slice_get xs r ≡ Some (Some x) → IsBase types x.basic.base
 

@@ -106,7 +106,7 @@ impl Context {
         })
     }
 
-    /// Becomes the same as another context, in the memory that it has. If memory runs out, it may be a mixture.
+    /// Copies another context, reusing its own memory. If memory runs out, the copy may be incomplete.
     pub fn copy_from(&mut self, other: &Context) -> Result<(), NoMemory>
         ensures { OnOk result (self.new ≡ other.now) }
     {

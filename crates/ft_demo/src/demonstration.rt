@@ -33,7 +33,7 @@ pub(crate) struct Shown {
     pub(crate) totals: Totals,
 }
 
-/// The totals of a campaign whose lines nobody reads.
+/// The totals of a campaign whose lines are dropped.
 fn totals_of<P: Program, L: Ledger>(
     alloc: Global,
     checked: &Checked<P>,

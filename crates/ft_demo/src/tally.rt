@@ -8,7 +8,7 @@ use ft_machine::Outlet;
 use ft_runs::{Clean, run_clean};
 use ft_types::Program;
 
-/// The maximum steps of a run.
+/// The maximum number of steps of a run.
 pub(crate) const STEPS: u64 = 131_072;
 
 /// How many outputs there are, and the value of the last one, or 0.

@@ -17,7 +17,7 @@ pub record FailsPut (line : List ℕ) (old new : SinkLog) : Type 0 where
   pub count : old.failures ≤ new.failures
   pub rose : Rose old.failures new.failures
 
--- the lines before one were put, and then its put failed; it was the last
+-- the first lines, or none, were put; the put of the next one failed, and was the last
 pub record BreaksOff (lines : List (List ℕ)) (old new : SinkLog) : Type 0 where
   pub done : List (List ℕ)
   pub line : List ℕ

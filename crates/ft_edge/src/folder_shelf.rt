@@ -12,7 +12,7 @@ use std::io::Read;
 use std::marker::Model;
 use std::rt::Files;
 
-/// The maximum bytes of one read.
+/// The maximum size of one read in bytes.
 const PIECE: usize = 131_072;
 
 /// Files of the system, by path. It does not reveal them. A file that is missing or cannot be read is a failure, and

@@ -9,7 +9,7 @@ use crate::{Failed, Source};
 use std::io::Read;
 use std::marker::Model;
 
-/// The maximum bytes of one read.
+/// The maximum size of one read in bytes.
 const PIECE: usize = 4096;
 
 /// Standard input. It does not reveal its bytes, and its count of failures saturates at 2^64 - 1.

@@ -19,7 +19,7 @@ use Rattle.ft_embed.specs.Verdicts.{nothing, told_error, told_refusal}
 
 -- REFUSALS
 
--- a refusal of a link with one number: the line of the map, the module or the maximum bytes of a map
+-- a refusal of a link with one number: the line of the map, the module or the maximum number of bytes of a map
 abbrev pub told_link : ℕ → ℕ → Refused
 told_link n x = record { part = 7; number = n; place = x; index = 0 }
 

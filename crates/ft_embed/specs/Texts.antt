@@ -58,7 +58,7 @@ pub record Given (Holds : List ℕ → Type 0) (old new : List ℕ) (made status
   pub holds : Holds bytes
   pub handed : HandsOver bytes old new made status
 
--- why bytes were not read: the first rule that they break; out of memory claims nothing
+-- why bytes were not read: the first rule that they break; running out of memory claims nothing
 abbrev pub IsWhy : Option ObjectError → DecodeError → Type 0
 IsWhy rule (decodes.Object e) = rule ≡ Some e
 IsWhy rule decodes.NoMemory = Unit {0}
@@ -102,7 +102,7 @@ pub record IsNameOf (bytes : List ℕ) (k : ℕ) (name : List ℕ) : Type 0 wher
   pub spelled : Spells bytes (version_at bytes) (object_of bytes)
   pub is : IsCellName (object_of bytes) k name
 
--- why an assembly text is refused: the number of the refusal, and a line or the maximum bytes of a text
+-- why an assembly text is refused: the number of the refusal, and a line or the maximum number of bytes of a text
 abbrev pub told_asm : ℕ → ℕ → Refused
 told_asm n x = record { part = 6; number = n; place = x; index = 0 }
 

@@ -53,7 +53,7 @@ pub record Tries (o : Object) (faults : List Strike) (w : List Wild) (steps : �
   pub stand : take (length faults) new ≡ map fault_verdict found
   pub totals_are : totals ≡ fault_totals (length faults) (totals_of found)
 
--- the faults of a text were tried on the object of bytes, which is accepted, with the answers to wild loads of another text
+-- the faults in a text were tried, with the wild answers in another, on the accepted object that bytes spell
 pub record TriesFile (bytes list wild : List ℕ) (steps : ℕ) (totals : FaultTotals) (new : List FaultVerdict) : Type 0 where
   pub file : IsAcceptedFile bytes
   pub answers : List Wild

@@ -50,7 +50,7 @@ pub(crate) fn not_written(status: u32, why: Refused) -> Written
     }
 }
 
-/// Nothing is written, since memory ran out or there is nothing.
+/// Nothing is written, since memory ran out or there is nothing to write.
 pub(crate) fn none_written(status: u32) -> Written
     ensures { result ≡ record { status = status; made = 0; why = nothing_told } }
 {

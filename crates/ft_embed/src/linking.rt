@@ -21,7 +21,7 @@ use ft_types::Program;
 use ft_view::View;
 use std::alloc::Global;
 
-/// The maximum bytes of a link map.
+/// The maximum size of a link map in bytes.
 const MAP_LIMIT: usize = 65_536;
 
 /// The bytes of the first module of a name.
@@ -167,8 +167,8 @@ pub struct LinkAnswer {
 
 /// Writes the object that a link map makes of modules, in version 2 of the format. The map names the file of each
 /// module, and the first module of the array with this name is taken. The status is 0; 15 if the bytes do not fit; 13
-/// for a map or modules that are refused; 7 or 8 for a module whose bytes are refused; 20 if no module has a name; or
-/// 5, out of memory.
+/// for a map or modules that are refused; 7 or 8 for a module whose bytes are refused; 20 if the map gives a name
+/// that no module has; or 5, out of memory.
 pub fn link_into(alloc: Global, text: &[u8], given: &[Module], out: &mut [u8]) -> LinkAnswer
     ensures linked { (result.written.status ≡ 0) ⊎ (result.written.status ≡ 15) → Given (IsLinkedOf given.now text.now) out.old out.new result.written.made result.written.status }
     ensures unlinked { result.written.status ≢ 0 → result.written.status ≢ 5 → result.written.status ≢ 15

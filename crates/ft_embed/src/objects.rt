@@ -18,7 +18,7 @@ use ft_types::Program;
 use ft_view::View;
 use std::alloc::Global;
 
-/// The bytes of the object of other bytes, in version 2 of the format.
+/// The object that other bytes spell, as bytes of version 2.
 fn upgrade_bytes(alloc: Global, bytes: &[u8]) -> Result<Vec<u8>, DecodeError>
     ensures ok { IfOk result (λ new. IsUpgraded bytes.now new.items) }
     ensures err { IfErr result (IsWhy (broken bytes.now)) }
@@ -47,8 +47,8 @@ fn refuse_bytes(error: DecodeError) -> Written
     }
 }
 
-/// Writes the bytes of the object that bytes spell in version 2 of the format. The status is 0; 15 if they do not fit;
-/// 7 for bytes that spell no object; or 5, out of memory.
+/// Writes, in version 2 of the format, the object that bytes spell. The status is 0; 15 if they do not fit; 7 for
+/// bytes that spell no object; or 5, out of memory.
 pub fn upgrade_into(alloc: Global, bytes: &[u8], out: &mut [u8]) -> Written
     ensures given { result.status ≢ 5 → result.status ≢ 7 → Given (IsUpgraded bytes.now) out.old out.new result.made result.status }
     ensures malformed { result.status ≡ 7 → IsMalformed bytes.now result.why }
@@ -128,9 +128,8 @@ fn schedule_program<P: Program>(alloc: Global, program: &P, out: &mut [u8]) -> W
     }
 }
 
-/// Writes the schedule of the object that bytes spell, in version 2 of the format. The status is 0; 15
-/// where its bytes find no room; 7 for bytes that spell no object; 8 for an object that is refused; or 5,
-/// out of memory.
+/// Writes the schedule of the object that bytes spell, in version 2 of the format. The status is 0; 15 if its bytes
+/// do not fit; 7 for bytes that spell no object; 8 for an object that is refused; or 5, out of memory.
 pub fn schedule_into(alloc: Global, bytes: &[u8], out: &mut [u8]) -> Written
     ensures given { result.status ≢ 5 → result.status ≢ 7 → result.status ≢ 8 → Given (IsScheduleOfFile bytes.now) out.old out.new result.made result.status }
     ensures malformed { result.status ≡ 7 → Tells result.status result.why (verdict_on bytes.now) }

@@ -89,7 +89,7 @@ pub(crate) fn fault_totals(count: usize, totals: Totals) -> FaultTotals
     }
 }
 
-/// No totals: only the number of faults that need room, or 0.
+/// Totals of a campaign that did not run: only the number of faults, or 0.
 pub(crate) fn no_totals(count: usize) -> FaultTotals
     ensures { result ≡ untried count }
 {

@@ -23,7 +23,7 @@ use std::alloc::Global;
 use std::marker::Brand;
 use std::sync::ledger::{Blank, Ledger};
 
-/// The maximum steps of a campaign.
+/// The maximum number of steps of a campaign.
 const MOST_STEPS: u64 = 1_000_000;
 
 /// The maximum of the number of faults times the number of steps.

@@ -18,7 +18,7 @@ is_trailing i = not (is_fixed i) && not (is_leading i)
 abbrev pub touches : Instr → ℕ → Bool
 touches i r = reads i r || is_register (written i) r
 
--- whether an instruction neither reads nor writes a register that is written, if one is
+-- whether an instruction neither reads nor writes this register, if one is given
 abbrev pub leaves_alone : Instr → Option ℕ → Bool
 leaves_alone i None = true
 leaves_alone i (Some r) = not (touches i r)

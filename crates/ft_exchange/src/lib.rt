@@ -1,6 +1,6 @@
 //! Exchanges of neighbouring instructions, over the definitions only.
 //!
-//! A schedule of an object comes from it by permitted exchanges and has none left (`specs/Exchange.antt`,
+//! A schedule of an object comes from it by permitted exchanges and permits no more (`specs/Exchange.antt`,
 //! `specs/Scheduled.antt`). The crate promises that an exchange keeps an object spellable and accepted,
 //! that exchanges keep the status of its run without a fault and, some steps later, its outputs
 //! (`specs/Alike.antt`), that one fault is masked or detected in the schedule too, and that an object has

@@ -1,4 +1,4 @@
-//! Assembly texts that are refused.
+//! Explains assembly texts that are refused.
 use crate::content::{Content, say_other_kind};
 use crate::excerpt::Place;
 use crate::lines::{MARKED, RETURN, is_marked};
@@ -8,11 +8,11 @@ use crate::operands::{Operand, is_register, meaning_of, say_rule, word_at, word_
 use crate::page::Page;
 use ft_isa::{FIRST_CELL, NoMemory};
 
-/// What is said of a line that may not stand where it does.
+/// The message for a line that is out of order.
 const ORDER: &str =
     "this line is out of order: first come cells, then nodes, types (each with its `reg` and then `pend` lines), blocks (each with its instructions), and `entry`\n";
 
-/// Says by what a first word is followed.
+/// Says what follows a first word.
 fn say_forms(page: &mut Page, word: &[u8], forms: &str) -> Result<(), NoMemory> {
     page.quote(word)?;
     page.say(format_args!(" is followed by {forms}"))
@@ -41,7 +41,7 @@ fn say_operand(
     say_rule(page, operand)
 }
 
-/// Says what to do about a name or a register where a word should stand, and about a name in the place of a register.
+/// Says what to write instead of a name or register where a number belongs, or of a name where a register does.
 fn say_instead(page: &mut Page, operand: Operand<'_>, text: &[u8]) -> Result<(), NoMemory> {
     let is_word = operand.form == "W";
     if is_word && is_register(operand.text) {
@@ -56,13 +56,13 @@ fn say_instead(page: &mut Page, operand: Operand<'_>, text: &[u8]) -> Result<(),
     }
     if operand.form == "R" {
         return page.say(format_args!(
-            "; put the address of this cell, {address}, into a register by `mov`"
+            "; put the address of this cell, {address}, into a register with `mov`"
         ));
     }
     Ok(())
 }
 
-/// Explains why a line of a text is refused that begins with a known word.
+/// Explains why a line that begins with a known word is refused.
 fn explain_operands(
     page: &mut Page,
     name: &str,
@@ -100,7 +100,7 @@ fn explain_byte(
     place.show(page, 1)
 }
 
-/// Whether the line of a number stands among the instructions of a text.
+/// Whether a line, given by its number, is among the instructions of a text.
 fn is_in_code(text: &[u8], number: usize) -> bool {
     match line_with(text, b"block") {
         Some(first) => first < number,
@@ -108,7 +108,7 @@ fn is_in_code(text: &[u8], number: usize) -> bool {
     }
 }
 
-/// Explains why a line of a text is refused that is none of the forms.
+/// Explains why a line with none of the forms is refused.
 fn explain_form(
     page: &mut Page,
     name: &str,
@@ -138,7 +138,7 @@ fn explain_form(
     place.show(page, word.len())
 }
 
-/// Explains why a line may not stand where it does.
+/// Explains why a line is out of order.
 fn explain_order(page: &mut Page, name: &str, start: Place<'_>) -> Result<(), NoMemory> {
     let place = start.after(word_start(start.line(), 0));
     let word = word_at(start.line(), word_start(start.line(), 0));
@@ -158,7 +158,7 @@ fn say_whole(page: &mut Page, number: u64, told: u64) -> Result<(), NoMemory> {
     }
 }
 
-/// Explains why an assembly text is refused. The text is there where the refusal has a line.
+/// Explains why an assembly text is refused. If the refusal has a line, the text is given.
 pub(crate) fn explain_text(
     page: &mut Page,
     name: &str,

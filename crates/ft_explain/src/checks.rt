@@ -1,4 +1,4 @@
-//! Objects that are not accepted.
+//! Explains objects that are not accepted.
 ghost use Rattle.std.specs.Prelude.{◌≡◌, ◌<◌, length, IfSome};
 ghost use Rattle.ft_types.specs.Objects.{reg_rows};
 ghost use Rattle.ft_types.specs.Spellable.{IsSpellable};
@@ -51,7 +51,7 @@ fn say_reg_line(page: &mut Page, known: &Known, reg: Option<Reg>) -> Result<(), 
     page.say("\n")
 }
 
-/// Says a register that has another colour or basic type than a row of code type `t` says.
+/// Names a register whose colour or basic type differs from the row of code type `t`.
 fn say_unlike_row(
     page: &mut Page,
     t: u32,
@@ -79,7 +79,7 @@ pub(crate) fn say_instr<P: Program>(page: &mut Page, program: &P, i: u32) -> Res
     page.say("\n")
 }
 
-/// Whether a register has another colour or basic type than a row says; what is seen as `int` fits it.
+/// Whether the colour or basic type of a register differs from a row's; what is seen as `int` fits it.
 fn differs(known: Option<RegKnown>, colour: Colour, basic: Basic) -> bool {
     match known {
         Some(known) => known.colour != colour || (known.basic != basic && basic != ft_isa::INT),
@@ -87,7 +87,7 @@ fn differs(known: Option<RegKnown>, colour: Colour, basic: Basic) -> bool {
     }
 }
 
-/// Says the registers of the rows of code type `t`, one of which has another value than is wanted.
+/// Lists the registers of the rows of code type `t`; one of them does not have the expected value.
 fn say_rows<P: Program>(page: &mut Page, program: &P, t: u32, count: u32) -> Result<(), NoMemory>
     requires there { t < length (P.object program.now).types }
     requires count { count ≡ length (reg_rows (P.object program.now) t) }
@@ -102,8 +102,7 @@ fn say_rows<P: Program>(page: &mut Page, program: &P, t: u32, count: u32) -> Res
     page.say("\n")
 }
 
-/// Says the registers that have another colour or basic type than the rows of code type `t` say; false where none
-/// has.
+/// Names the registers whose colour or basic type differs from the rows of code type `t`; false if there are none.
 fn say_unlike_rows<P: Program>(
     page: &mut Page,
     program: &P,
@@ -126,7 +125,7 @@ fn say_unlike_rows<P: Program>(
     Ok(is_some_said)
 }
 
-/// Says the registers that have another colour or basic type than code type `t` says.
+/// Names the registers whose colour or basic type differs from code type `t`.
 #[tactic(auto, using(ft_types::proofs::Counted::spellable_counted))]
 fn say_unlike<P: Program>(
     page: &mut Page,
@@ -169,7 +168,7 @@ fn row_count(instr: Instr) -> u32 {
     }
 }
 
-/// Says how many integer variables and stores that wait the target's code type has.
+/// Says how many integer variables and pending stores the target's code type has.
 fn say_counts<P: Program>(
     page: &mut Page,
     program: &P,
@@ -193,7 +192,7 @@ fn say_counts<P: Program>(
     page.say("\n")
 }
 
-/// Says what the target of a blue jump or branch wants.
+/// Says what the target of a blue jump or branch requires.
 fn say_target<P: Program>(
     page: &mut Page,
     program: &P,
@@ -236,7 +235,7 @@ fn say_reads(page: &mut Page, known: &Known, instr: Instr) -> Result<(), NoMemor
     say_reg_line(page, known, second)
 }
 
-/// The block of a number, and the number of its instruction at an index; `None` where there is none.
+/// A block, and the number of its instruction at an index; `None` if there is none.
 #[tactic(auto, using(ft_types::proofs::Counted::spellable_counted))]
 pub(crate) fn find<P: Program>(program: &P, block: u64, index: u64) -> Option<(Block, u32)>
     requires { IsSpellable (P.object program.now) }
@@ -317,7 +316,7 @@ fn explain_entry<P: Program>(page: &mut Page, program: &P, name: &str) -> Result
     page.say(", and must have none\n")
 }
 
-/// Explains why the initial word of a cell has not its type.
+/// Explains why a cell's initial word does not have the cell's type.
 #[tactic(auto, using(ft_types::proofs::Counted::spellable_counted))]
 fn explain_cell<P: Program>(
     page: &mut Page,

@@ -1,14 +1,14 @@
-//! What a file holds, by how it begins.
+//! Guesses what a file is from how it begins.
 use crate::mnemonics::is_line;
 use crate::page::Page;
 use ft_isa::{NoMemory, read_strike};
 use ft_lexer::{Kind, Lexer, Token};
 use ft_text::read_line;
 
-/// How many bytes of a file are looked at.
+/// How many bytes of a file are examined.
 const LOOKED_AT: usize = 65_536;
 
-/// What a file holds, as far as its beginning tells.
+/// What a file is, as far as its beginning shows.
 #[derive(Clone, Copy, Debug, PartialEq, Eq)]
 pub(crate) enum Content {
     /// An object.
@@ -29,9 +29,9 @@ pub(crate) enum Content {
     Wasm,
     /// A text with two bytes for each character.
     Wide,
-    /// Nothing.
+    /// An empty file.
     Empty,
-    /// Other bytes that are no text.
+    /// Other bytes that are not text.
     Binary,
     /// Another text.
     Unknown,
@@ -56,7 +56,7 @@ impl Content {
         }
     }
 
-    /// What to do with it, where something else was wanted.
+    /// What to do with it if something else was expected.
     fn advice(self, wanted: Content) -> &'static str {
         match self {
             Content::Object if wanted == Content::Assembly =>
@@ -81,12 +81,12 @@ impl Content {
     }
 }
 
-/// Whether bytes begin as those of an object.
+/// Whether bytes begin like an object.
 pub(crate) fn begins_as_object(bytes: &[u8]) -> bool {
     bytes.starts_with(b"TALFT")
 }
 
-/// Whether a byte stands in texts.
+/// Whether a byte occurs in text files.
 fn is_of_text(byte: u8) -> bool {
     matches!(byte, b'\t' | b'\n' | 0x0c | b'\r' | 0x1b | b' '..=b'~' | 0x80..)
 }
@@ -96,7 +96,7 @@ fn is_text(bytes: &[u8]) -> bool {
     bytes.iter().all(|byte| is_of_text(*byte))
 }
 
-/// The first line of a text that has a word and is no comment; the empty text where it has none.
+/// The first line with a word that is not a comment; empty if there is none.
 fn first_said(text: &[u8]) -> &[u8] {
     let mut rest = text;
     for _ in 0..text.len() {
@@ -143,7 +143,7 @@ fn begins_script(line: &[u8]) -> bool {
     begins || line.starts_with(b"break ") || line == b"where".as_slice()
 }
 
-/// What a text holds, by its first line that says something.
+/// What a text is, from its first line that is neither empty nor a comment.
 fn content_of_line(line: &[u8]) -> Content {
     if is_line(line) {
         Content::Assembly
@@ -160,7 +160,7 @@ fn content_of_line(line: &[u8]) -> Content {
     }
 }
 
-/// Whether a line of a text is one for the preprocessor of C.
+/// Whether a line is a C preprocessor directive.
 fn has_directive(text: &[u8]) -> bool {
     let mut rest = text;
     for _ in 0..text.len() {
@@ -175,13 +175,13 @@ fn has_directive(text: &[u8]) -> bool {
     false
 }
 
-/// Whether a text is a program in C, by the name of its file or by a line.
+/// Whether a text is a C program, judging by the name of its file or by a line.
 fn is_c(name: &str, text: &[u8]) -> bool {
     let name = name.as_bytes();
     name.ends_with(b".c") || name.ends_with(b".h") || has_directive(text)
 }
 
-/// What a file holds, as far as its name and its beginning tell.
+/// What a file is, as far as its name and its beginning show.
 pub(crate) fn content_of_file(name: &str, bytes: &[u8]) -> Content {
     let content = content_of(bytes);
     if content == Content::Unknown && is_c(name, bytes.get(..LOOKED_AT).unwrap_or(bytes)) {
@@ -190,7 +190,7 @@ pub(crate) fn content_of_file(name: &str, bytes: &[u8]) -> Content {
     content
 }
 
-/// What bytes hold, as far as their beginning tells.
+/// What bytes are, as far as their beginning shows.
 fn content_of(bytes: &[u8]) -> Content {
     let bytes = bytes.get(..LOOKED_AT).unwrap_or(bytes);
     if bytes.is_empty() {
@@ -208,7 +208,7 @@ fn content_of(bytes: &[u8]) -> Content {
     }
 }
 
-/// Says what a file holds, that something else was wanted, and what to do.
+/// Says what a file is, what was expected, and what to do.
 pub(crate) fn say_kind(
     page: &mut Page,
     name: &str,
@@ -225,7 +225,7 @@ pub(crate) fn say_kind(
     page.say(format_args!("this is {is}, not {not}{advice}\n"))
 }
 
-/// Says that a file holds something else than was wanted, and what to do; false where it may hold what was wanted.
+/// If a file is not what was expected, says what it is and what to do; returns false if it may be as expected.
 pub(crate) fn say_other_kind(
     page: &mut Page,
     name: &str,

@@ -1,9 +1,9 @@
-//! Words that begin with a typographic dash, as editors and web pages write it in the place of a hyphen.
+//! Words that begin with a typographic dash, which editors and web pages write instead of a hyphen.
 use crate::forms::{OPTIONS, first_word};
 use crate::page::Page;
 use ft_isa::NoMemory;
 
-/// The hyphen, and the dashes that stand in its place.
+/// The hyphen, and the dashes that are used instead of it.
 const DASHES: &[char] = &[
     '-', '\u{2010}', '\u{2011}', '\u{2012}', '\u{2013}', '\u{2014}', '\u{2015}', '\u{2212}',
 ];
@@ -36,7 +36,7 @@ fn before_value(word: &str) -> &str {
     }
 }
 
-/// A word as one that begins with a typographic dash, before which hyphens may stand; `None` where it is none.
+/// Parses a word that begins with a typographic dash, after any hyphens; `None` if it does not.
 fn read_dashed(word: &str) -> Option<Dashed<'_>> {
     let is_dashed = begins_with_dash(word.trim_start_matches('-').as_bytes());
     let name = before_value(word.trim_start_matches(DASHES));
@@ -47,7 +47,7 @@ fn read_dashed(word: &str) -> Option<Dashed<'_>> {
     }
 }
 
-/// The first of some words that begins with a typographic dash.
+/// The first word that begins with a typographic dash.
 pub(crate) fn first_dashed(words: &[String]) -> Option<Dashed<'_>> {
     let mut first = None;
     for word in words {
@@ -66,13 +66,13 @@ fn has_name(option: &'static str, name: &str) -> bool {
     }
 }
 
-/// Whether a name is one of an option, or of a call for help.
+/// Whether a name is that of an option or of a call for help.
 fn is_of_option(name: &str) -> bool {
     matches!(name.as_bytes(), b"help" | b"h")
         || OPTIONS.iter().any(|option| has_name(*option, name))
 }
 
-/// A word as an option that begins with a typographic dash; `None` where it may be the name of a file.
+/// Parses a word as an option with a typographic dash; `None` if it may be a file name.
 pub(crate) fn dashed_option(word: &str) -> Option<Dashed<'_>> {
     let dashed = read_dashed(word)?;
     if is_of_option(dashed.name) {
@@ -82,7 +82,7 @@ pub(crate) fn dashed_option(word: &str) -> Option<Dashed<'_>> {
     }
 }
 
-/// Says that a word begins with a typographic dash, and how it is written.
+/// Says that a word begins with a typographic dash, and how to write it.
 pub(crate) fn say_dashed(page: &mut Page, dashed: Dashed<'_>) -> Result<(), NoMemory> {
     page.say("talft: error: ")?;
     page.quote(dashed.word.as_bytes())?;

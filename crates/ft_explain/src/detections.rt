@@ -8,7 +8,7 @@ use ft_isa::{Colour, Instr, NoMemory, Reg};
 use ft_machine::Machine;
 use ft_types::Program;
 
-/// Says the instruction at a code address, if it is this one; false where it is not.
+/// Says the instruction at a code address, if it is this one; otherwise returns false.
 #[tactic(auto, using(ft_types::proofs::Counted::spellable_counted))]
 fn say_code_at<P: Program>(
     page: &mut Page,
@@ -35,7 +35,7 @@ fn say_code_at<P: Program>(
     Ok(true)
 }
 
-/// Says the instruction that is being carried out. One of the counters may have been struck since it was fetched.
+/// Says the instruction that is being executed. One of the counters may have been struck since it was fetched.
 fn say_code<P: Program>(
     page: &mut Page,
     program: &P,
@@ -88,11 +88,11 @@ fn say_store(page: &mut Page, machine: &Machine, rd: Reg, rs: Reg) -> Result<(),
 fn say_target(page: &mut Page, machine: &Machine, rd: Reg) -> Result<(), NoMemory> {
     let d = machine.d();
     if d == 0 {
-        return page.say("its green half set no target (d is 0)");
+        return page.say("the green jump or branch set no target (d is 0)");
     }
     let number = rd.number();
     let target = machine.reg(rd).word;
-    page.say(format_args!("r{number} is {target}, and the target of its green half, d, is {d}"))
+    page.say(format_args!("r{number} is {target}, but the green jump or branch set d to {d}"))
 }
 
 /// Says what a blue branch found.
@@ -103,7 +103,7 @@ fn say_branch(page: &mut Page, machine: &Machine, rz: Reg, rd: Reg) -> Result<()
     }
     let number = rz.number();
     let d = machine.d();
-    page.say(format_args!("r{number} is {word}, and its green half was taken (d is {d})"))
+    page.say(format_args!("r{number} is {word}, but the green branch was taken (d is {d})"))
 }
 
 /// Says what an instruction found.
@@ -113,7 +113,7 @@ fn say_found(page: &mut Page, machine: &Machine, instr: Instr) -> Result<(), NoM
             let number = rs.number();
             let address = machine.reg(rs).word;
             page.say(format_args!(
-                "r{number} is {address}, no cell has that address, and no answer of `--wild` is left"
+                "r{number} is {address}, no cell has that address, and no `--wild` answer is left"
             ))
         }
         Instr::St {

@@ -1,6 +1,6 @@
-//! Words of other machines and of other debuggers, and what to write in their place.
+//! Words of other machines and of other debuggers, and what to write instead.
 
-/// Words, separated by spaces, and what is said of each.
+/// Words, separated by spaces, and the advice for each.
 type Row = (&'static str, &'static str);
 
 /// Mnemonics of other machines. Their nearest neighbours among the words of this one often mean something else.
@@ -18,7 +18,7 @@ const MNEMONICS: &[Row] = &[
     ),
     (
         "beq bne blt bltu bgt bgtu ble bleu bge bgeu beqz bnez bnz cbz cbnz je jne jz jnz jl jg jle jge ja jb jae jbe",
-        "`eq` and `ltu` compare, and `bz_G` and `bz_B` branch if a register is 0",
+        "`eq` and `ltu` compare, and `bz_G` and `bz_B` branch where a register is 0",
     ),
     (
         "cmp cmpl cmpq cmn test tst",
@@ -64,12 +64,15 @@ const MNEMONICS: &[Row] = &[
     ("srl srli lsr", "write `shr`"),
     (
         "sra srai sar asr",
-        "`shr` fills with zeros; there is no arithmetic shift",
+        "`shr` fills with zeros, and no shift keeps a sign",
     ),
-    ("rol ror rotl rotr", "combine `shl` and `shr` with `or`"),
+    (
+        "rol ror rotl rotr",
+        "shift both ways with `shl` and `shr`, and combine with `or`",
+    ),
     (
         "slt slti setl setb",
-        "write `ltu`: comparisons are unsigned",
+        "write `ltu`, which compares unsigned words",
     ),
     (
         "div divu idiv mod modu rem remu",
@@ -86,7 +89,7 @@ const MNEMONICS: &[Row] = &[
     ("clr", "write `mov` with 0, as in `mov r1 G 0 int`"),
 ];
 
-/// Commands of other debuggers, and those of the prompt that a script lacks.
+/// Commands of other debuggers, and commands of the prompt that a script does not have.
 const COMMANDS: &[Row] = &[
     ("quit exit q", "a session ends with its input"),
     (
@@ -111,11 +114,11 @@ const COMMANDS: &[Row] = &[
     ),
     (
         "run r continue cont c",
-        "`go N` takes at most N steps, to the next breakpoint",
+        "`go N` takes N steps, up to a breakpoint",
     ),
     (
         "next n nexti ni stepi si s",
-        "`step N` takes N steps; an instruction takes two",
+        "`step N` takes N steps, and an instruction takes two",
     ),
     (
         "reverse-step reverse-stepi rs rsi",
@@ -133,12 +136,12 @@ const COMMANDS: &[Row] = &[
     ),
 ];
 
-/// Whether a word is one of these, which are separated by spaces. Small and capital letters are alike.
+/// Whether a word is one of these, which are separated by spaces. Case is ignored.
 fn is_among(word: &str, known: &'static str) -> bool {
     known.split(' ').any(|one| one.eq_ignore_ascii_case(word))
 }
 
-/// What a table says of a word.
+/// The advice that a table has for a word.
 fn said_in(rows: &'static [Row], word: &str) -> Option<&'static str> {
     let mut found = None;
     for (known, said) in rows {
@@ -149,7 +152,7 @@ fn said_in(rows: &'static [Row], word: &str) -> Option<&'static str> {
     found
 }
 
-/// What is said of a mnemonic of another machine.
+/// The advice for a mnemonic of another machine.
 pub(crate) fn of_machine(word: &str) -> Option<&'static str> {
     said_in(MNEMONICS, word)
 }
@@ -162,7 +165,7 @@ fn before_format(word: &str) -> &str {
     }
 }
 
-/// What is said of a command of another debugger.
+/// The advice for a command of another debugger.
 pub(crate) fn of_debugger(word: &str) -> Option<&'static str> {
     said_in(COMMANDS, before_format(word))
 }

@@ -49,7 +49,7 @@ fn endless_test(source: &[u8]) -> Option<Token<'_>> {
     None
 }
 
-/// Says of a source whose run or meaning was cut which loop never ends by its test.
+/// Names the loop that never ends, in a source whose run or meaning was cut.
 pub(crate) fn note_endless<S: Shelf>(
     page: &mut Page,
     name: &str,

@@ -3,10 +3,10 @@ use crate::page::Page;
 use ft_isa::NoMemory;
 use ft_text::read_line;
 
-/// How many bytes of a line are shown at the most.
+/// The maximum number of bytes shown of a line.
 const WIDTH: usize = 100;
 
-/// How many bytes of a line are shown before the place at the most.
+/// The maximum number of bytes shown before the place.
 const BEFORE: usize = 60;
 
 /// A place in a text.
@@ -16,7 +16,7 @@ pub(crate) struct Place<'a> {
     number: usize,
     /// The line without its line feed.
     line: &'a [u8],
-    /// How many bytes of the line stand before the place.
+    /// How many bytes of the line precede the place.
     before: usize,
 }
 
@@ -37,7 +37,7 @@ fn letters(bytes: &[u8]) -> usize {
     bytes.iter().filter(|byte| !goes_on(**byte)).count()
 }
 
-/// The bytes of a text from one place up to another; none where it has no such places.
+/// The bytes of a text from one place up to another; none if it has no such places.
 pub(crate) fn part(text: &[u8], start: usize, past: usize) -> &[u8] {
     text.get(start..past).unwrap_or(&[])
 }
@@ -51,7 +51,7 @@ fn first_line(text: &[u8]) -> &[u8] {
 }
 
 impl<'a> Place<'a> {
-    /// The place of byte `at`; the end of the text where it has fewer bytes.
+    /// The place of byte `at`; the end of the text if it has fewer bytes.
     pub fn of(text: &'a [u8], at: usize) -> Place<'a> {
         let at = at.min(text.len());
         let mut number: usize = 1;
@@ -69,7 +69,7 @@ impl<'a> Place<'a> {
         }
     }
 
-    /// The start of the line of a number, counted from 1; `None` where the text has fewer lines.
+    /// The start of line `wanted`, counted from 1; `None` if the text has fewer lines.
     pub fn of_line(text: &'a [u8], wanted: usize) -> Option<Place<'a>> {
         let mut number: usize = 1;
         let mut start: usize = 0;
@@ -92,7 +92,7 @@ impl<'a> Place<'a> {
         })
     }
 
-    /// A place of the same line, after so many of its bytes.
+    /// A place of the same line, after this many of its bytes.
     pub fn after(self, before: usize) -> Place<'a> {
         Place { before, ..self }
     }
@@ -122,8 +122,8 @@ impl<'a> Place<'a> {
         letter_from(self.line, first.saturating_add(WIDTH))
     }
 
-    /// Shows the line, and below it a caret at the place, with a wave under the rest of so many bytes. A long
-    /// line is cut around the place.
+    /// Shows the line, and below it a caret at the place, with a wave under the rest of `length` bytes. A long line
+    /// is cut around the place.
     pub fn show(&self, page: &mut Page, length: usize) -> Result<(), NoMemory> {
         let first = self.first();
         let past = self.past(first);

@@ -1,8 +1,8 @@
-//! What a source lacks where a token is not expected, and habits from C.
+//! What is missing where a source has an unexpected token, and idioms of C.
 use crate::excerpt::part;
 use ft_lexer::{Kind, Lexer, Token};
 
-/// What stands before a place in a source.
+/// What precedes a place in a source.
 #[derive(Clone, Copy)]
 struct Before<'s> {
     /// The first token of the statement, of the declaration or of the test there.
@@ -19,7 +19,7 @@ struct Before<'s> {
     last: Option<Token<'s>>,
 }
 
-/// What a source lacks, and the text and the end of the token after which it is lacking.
+/// What is missing, and the text and end of the token before it.
 #[derive(Clone, Copy)]
 pub(crate) struct Lack<'s> {
     pub what: &'static str,
@@ -46,7 +46,7 @@ fn opened(open: usize, kind: Kind) -> usize {
 }
 
 impl<'s> Before<'s> {
-    /// What stands before the next token, which follows this one.
+    /// What precedes the next token, which follows this one.
     fn then(self, token: Token<'s>) -> Before<'s> {
         let last = Some(token);
         let depth = deeper(self.depth, token.kind);
@@ -68,7 +68,7 @@ impl<'s> Before<'s> {
     }
 }
 
-/// What stands before the first token.
+/// The state before the first token.
 const START: Before<'static> = Before {
     first: None,
     count: 0,
@@ -78,7 +78,7 @@ const START: Before<'static> = Before {
     last: None,
 };
 
-/// What stands before a place.
+/// What precedes a place.
 fn read_before(source: &[u8], at: usize) -> Before<'_> {
     let mut lexer = Lexer::new(part(source, 0, at));
     let mut before = START;
@@ -107,7 +107,7 @@ fn ends_term(kind: Kind) -> bool {
     )
 }
 
-/// Whether a token of this kind, or the end, follows what has its last token.
+/// Whether this token, or the end, may follow a complete construct.
 fn follows_whole(kind: Option<Kind>) -> bool {
     match kind {
         Some(kind) => matches!(
@@ -118,7 +118,7 @@ fn follows_whole(kind: Option<Kind>) -> bool {
     }
 }
 
-/// What is lacking after a term at the end of a statement, of a declaration or of a test.
+/// What is missing after a term at the end of a statement, of a declaration or of a test.
 fn lacking_after_term(before: Before<'_>) -> Option<&'static str> {
     if before.open > 0 {
         return Some(")");
@@ -131,7 +131,7 @@ fn lacking_after_term(before: Before<'_>) -> Option<&'static str> {
     }
 }
 
-/// What is lacking after a token of this kind, where another one follows.
+/// What is missing between a token of this kind and the next one.
 fn lacking_after(before: Before<'_>, last: Kind, next: Option<Kind>) -> Option<&'static str> {
     match last {
         Kind::While | Kind::If => Some("("),
@@ -143,7 +143,7 @@ fn lacking_after(before: Before<'_>, last: Kind, next: Option<Kind>) -> Option<&
     }
 }
 
-/// What a source lacks before a place, where a token is not expected.
+/// What is missing before a place with an unexpected token.
 pub(crate) fn lack_at(source: &[u8], at: usize) -> Option<Lack<'_>> {
     let before = read_before(source, at);
     let last = before.last?;
@@ -158,7 +158,7 @@ pub(crate) fn lack_at(source: &[u8], at: usize) -> Option<Lack<'_>> {
     })
 }
 
-/// What a word that is no name in most languages stands for here.
+/// What a reserved word of another language should be replaced by.
 fn habit_of_word(word: &[u8]) -> Option<&'static str> {
     match word {
         b"for" | b"do" | b"loop" | b"repeat" | b"until" => {
@@ -175,7 +175,7 @@ fn habit_of_word(word: &[u8]) -> Option<&'static str> {
     }
 }
 
-/// What to write in the place of a habit that a token of this kind shows after a name that begins a statement.
+/// What to write instead of a C idiom that this token suggests after the first name of a statement.
 fn habit_after_first(word: &[u8], next: Kind) -> Option<&'static str> {
     if next != Kind::Assign
         && let Some(words) = habit_of_word(word)
@@ -201,14 +201,14 @@ fn begins_statement(last: Kind) -> bool {
     matches!(last, Kind::Semi | Kind::LBrace | Kind::RBrace)
 }
 
-/// What to write in the place of a habit that a token of this kind shows after the last one.
+/// What to write instead of a C idiom that this token suggests after the last one.
 fn habit_after(last: Kind, next: Kind) -> Option<&'static str> {
     match next {
         Kind::If if last == Kind::Else => Some("write `else { if (..) { .. } }`"),
         Kind::Assign if last == Kind::Less => Some(AT_MOST),
         Kind::Star if last == Kind::Star => Some("there are no powers, only products"),
         Kind::Plus if last == Kind::Plus => Some(
-            "write a statement of its own, as in `a = a + 1;`",
+            "write it as a separate statement, as in `a = a + 1;`",
         ),
         Kind::Semi if begins_statement(last) => Some("there are no empty statements"),
         Kind::LBrace if begins_statement(last) => Some(
@@ -225,7 +225,7 @@ fn habit_after(last: Kind, next: Kind) -> Option<&'static str> {
     }
 }
 
-/// What is said of an array that begins with several values.
+/// The message for an array that begins with several values.
 const SAME_VALUE: &str = "all cells of an array have the same initial value";
 
 /// What is wrong with the first value or with the length in the declaration of a cell.
@@ -243,7 +243,7 @@ fn habit_of_cell(before: Before<'_>, next: Kind) -> Option<&'static str> {
     }
 }
 
-/// What to write in the place of a habit that a token of this kind shows in a declaration or a test.
+/// What to write instead of a C idiom that this token suggests in a declaration or a test.
 fn habit_inside(before: Before<'_>, next: Kind) -> Option<&'static str> {
     match (before.first, next) {
         (Some(Kind::Var), Kind::Assign) if before.count == 2 => {
@@ -267,7 +267,7 @@ fn habit_inside(before: Before<'_>, next: Kind) -> Option<&'static str> {
     }
 }
 
-/// What to write in the place of a habit from another language, where a token is not expected.
+/// What to write instead of an idiom of another language, at an unexpected token.
 pub(crate) fn habit(source: &[u8], at: usize) -> Option<&'static str> {
     let before = read_before(source, at);
     let next = kind_at(source, at)?;
@@ -296,7 +296,7 @@ pub(crate) fn habit(source: &[u8], at: usize) -> Option<&'static str> {
     }
 }
 
-/// Where the innermost brace that is still open at the end of a source was opened, with the last token.
+/// The innermost unclosed brace at the end of a source, and the last token.
 pub(crate) fn unclosed(source: &[u8]) -> Option<(usize, Token<'_>)> {
     let end = read_before(source, source.len());
     let last = end.last?;
@@ -306,7 +306,7 @@ pub(crate) fn unclosed(source: &[u8]) -> Option<(usize, Token<'_>)> {
     Some((opened_at(source, end.depth)?, last))
 }
 
-/// Where the last brace is opened that makes this many open ones.
+/// The last brace that raises the number of open ones to this.
 fn opened_at(source: &[u8], wanted: usize) -> Option<usize> {
     let mut lexer = Lexer::new(source);
     let mut depth: usize = 0;
@@ -323,7 +323,7 @@ fn opened_at(source: &[u8], wanted: usize) -> Option<usize> {
     found
 }
 
-/// What to write in the place of a comma.
+/// What to write instead of a comma.
 pub(crate) fn instead_of_comma(source: &[u8], at: usize) -> &'static str {
     // After the brace that begins a list, its first number is taken for the beginning of a statement.
     if read_before(source, at).first == Some(Kind::Number) {
@@ -333,7 +333,7 @@ pub(crate) fn instead_of_comma(source: &[u8], at: usize) -> &'static str {
     }
 }
 
-/// What to write in the place of a byte that begins no token.
+/// What to write instead of a byte that begins no token.
 pub(crate) fn instead_of(byte: u8) -> &'static str {
     match byte {
         b'>' => ": write `b < a` for `a > b`, and `(a < b) == 0` for `a >= b`",

@@ -3,7 +3,7 @@
 /// A field: where it begins in its record, how many bytes it has, and its name.
 pub(crate) type Field = (usize, usize, &'static str);
 
-/// What is not used of a record.
+/// The unused part of a record.
 const UNUSED: &str = "a field that is not used";
 
 /// The fields of the header.
@@ -179,7 +179,7 @@ const INSTRS: &[&[Field]] = &[
     ],
 ];
 
-/// The field in which a place of a record stands.
+/// The field that contains an offset of a record.
 pub(crate) fn field_at(fields: &[Field], offset: usize) -> Option<Field> {
     let mut found = None;
     for field in fields {
@@ -190,7 +190,7 @@ pub(crate) fn field_at(fields: &[Field], offset: usize) -> Option<Field> {
     found
 }
 
-/// The field of a node of this kind in which a place of its record stands.
+/// The field of a node of this kind that contains an offset of its record.
 pub(crate) fn node_field(kind: u8, offset: usize) -> Option<Field> {
     if offset < 4 {
         return field_at(NODE, offset);
@@ -201,7 +201,7 @@ pub(crate) fn node_field(kind: u8, offset: usize) -> Option<Field> {
     )
 }
 
-/// The field of an instruction of this kind in which a place of its record stands.
+/// The field of an instruction of this kind that contains an offset of its record.
 pub(crate) fn instr_field(kind: u8, offset: usize) -> Option<Field> {
     field_at(
         INSTRS.get(usize::from(kind)).copied().unwrap_or(ACCESS),

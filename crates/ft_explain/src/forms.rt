@@ -3,7 +3,7 @@
 //! The script `build/help.sh` reads these lists, too: it answers a call for help before the program is compiled. So
 //! each list ends with a line of its own.
 
-/// The commands: how each is written, what it does, and an example, a line each.
+/// The commands, three lines each: how it is written, what it does, and an example.
 pub(crate) const COMMANDS: &[&str] = &[
     "compile SOURCE
 compile a source and write its object
@@ -55,7 +55,7 @@ link the modules of a link map and write the object
 talft link updown.map >updown.obj",
 ];
 
-/// The options: how each is written, and what it says.
+/// The options: how each is written, and its help text.
 pub(crate) const OPTIONS: &[&str] = &[
     "--steps N                 run at most N steps: 0 to 1000000000, for campaign and survey 0 to 1000000 (default 1000000)",
     "--turns N                 run at most N loop iterations: 0 to 1000000000 (default 1000000)",
@@ -110,7 +110,7 @@ pub(crate) fn operand_of(command: &'static str) -> &'static str {
     }
 }
 
-/// What the value of an option of a command is called; `None` where the command does not take the option.
+/// What the value of an option of a command is called; `None` if the command does not take the option.
 pub(crate) fn value_of(command: &'static str, option: &str) -> Option<&'static str> {
     let mut is_next = false;
     for word in form(command).split(' ') {
@@ -122,7 +122,7 @@ pub(crate) fn value_of(command: &'static str, option: &str) -> Option<&'static s
     None
 }
 
-/// The most that the number of an option or of a command may be.
+/// The maximum number that an option or a command takes.
 pub(crate) fn most_of(command: &'static str) -> u64 {
     match first_word(command).as_bytes() {
         b"campaign" | b"survey" => 1_000_000,

@@ -1,4 +1,4 @@
-//! What is said where help is asked for.
+//! The help texts.
 use crate::forms::{
     COMMANDS, OPTIONS, first_word, form, operand_of, summary_and_example, value_of,
 };
@@ -6,7 +6,7 @@ use crate::page::Page;
 use crate::version::VERSION;
 use ft_isa::NoMemory;
 
-/// How wide a command with its operand is shown.
+/// The width of the column for a command with its operand.
 const WIDTH: usize = 18;
 
 /// Whether a word asks for help.

@@ -6,10 +6,10 @@ use ft_edge::Shelf;
 use ft_isa::{NoMemory, read_number};
 use ft_lexer::{Kind, Lexer, Token};
 
-/// How many indices are looked at.
+/// The maximum number of indices examined.
 const MOST_INDICES: usize = 256;
 
-/// A number in a source: its place, how many bytes it has, and its value.
+/// A number in a source: its place, its length in bytes, and its value.
 #[derive(Clone, Copy)]
 struct Number {
     at: usize,
@@ -77,7 +77,7 @@ impl<'s> Seen<'s> {
         }
     }
 
-    /// The name with its index, where this token closes it.
+    /// The name with its index, if this token closes it.
     fn closed_by(self, token: Token<'_>) -> Option<Index<'s>> {
         if token.kind != Kind::RBracket {
             return None;
@@ -90,7 +90,7 @@ impl<'s> Seen<'s> {
     }
 }
 
-/// How many cells the array of a name has; `None` where the name is no array.
+/// How many cells the array of this name has; `None` if the name is not an array's.
 fn length_of(source: &[u8], name: &[u8]) -> Option<u64> {
     let mut lexer = Lexer::new(source);
     let mut seen = NOTHING;
@@ -109,7 +109,7 @@ fn length_of(source: &[u8], name: &[u8]) -> Option<u64> {
     None
 }
 
-/// Says that an index is beyond its array, and which cell it means.
+/// Says that an index is beyond its array, and which cell it selects.
 fn say_beyond(
     page: &mut Page,
     name: &str,
@@ -123,11 +123,11 @@ fn say_beyond(
     page.name(name)?;
     page.say(format_args!(":{}:{}: note: ", place.number(), place.column()))?;
     page.quote(index.name)?;
-    page.say(format_args!(" has {length} cells: the index {number} means cell {meant}\n"))?;
+    page.say(format_args!(" has {length} cells: the index {number} selects cell {meant}\n"))?;
     place.show(page, index.number.length)
 }
 
-/// Says of an index whether it is beyond its array; false where it is not.
+/// Reports an index if it is beyond its array; otherwise returns false.
 fn say_if_beyond(
     page: &mut Page,
     name: &str,
@@ -146,7 +146,7 @@ fn say_if_beyond(
     }
 }
 
-/// Says of the first constant index beyond its array that it is.
+/// Reports the first constant index beyond its array.
 fn say_first(page: &mut Page, name: &str, source: &[u8]) -> Result<(), NoMemory> {
     let mut lexer = Lexer::new(source);
     let mut seen = NOTHING;
@@ -166,7 +166,7 @@ fn say_first(page: &mut Page, name: &str, source: &[u8]) -> Result<(), NoMemory>
     Ok(())
 }
 
-/// Says of a source that was taken where a constant index is beyond its array.
+/// For an accepted source, reports where a constant index is beyond its array.
 pub(crate) fn note_indices<S: Shelf>(
     page: &mut Page,
     name: &str,

@@ -1,4 +1,4 @@
-//! Exports and imports of a link map that do not go together: what could be meant.
+//! Exports and imports of a link map that do not match: likely fixes.
 ghost use Rattle.ft_types.specs.Spellable.{IsSpellable};
 
 use crate::links::{file_of, modules_before};
@@ -9,7 +9,7 @@ use ft_isa::{Instr, NoMemory, read_number};
 use ft_types::{CellHead, Program, TypeHead};
 use ft_view::View;
 
-/// How many blocks or names are listed at the most.
+/// The maximum number of blocks or names listed.
 const MOST_LISTED: usize = 16;
 
 /// An export or import: its name, and the number of its block.
@@ -19,7 +19,7 @@ struct Asked<'m> {
     block: u32,
 }
 
-/// What a line after its first word asks for.
+/// What the rest of a line, after its first word, asks for.
 fn asked_of(rest: &str) -> Option<Asked<'_>> {
     let (name, block) = rest.split_once(' ')?;
     let block = u32::try_from(read_number(block.as_bytes())?).ok()?;
@@ -64,7 +64,7 @@ fn line_with(map: &str, word: &str, name: &str) -> Option<u64> {
     None
 }
 
-/// The file of the module that a line stands below.
+/// The file of the module that a line belongs to.
 fn module_of(map: &str, line: u64) -> Option<&str> {
     let above = modules_before(map.as_bytes(), line).checked_sub(1)?;
     file_of(Some(map.as_bytes()), above)
@@ -161,7 +161,7 @@ fn type_of<P: Program>(program: &P, b: u32) -> Option<TypeHead>
     Some(program.code_type(t))
 }
 
-/// Says in what two code types differ, as far as their counts tell.
+/// Says how the counts of two code types differ.
 fn say_unlike(page: &mut Page, imported: TypeHead, exported: TypeHead) -> Result<(), NoMemory> {
     let (what, first, second) = if imported.ints != exported.ints {
         (
@@ -179,7 +179,7 @@ fn say_unlike(page: &mut Page, imported: TypeHead, exported: TypeHead) -> Result
     page.say(format_args!("  {what}: {first} in the import, {second} in the export\n"))
 }
 
-/// Says in what the code type of an imported block differs from that of the exported one.
+/// Says how the code type of an imported block differs from that of the exported one.
 fn say_unlike_blocks<S: Shelf>(
     page: &mut Page,
     imported: TypeHead,
@@ -206,7 +206,7 @@ fn say_unlike_blocks<S: Shelf>(
     }
 }
 
-/// Says more of a line whose block does not do, from its module.
+/// Adds, from the module, why the block of a line is unsuitable.
 fn say_of_module<S: Shelf>(
     page: &mut Page,
     number: u64,
@@ -254,7 +254,7 @@ fn line_of_block(map: &str, line: u64, block: u32) -> Option<u64> {
     found
 }
 
-/// Says which line exports the name of an export already, or names its block.
+/// Says which earlier line exports the same name or names the same block.
 fn say_first(page: &mut Page, map: &str, line: u64) -> Result<(), NoMemory> {
     let Some(text) = line_at(map, line) else {
         return Ok(());
@@ -274,7 +274,7 @@ fn say_first(page: &mut Page, map: &str, line: u64) -> Result<(), NoMemory> {
     }
 }
 
-/// The type and the initial word of cell `k`; `None` where there is no such cell.
+/// The type and the initial word of cell `k`; `None` if there is no such cell.
 #[tactic(auto, using(ft_types::proofs::Counted::spellable_counted))]
 fn cell_at<P: Program>(program: &P, k: u32) -> Option<CellHead>
     requires { IsSpellable (P.object program.now) }
@@ -285,7 +285,7 @@ fn cell_at<P: Program>(program: &P, k: u32) -> Option<CellHead>
     Some(program.cell(k))
 }
 
-/// The name of cell `k`; nothing where there is no such cell.
+/// The name of cell `k`; empty if there is no such cell.
 #[tactic(auto, using(ft_types::proofs::Counted::spellable_counted))]
 fn name_at<P: Program>(program: &P, k: u32) -> &[u8]
     requires { IsSpellable (P.object program.now) }
@@ -306,7 +306,7 @@ fn is_alike<P: Program, Q: Program>(program: &P, first: &Q, k: u32) -> bool
     name == wanted && cell_at(program, k) == cell_at(first, k)
 }
 
-/// The first cell in which two modules differ, of those that both have.
+/// The first cell that two modules both have and in which they differ.
 fn unlike_cell<P: Program, Q: Program>(program: &P, first: &Q) -> Option<u32>
     requires here { IsSpellable (P.object program.now) }
     requires there { IsSpellable (Q.object first.now) }
@@ -339,7 +339,7 @@ fn say_unlike_cell<P: Program, Q: Program>(
     page.say(format_args!(", and the first module has {wanted}\n"))
 }
 
-/// Says in which cell a module differs from the first one, where their files can be read again.
+/// Says in which cell a module differs from the first one, if their files can be read again.
 pub(crate) fn explain_cells<S: Shelf>(
     page: &mut Page,
     first: Option<&str>,
@@ -361,7 +361,7 @@ pub(crate) fn explain_cells<S: Shelf>(
     }
 }
 
-/// Says what could be meant by a line of a link map that is refused, where its files can be read again.
+/// Suggests a fix for a refused line of a link map, if its files can be read again.
 pub(crate) fn explain_join<S: Shelf>(
     page: &mut Page,
     number: u64,

@@ -71,7 +71,7 @@ impl Known {
         Some(Basic { refs, ..basic })
     }
 
-    /// Goes over an instruction that is accepted.
+    /// Records what an accepted instruction changes.
     fn pass<P: Program>(&mut self, program: &P, instr: Instr)
         requires { IsSpellable (P.object program.now) }
     {

@@ -1,4 +1,4 @@
-//! A sink that remembers the line that was put last.
+//! A sink that remembers the last line written.
 ghost use Rattle.std.specs.Prelude.{◌≡◌, ◌≤◌, [], ◌∷◌, OnOk, OnErr};
 ghost use Rattle.std.specs.Io.KnownBytes.{append_known};
 ghost use Rattle.ft_edge.specs.Causes.{Rose, AddsPrefix};
@@ -26,7 +26,7 @@ impl<K: Sink + Drop> LastLine<K> {
         }
     }
 
-    /// The sink, and what was put last; no bytes where that was longer than `ROOM`.
+    /// The sink, and the last piece written; empty if that was longer than `ROOM`.
     pub fn into_parts(self) -> (K, Line)
         ensures { result.0 ≡ self.sink }
     {
@@ -44,7 +44,7 @@ impl<K: Sink> Sink for LastLine<K> {
     }
 }
 
-/// A line of these bytes; an empty one where they are more than a line takes.
+/// A line of these bytes; empty if they do not fit.
 fn line_of(bytes: &[u8]) -> Line {
     let mut line = Line::new();
     if bytes.len() <= ROOM {

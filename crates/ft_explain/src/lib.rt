@@ -1,7 +1,7 @@
-//! Explains calls to people.
+//! Explains, for people, why a call was refused or did not succeed.
 //!
 //! `explain` returns what the program writes to standard error: after a refused call the place in the file,
-//! the line there and what is wrong with it; after a run that was detected or cut what it met; and help.
+//! the line there and what is wrong with it; after a run that was detected or cut, why; and help.
 //! The crate promises nothing about texts. Each call is safe and ends, and `LastLine`, which captures the
 //! refusal, behaves like the sink that it wraps. The tests show the words of each refusal.
 #![tactic(auto)]

@@ -1,13 +1,13 @@
-//! Lines of texts that have no room for comments, empty lines and the like: fault lists, scripts and link maps.
+//! Lines of formats without comments or empty lines: fault lists, scripts and link maps.
 
-/// What a byte order mark is.
+/// A byte order mark.
 const MARK: &[u8] = b"\xef\xbb\xbf";
 
-/// What is said of a line that ends with a carriage return.
+/// The message for a line that ends with a carriage return.
 pub(crate) const RETURN: &str =
     "the line ends with a carriage return: save the file with Unix line endings";
 
-/// What is said of a text that begins with a byte order mark.
+/// The message for a text that begins with a byte order mark.
 pub(crate) const MARKED: &str = "the file begins with a byte order mark: save it without one";
 
 /// Whether a text begins with a byte order mark.
@@ -15,7 +15,7 @@ pub(crate) fn is_marked(text: &[u8]) -> bool {
     text.starts_with(MARK)
 }
 
-/// Whether a text begins as a comment of some language.
+/// Whether a text begins like a comment of some language.
 pub(crate) fn begins_comment(text: &[u8]) -> bool {
     text.starts_with(b"#")
         || text.starts_with(b";")
@@ -28,7 +28,7 @@ fn is_blank(byte: Option<&u8>) -> bool {
     matches!(byte, Some(b' ' | b'\t'))
 }
 
-/// What is wrong with a whole line that a person may take for a good one, and the place in it.
+/// A mistake in a line that looks valid, and its place.
 pub(crate) fn wrong_line(line: &[u8]) -> Option<(usize, &'static str)> {
     let last = line.len().saturating_sub(1);
     if is_marked(line) {
@@ -52,7 +52,7 @@ pub(crate) fn wrong_line(line: &[u8]) -> Option<(usize, &'static str)> {
     None
 }
 
-/// What is wrong with a byte between words, after the one before it; nothing where it is right.
+/// What is wrong with a byte between words, after the one before it; empty if nothing is.
 fn wrong_after(before: u8, byte: u8) -> &'static str {
     match (before, byte) {
         (_, b'\t') => "words are separated by one space, not by a tab",
@@ -61,7 +61,7 @@ fn wrong_after(before: u8, byte: u8) -> &'static str {
     }
 }
 
-/// What stands wrong between the words of a line, and the place in it.
+/// What is wrong between the words of a line, and where.
 fn wrong_gap(line: &[u8]) -> Option<(usize, &'static str)> {
     let mut wrong = None;
     let mut before: u8 = 0;
@@ -75,7 +75,7 @@ fn wrong_gap(line: &[u8]) -> Option<(usize, &'static str)> {
     wrong
 }
 
-/// What is wrong with a whole line of words, or between them, and the place in it.
+/// A mistake in a line of words, or between its words, and its place.
 pub(crate) fn wrong_words(line: &[u8]) -> Option<(usize, &'static str)> {
     match wrong_line(line) {
         Some(wrong) => Some(wrong),

@@ -1,4 +1,4 @@
-//! Links that are refused.
+//! Explains links that are refused.
 ghost use Rattle.ft_types.specs.Spellable.{IsSpellable};
 
 use crate::checks::{find, say_instr};
@@ -11,7 +11,7 @@ use crate::page::Page;
 use ft_isa::{Instr, NoMemory};
 use ft_types::Program;
 
-/// The most modules of a link map.
+/// The maximum number of modules in a link map.
 const MODULE_LIMIT: u64 = 64;
 
 /// The file of the module with this number, counted from 0, as a map names it.
@@ -75,7 +75,7 @@ fn say_asked(page: &mut Page, word: &str, rest: &str) -> Result<(), NoMemory> {
     ))
 }
 
-/// Says what is wrong with a line that may not stand where it stands, after so many modules.
+/// Says what is wrong with a line that is out of place after this many modules.
 fn say_misplaced(page: &mut Page, line: &str, modules: u64) -> Result<(), NoMemory> {
     let (first, rest) = match line.split_once(' ') {
         Some(parts) => parts,
@@ -96,7 +96,7 @@ fn say_misplaced(page: &mut Page, line: &str, modules: u64) -> Result<(), NoMemo
     }
 }
 
-/// What is wrong with a line that is one of the three.
+/// What is wrong with a line of one of the three forms.
 fn line_words(number: u64, line: &[u8]) -> &'static str {
     match number {
         1 => "this line is not allowed here",
@@ -134,7 +134,7 @@ fn code_words(instr: Instr) -> &'static str {
     }
 }
 
-/// Explains a line of a link map that is not allowed where it stands.
+/// Explains a line of a link map that is out of place.
 fn explain_misplaced(
     page: &mut Page,
     name: &str,
@@ -154,7 +154,7 @@ fn explain_misplaced(
     place.show(page, place.line().len())
 }
 
-/// Explains why a line of a link map is refused. The map is there where it can be read again.
+/// Explains why a line of a link map is refused. The map is given if it can be read again.
 pub(crate) fn explain_line(
     page: &mut Page,
     name: &str,
@@ -184,7 +184,7 @@ pub(crate) fn explain_line(
     place.show(page, place.line().len())
 }
 
-/// Begins what is said of a module: its file is named, or the map where it cannot be read again.
+/// Begins a message about a module: names its file, or the map if that cannot be read again.
 fn module_head(
     page: &mut Page,
     name: &str,
@@ -200,7 +200,7 @@ fn module_head(
     }
 }
 
-/// Explains why a module is refused. Its file is known where the map can be read again.
+/// Explains why a module is refused. Its file is known if the map can be read again.
 pub(crate) fn explain_module(
     page: &mut Page,
     name: &str,
@@ -213,7 +213,7 @@ pub(crate) fn explain_module(
     page.say("\n")
 }
 
-/// Explains why the linker cannot move an instruction, where the object is not there.
+/// Explains why the linker cannot move an instruction, without the object.
 pub(crate) fn explain_unmoved(
     page: &mut Page,
     name: &str,

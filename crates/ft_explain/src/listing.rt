@@ -20,7 +20,7 @@ const NOTHING: Header = Header {
     entry: 0,
 };
 
-/// The kind of record that a line adds; `None` where it adds none.
+/// The kind of record that a line adds; `None` if it adds none.
 fn part_of(line: &[u8]) -> Option<Part> {
     let first = word(line, 0);
     if first.is_empty() || first.starts_with(b"#") {
@@ -38,7 +38,7 @@ fn part_of(line: &[u8]) -> Option<Part> {
     }
 }
 
-/// How many words stand before the rows of a substitution in a line.
+/// How many words precede the rows of a substitution in a line.
 pub(crate) fn words_before_rows(line: &[u8]) -> Option<usize> {
     match word(line, 0) {
         b"jmp_B" => Some(3),
@@ -71,7 +71,7 @@ fn more(count: u32, line: &[u8], part: Part) -> u32 {
     count.saturating_add(added)
 }
 
-/// The counts with those of one line more.
+/// The counts after one more line.
 fn with_line(header: Header, line: &[u8]) -> Header {
     Header {
         cells: more(header.cells, line, Part::Cell),
@@ -119,7 +119,7 @@ pub(crate) fn line_of(text: &[u8], record: Record) -> Option<(Place<'_>, usize)>
     None
 }
 
-/// The number of the line that begins with this word, the first.
+/// The number of the first line that begins with this word.
 pub(crate) fn line_with(text: &[u8], first: &[u8]) -> Option<usize> {
     let mut rest = text;
     let mut number: usize = 1;
@@ -134,7 +134,7 @@ pub(crate) fn line_with(text: &[u8], first: &[u8]) -> Option<usize> {
     None
 }
 
-/// The number of the cell with this name; `None` where the text has no such cell.
+/// The number of the cell with this name; `None` if the text has no such cell.
 pub(crate) fn cell_of(text: &[u8], name: &[u8]) -> Option<u64> {
     let mut rest = text;
     let mut number: u64 = 0;

@@ -1,4 +1,4 @@
-//! Fault lists, campaigns and scripts that are refused.
+//! Explains fault lists, campaigns and scripts that are refused.
 use crate::content::{Content, say_other_kind};
 use crate::excerpt::Place;
 use crate::lines::wrong_line;
@@ -14,7 +14,7 @@ fn begun(line: &[u8]) -> usize {
     }
 }
 
-/// Whether other words follow a fault on its line, as in what a campaign writes.
+/// Whether other words follow a fault on its line, as in a campaign's output.
 fn has_verdict(line: &[u8]) -> bool {
     match str::from_utf8(line).unwrap_or("").split_once([' ', '\t']) {
         Some((fault, _)) => read_strike(fault.as_bytes()).is_ok(),
@@ -36,7 +36,7 @@ fn say_whole(page: &mut Page, number: u64, told: u64) -> Result<(), NoMemory> {
     }
 }
 
-/// Explains why a line of a list is no fault.
+/// Explains why a line of a list is not a fault.
 fn explain_line(page: &mut Page, name: &str, start: Place<'_>) -> Result<(), NoMemory> {
     if let Some((at, words)) = wrong_line(start.line()) {
         let place = start.after(at);
@@ -59,7 +59,7 @@ fn explain_line(page: &mut Page, name: &str, start: Place<'_>) -> Result<(), NoM
     place.show(page, 1)
 }
 
-/// Explains why a fault list, a campaign or a script is refused. The list is there where the refusal has a line.
+/// Explains why a fault list, a campaign or a script is refused. The list is given if the refusal has a line.
 pub(crate) fn explain_list(
     page: &mut Page,
     name: &str,

@@ -1,15 +1,15 @@
-//! Files that are read again.
+//! Reads files again.
 use ft_edge::{Load, LoadFault, Shelf};
 use ft_isa::NoMemory;
 use std::alloc::Global;
 
-/// The most bytes of an object.
+/// The maximum size of an object in bytes.
 pub(crate) const OBJECT_LIMIT: usize = 67_108_864;
 
-/// The most bytes of a source.
+/// The maximum size of a source in bytes.
 pub(crate) const SOURCE_LIMIT: usize = 1_048_576;
 
-/// The bytes of a file of at most so many; `None` where it cannot be read or has more.
+/// The bytes of a file of at most `limit` bytes; `None` if it cannot be read or has more.
 pub(crate) fn load<S: Shelf>(
     alloc: Global,
     name: &str,

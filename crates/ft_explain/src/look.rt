@@ -1,6 +1,6 @@
-//! What stands under the name of a file that could not be read.
+//! What the name of a file that could not be read refers to.
 
-/// What stands under the name of a file that could not be read.
+/// What the name of a file that could not be read refers to.
 #[derive(Clone, Copy, Debug, PartialEq, Eq)]
 pub enum Found {
     /// Nothing.
@@ -11,7 +11,7 @@ pub enum Found {
     File,
     /// A file that this user may not read.
     Forbidden,
-    /// Something else, or it is not known.
+    /// Something else, or unknown.
     Unknown,
 }
 
@@ -29,21 +29,21 @@ impl Found {
     /// Why standard input cannot be read.
     pub(crate) fn words_of_input(self) -> &'static str {
         match self {
-            Found::Missing => "standard input: error: is closed\n",
-            Found::Folder => "standard input: error: is a folder\n",
-            _ => "standard input: error: cannot be read\n",
+            Found::Missing => "error: standard input is closed\n",
+            Found::Folder => "error: standard input is a folder\n",
+            _ => "error: standard input cannot be read\n",
         }
     }
 }
 
-/// Whoever can tell what stands under a name.
+/// Looks up what a name refers to.
 pub trait Look {
-    /// What stands under a name.
+    /// What a name refers to.
     fn look(&self, name: &str) -> Found;
 
     /// What standard input is.
     fn input(&self) -> Found;
 
-    /// The name under which standard input can be read once more, from its beginning; `None` where it cannot.
+    /// The name under which standard input can be read once more, from its beginning; `None` if it cannot.
     fn script(&self) -> Option<&'static str>;
 }

@@ -13,7 +13,7 @@ const NODE: &str =
 /// The words after an operation.
 const OPERATION: &str = "R R R, or R R C W";
 
-/// The first word of each line but those of operations, with the words after it.
+/// The first word of each line except operations, with the words after it.
 const FORMS: &[(&str, &str)] = &[
     ("cell", "NAME BASIC INIT"),
     ("node", NODE),
@@ -40,7 +40,7 @@ const OPERATIONS: &[&str] = &[
     "add", "sub", "mul", "ltu", "eq", "and", "or", "xor", "shl", "shr",
 ];
 
-/// The words after each kind of node but the operations, its scope and its kind among them.
+/// The words after each kind of node except operations, its scope and its kind among them.
 const NODES: &[(&str, &str)] = &[
     ("word", "SCOPE KIND W"),
     ("var", "SCOPE KIND I"),
@@ -50,7 +50,7 @@ const NODES: &[(&str, &str)] = &[
     ("rem", "SCOPE KIND A LENGTH"),
 ];
 
-/// Words that stand for two instructions, green and blue.
+/// Words that name two instructions, green and blue.
 const COLOURED: &[&str] = &["ld", "st", "jmp", "bz"];
 
 /// Whether a word is an operation.
@@ -90,7 +90,7 @@ fn wrong_node(line: &[u8]) -> Option<Operand<'_>> {
     }
 }
 
-/// The operand of a node whose kind is not known.
+/// The operand of a node whose kind is unknown.
 fn unknown_node(line: &[u8]) -> Option<Operand<'_>> {
     let wrong = wrong_operand(line, "SCOPE KIND")?;
     if wrong.form == "nothing" {
@@ -119,7 +119,7 @@ pub(crate) fn operand_of<'t>(line: &'t [u8], forms: &'static str) -> Option<Oper
     }
 }
 
-/// Whether a line is one of an assembly text.
+/// Whether a line has a form of assembly texts.
 pub(crate) fn is_line(line: &[u8]) -> bool {
     match form_of(word(line, 0)) {
         Some(forms) => operand_of(line, forms).is_none(),
@@ -127,7 +127,7 @@ pub(crate) fn is_line(line: &[u8]) -> bool {
     }
 }
 
-/// What a first word shows that is none of an assembly text; nothing where it shows no habit.
+/// Advice for a first word from another assembly language; empty if there is none.
 fn habit_of(word: &[u8]) -> &'static str {
     if begins_comment(word) || word.starts_with(b"--") {
         "a comment begins with `#`, on a line of its own"
@@ -142,7 +142,7 @@ fn habit_of(word: &[u8]) -> &'static str {
     }
 }
 
-/// Whether a line that begins with this word stands before the blocks.
+/// Whether a line that begins with this word precedes the blocks.
 fn is_of_tables(first: &str) -> bool {
     matches!(
         first.as_bytes(),
@@ -150,7 +150,7 @@ fn is_of_tables(first: &str) -> bool {
     )
 }
 
-/// Says which word was probably meant, of the first ones of a list: among instructions, one of those.
+/// Says which first word of a line was probably meant: among instructions, only one of an instruction.
 fn say_near_form(page: &mut Page, word: &str, is_code: bool) -> Result<bool, NoMemory> {
     for (first, _) in FORMS {
         let is_meant = !is_code || !is_of_tables(*first);
@@ -191,7 +191,7 @@ fn say_meant(page: &mut Page, word: &str, is_code: bool) -> Result<(), NoMemory>
     page.say(": `man talft-assembly` lists the instructions")
 }
 
-/// Says that a word begins no line of an assembly text, and what to write; it may stand among instructions.
+/// Says that no line of an assembly text begins with this word, and what to write; it may be among instructions.
 pub(crate) fn say_unknown(page: &mut Page, word: &[u8], is_code: bool) -> Result<(), NoMemory> {
     let habit = habit_of(word);
     if !habit.is_empty() {

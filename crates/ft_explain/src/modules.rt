@@ -42,7 +42,7 @@ fn is_accepted<P: Program>(alloc: Global, program: &P) -> Result<bool, NoMemory>
     is_accepted_over::<P, Brand>(alloc, program, Blank::new(1))
 }
 
-/// Explains why a module is no object, where this is so; false where it is one, or cannot be read.
+/// Explains why a module is not an object; returns false if it is one, or cannot be read.
 fn explain_if_object_is_bad<S: Shelf>(
     page: &mut Page,
     file: &str,
@@ -60,7 +60,7 @@ fn explain_if_object_is_bad<S: Shelf>(
     Ok(true)
 }
 
-/// Explains why the first module of a link map that is no object is none.
+/// Explains what is wrong with the first module of a link map that is not an object.
 pub(crate) fn explain_bad_object<S: Shelf>(
     page: &mut Page,
     name: &str,
@@ -82,7 +82,7 @@ pub(crate) fn explain_bad_object<S: Shelf>(
     page.say(format_args!(", at byte {at}\n"))
 }
 
-/// Explains why a module is not accepted, where this is so; false where it is accepted, or cannot be read.
+/// Explains why a module is not accepted; returns false if it is accepted, or cannot be read.
 fn explain_if_unaccepted<S: Shelf>(
     page: &mut Page,
     file: &str,

@@ -1,23 +1,23 @@
-//! Words that are nearly another one.
+//! Finds words with similar spelling.
 use crate::page::Page;
 use ft_isa::NoMemory;
 use std::alloc::Global;
 use strsim::osa_distance;
 
-/// The longest word that is compared.
+/// The length of the longest word that is compared.
 const LONGEST: usize = 32;
 
-/// How many edits a word of this length may be away.
+/// The maximum edit distance for a word of this length.
 fn edits_allowed(length: usize) -> usize {
     if length < 4 { 1 } else { 2 }
 }
 
-/// Whether one word begins with the other one, which has three letters at least.
+/// Whether one word, of at least three letters, begins the other.
 fn begins_alike(word: &str, known: &str) -> bool {
     (word.len() >= 3 && known.starts_with(word)) || (known.len() >= 3 && word.starts_with(known))
 }
 
-/// Whether a word was probably meant as one that is known.
+/// Whether a word is probably a misspelling of a known one.
 pub(crate) fn is_near(alloc: Global, word: &str, known: &str) -> Result<bool, NoMemory> {
     if word.len() > LONGEST || known.len() > LONGEST || word.is_empty() {
         return Ok(false);

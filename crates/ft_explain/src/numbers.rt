@@ -1,4 +1,4 @@
-//! Words that are no number.
+//! Words that are not numbers.
 use crate::dashes::begins_with_dash;
 use crate::page::Page;
 use ft_isa::{NoMemory, read_number};
@@ -11,18 +11,18 @@ pub(crate) fn is_number(word: &[u8], most: u64) -> bool {
     }
 }
 
-/// Whether a word is digits alone.
+/// Whether a word consists of digits.
 fn is_digits(word: &[u8]) -> bool {
     let count = word.iter().take_while(|byte| byte.is_ascii_digit()).count();
     count > 0 && count == word.len()
 }
 
-/// Whether a byte of a word is this one.
+/// Whether a word contains this byte.
 fn has(word: &[u8], wanted: u8) -> bool {
     word.iter().any(|byte| *byte == wanted)
 }
 
-/// What is said of the blanks in a word; nothing where it has none.
+/// The message for the blanks in a word; empty if it has none.
 pub(crate) fn blank_in(word: &[u8]) -> &'static str {
     if has(word, b'\t') {
         "it contains a tab"
@@ -33,7 +33,7 @@ pub(crate) fn blank_in(word: &[u8]) -> &'static str {
     }
 }
 
-/// What is wrong with a word that is not written as a number is.
+/// What is wrong with a word that is not written like a number.
 fn misspelled(word: &[u8]) -> &'static str {
     if word.starts_with(b"0x") || word.starts_with(b"0X") {
         return "numbers are decimal";
@@ -57,7 +57,7 @@ fn misspelled(word: &[u8]) -> &'static str {
     "numbers are decimal digits, as in `42`"
 }
 
-/// Says why a word is no number of at most `most`.
+/// Says why a word is not a number of at most `most`.
 pub(crate) fn say_misfit(page: &mut Page, word: &[u8], most: u64) -> Result<(), NoMemory> {
     if !is_digits(word) {
         return page.say(misspelled(word));

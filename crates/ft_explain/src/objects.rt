@@ -1,4 +1,4 @@
-//! Objects that are refused.
+//! Explains objects that are refused.
 use crate::content::{Content, content_of_file, say_kind};
 use crate::excerpt::part;
 use crate::fields::{Field, HEADER, field_at};
@@ -43,11 +43,11 @@ pub(crate) fn rule(number: u64) -> &'static str {
     }
 }
 
-/// What is said of an object that was copied as a text.
+/// The message for an object that was copied as a text.
 const AS_TEXT: &str =
     "  each line feed has a carriage return before it, as after a copy in text mode: copy the object in binary mode\n";
 
-/// Whether bytes are as many too many as they have line feeds with a carriage return before.
+/// Whether the number of surplus bytes equals that of CR LF pairs.
 fn is_as_text(bytes: &[u8], wanted: usize) -> bool {
     let mut ends: usize = 0;
     let mut last = 0;
@@ -58,7 +58,7 @@ fn is_as_text(bytes: &[u8], wanted: usize) -> bool {
     ends > 0 && bytes.len().checked_sub(wanted) == Some(ends)
 }
 
-/// What is wrong with the number of the bytes.
+/// Says what is wrong with the number of bytes.
 fn say_length(page: &mut Page, bytes: &[u8]) -> Result<(), NoMemory> {
     let length = bytes.len();
     match header_of(bytes) {
@@ -76,7 +76,7 @@ fn say_length(page: &mut Page, bytes: &[u8]) -> Result<(), NoMemory> {
     }
 }
 
-/// Says what stands at a place: a field of a part, and its value.
+/// Says what is at a place: a field of a part, and its value.
 fn say_field(page: &mut Page, bytes: &[u8], start: usize, field: Field) -> Result<(), NoMemory> {
     let (offset, size, name) = field;
     let at = start.saturating_add(offset);
@@ -84,7 +84,7 @@ fn say_field(page: &mut Page, bytes: &[u8], start: usize, field: Field) -> Resul
     page.say(format_args!(": {name}, {value}\n"))
 }
 
-/// Says which record and which field stand at a place.
+/// Says which record and which field contain a place.
 fn say_place(page: &mut Page, bytes: &[u8], at: usize) -> Result<(), NoMemory> {
     page.say(format_args!("  byte {at}"))?;
     if at < HEADER_SIZE
@@ -107,13 +107,13 @@ fn say_place(page: &mut Page, bytes: &[u8], at: usize) -> Result<(), NoMemory> {
     page.say("\n")
 }
 
-/// Whether bytes may be an object that is damaged or cut off.
+/// Whether bytes may be a damaged or truncated object.
 fn may_be_damaged(bytes: &[u8], content: Content) -> bool {
     let is_begun = !bytes.is_empty() && BEGINNING.starts_with(bytes);
     is_begun || matches!(content, Content::Object | Content::Binary)
 }
 
-/// Says what is wrong with the number of bytes, where these are not there.
+/// Says what is wrong with the number of bytes, without the bytes.
 fn say_short(page: &mut Page, at: u64) -> Result<(), NoMemory> {
     match at {
         0 => page.say("the file is empty\n"),
@@ -124,7 +124,7 @@ fn say_short(page: &mut Page, at: u64) -> Result<(), NoMemory> {
     }
 }
 
-/// Explains why an object is refused whose bytes are not there.
+/// Explains why an object is refused, without its bytes.
 fn explain_unseen(page: &mut Page, name: &str, number: u64, at: u64) -> Result<(), NoMemory> {
     page.head(name)?;
     if number == 2 {

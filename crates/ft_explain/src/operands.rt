@@ -4,7 +4,7 @@ use crate::numbers::{is_number, say_misfit};
 use crate::page::Page;
 use ft_isa::{NoMemory, Site, read_site};
 
-/// How often `ref:` may stand in a basic type.
+/// How many times a basic type may have `ref:`.
 const MOST_REFS: usize = 255;
 
 /// An operand that is not what its form says: the place in the line, its text, and what it should be.
@@ -15,7 +15,7 @@ pub(crate) struct Operand<'t> {
     pub form: &'static str,
 }
 
-/// Whether a byte stands between words.
+/// Whether a byte separates words.
 fn is_blank(byte: u8) -> bool {
     byte == b' ' || byte == b'\t'
 }
@@ -26,14 +26,14 @@ pub(crate) fn word_start(line: &[u8], at: usize) -> usize {
     at.saturating_add(rest.iter().take_while(|byte| is_blank(**byte)).count())
 }
 
-/// The word that begins at a place of a line; nothing at its end.
+/// The word that begins at a place of a line; empty at its end.
 pub(crate) fn word_at(line: &[u8], at: usize) -> &[u8] {
     let rest = line.get(at..).unwrap_or(&[]);
     let length = rest.iter().take_while(|byte| !is_blank(**byte)).count();
     rest.get(..length).unwrap_or(&[])
 }
 
-/// The place of a word of a line, counted from 0; the line's end where it has fewer.
+/// The place of a word of a line, counted from 0; the line's end if it has fewer.
 pub(crate) fn place_of_word(line: &[u8], number: usize) -> usize {
     let mut at = word_start(line, 0);
     for _ in 0..number {
@@ -43,7 +43,7 @@ pub(crate) fn place_of_word(line: &[u8], number: usize) -> usize {
     at
 }
 
-/// A word of a line, counted from 0; nothing where it has fewer.
+/// A word of a line, counted from 0; empty if it has fewer.
 pub(crate) fn word(line: &[u8], number: usize) -> &[u8] {
     word_at(line, place_of_word(line, number))
 }
@@ -111,7 +111,7 @@ fn fits(word: &[u8], form: &str) -> bool {
     }
 }
 
-/// What a word of this form is; nothing of a number.
+/// What a word of this form is; empty for a number.
 fn rule_of(form: &str) -> &'static str {
     match form.as_bytes() {
         b"R" => "a register is r0 to r63",
@@ -124,7 +124,7 @@ fn rule_of(form: &str) -> &'static str {
     }
 }
 
-/// What a missing operand is, where its form alone does not say it.
+/// What a missing operand is, if its form alone does not say it.
 pub(crate) fn meaning_of(form: &str) -> &'static str {
     match form.as_bytes() {
         b"R" => ", a register",
@@ -139,7 +139,7 @@ pub(crate) fn meaning_of(form: &str) -> &'static str {
     }
 }
 
-/// What is wrong with an operand whatever it should be; nothing where it depends on that.
+/// What is wrong with an operand whatever it should be; empty if it depends on that.
 fn habit_of(text: &[u8]) -> &'static str {
     if let [b'#', byte, ..] = text
         && byte.is_ascii_digit()
@@ -169,7 +169,7 @@ pub(crate) fn say_rule(page: &mut Page, operand: Operand<'_>) -> Result<(), NoMe
     say_misfit(page, operand.text, most_of(operand.form))
 }
 
-/// The word of a line at or after a place, where nothing more should stand.
+/// A superfluous word of a line, at or after a place.
 fn further(line: &[u8], at: usize) -> Option<Operand<'_>> {
     let start = word_start(line, at);
     let text = word_at(line, start);
@@ -183,7 +183,7 @@ fn further(line: &[u8], at: usize) -> Option<Operand<'_>> {
     })
 }
 
-/// The first word at or after a place that is no number of a node.
+/// The first word at or after a place that is not the number of a node.
 fn wrong_row(line: &[u8], at: usize) -> Option<Operand<'_>> {
     let mut at = at;
     for _ in 0..line.len() {
@@ -200,7 +200,7 @@ fn wrong_row(line: &[u8], at: usize) -> Option<Operand<'_>> {
     None
 }
 
-/// An operand that is missing at a place, or stands wrong after it.
+/// A missing operand at a place, or a wrong one after it.
 fn wrong_at<'t>(at: usize, start: usize, text: &'t [u8], form: &'static str) -> Operand<'t> {
     Operand {
         at: if text.is_empty() { at } else { start },
@@ -209,7 +209,7 @@ fn wrong_at<'t>(at: usize, start: usize, text: &'t [u8], form: &'static str) -> 
     }
 }
 
-/// The first operand of a line, after its first word, that is not what the forms say, separated by blanks.
+/// The first operand of a line, after its first word, that does not fit the forms, which are separated by blanks.
 pub(crate) fn wrong_operand<'t>(line: &'t [u8], forms: &'static str) -> Option<Operand<'t>> {
     let first = word_start(line, 0);
     let mut at = first.saturating_add(word_at(line, first).len());
@@ -230,7 +230,7 @@ pub(crate) fn wrong_operand<'t>(line: &'t [u8], forms: &'static str) -> Option<O
     further(line, at)
 }
 
-/// The first operand of an operation that is neither of two registers and a register, nor of two registers and a
+/// The first operand of an operation that fits neither two registers and a register nor two registers and a
 /// coloured word.
 pub(crate) fn wrong_operation(line: &[u8]) -> Option<Operand<'_>> {
     let wrong = wrong_operand(line, "R R R")?;

@@ -1,4 +1,4 @@
-//! What happened in runs that are no plain success.
+//! What happened in runs that did not simply succeed.
 ghost use Rattle.ft_types.specs.Spellable.{IsSpellable};
 
 use crate::detections::say_detection;
@@ -14,10 +14,10 @@ use ft_machine::{Machine, Status};
 use ft_types::Program;
 use ft_view::View;
 
-/// How many steps are taken again to see what a run met.
+/// How many steps are repeated to see what happened in a run.
 const AGAIN: u64 = 1_000_000;
 
-/// Begins a line on a file.
+/// Begins a line about a file.
 fn begin(page: &mut Page, name: &str) -> Result<(), NoMemory> {
     page.name(name)?;
     page.say(": ")
@@ -55,7 +55,7 @@ fn say_missed(page: &mut Page, strike: Strike, met: Met) -> Result<(), NoMemory>
     }
 }
 
-/// Says that nothing was struck, where this is so.
+/// If nothing was struck, says so.
 fn say_unstruck(page: &mut Page, run: &Run, met: Met) -> Result<(), NoMemory> {
     let Some(strike) = run.strike else {
         return Ok(());
@@ -77,7 +77,7 @@ fn say_unstruck(page: &mut Page, run: &Run, met: Met) -> Result<(), NoMemory> {
     page.say("\n")
 }
 
-/// Says where a fault was detected, where the run was.
+/// Says where a fault was detected.
 fn say_detected<P: Program>(
     page: &mut Page,
     program: &P,
@@ -94,7 +94,7 @@ fn say_detected<P: Program>(
     page.say("\n")
 }
 
-/// Says that a fault was detected, where the place is not known.
+/// Says that a fault was detected at an unknown place.
 fn say_detected_late(page: &mut Page, run: &Run) -> Result<(), NoMemory> {
     begin(page, run.object)?;
     page.say(
@@ -102,7 +102,7 @@ fn say_detected_late(page: &mut Page, run: &Run) -> Result<(), NoMemory> {
     )
 }
 
-/// Runs an object again, and says what the run met.
+/// Runs an object again, and explains what happened.
 fn say_met<P: Program>(page: &mut Page, program: &P, run: &Run, status: u8) -> Result<(), NoMemory>
     requires { IsSpellable (P.object program.now) }
 {
@@ -120,7 +120,7 @@ fn say_met<P: Program>(page: &mut Page, program: &P, run: &Run, status: u8) -> R
     }
 }
 
-/// Says what a run of an object met, where its file can be read again.
+/// Explains what happened in the run of an object, if its file can be read again.
 fn say_again<S: Shelf>(
     page: &mut Page,
     run: &Run,
@@ -136,7 +136,7 @@ fn say_again<S: Shelf>(
     }
 }
 
-/// Explains a run of an object, where something can have happened.
+/// Explains a run of an object if something notable can have happened.
 fn explain_run<S: Shelf>(
     page: &mut Page,
     run: &Run,
@@ -152,7 +152,7 @@ fn explain_run<S: Shelf>(
     Ok(())
 }
 
-/// Explains what happened in a call that ended with status 0, 1 or 9; nothing is said of plain success.
+/// Explains what happened in a call that ended with status 0, 1 or 9; it writes nothing about plain success.
 pub(crate) fn explain_outcome<S: Shelf>(
     page: &mut Page,
     command: &Command<'_>,

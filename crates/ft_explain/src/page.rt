@@ -1,23 +1,23 @@
-//! Explanations in the making.
+//! An explanation under construction.
 use crate::excerpt::{Place, letter_from, part};
 use ft_isa::NoMemory;
 use std::alloc::Global;
 use std::fmt::Display;
 
-/// How many bytes of a word are quoted at the most.
+/// The maximum number of bytes quoted of a word.
 const QUOTED: usize = 40;
 
-/// The longest name that a file can have.
+/// The length of the longest name that a file can have.
 const LONGEST_NAME: usize = 4096;
 
-/// An explanation in the making.
+/// An explanation under construction.
 #[derive(Drop)]
 pub(crate) struct Page {
     alloc: Global,
     text: String,
 }
 
-/// Whether a character changes the direction of a text, or is not seen.
+/// Whether a character changes text direction or is invisible.
 fn is_unseen(letter: char) -> bool {
     matches!(
         letter,
@@ -35,7 +35,7 @@ fn shown(letter: char) -> char {
 }
 
 impl Page {
-    /// A page without a word.
+    /// An empty page.
     pub fn new(alloc: Global) -> Page {
         Page {
             alloc,
@@ -63,34 +63,34 @@ impl Page {
         Ok(())
     }
 
-    /// Adds the beginning of some bytes, up to a number of them, and `..` where more follow.
+    /// Adds at most this many bytes, and `..` if more follow.
     fn show_some(&mut self, bytes: &[u8], most: usize) -> Result<(), NoMemory> {
         let end = letter_from(bytes, most);
         self.show(part(bytes, 0, end))?;
         self.say(if end < bytes.len() { ".." } else { "" })
     }
 
-    /// Adds bytes of a file or of a name between back quotes. What is long is cut.
+    /// Adds bytes of a file or of a name between back quotes, and shortens long ones.
     pub fn quote(&mut self, bytes: &[u8]) -> Result<(), NoMemory> {
         self.say("`")?;
         self.show_some(bytes, QUOTED)?;
         self.say("`")
     }
 
-    /// Adds the name of an option between back quotes, after its hyphens. What is long is cut.
+    /// Adds the name of an option between back quotes, after its hyphens, and shortens a long one.
     pub fn quote_option(&mut self, name: &str) -> Result<(), NoMemory> {
         self.say(if name.len() == 1 { "`-" } else { "`--" })?;
         self.show_some(name.as_bytes(), QUOTED)?;
         self.say("`")
     }
 
-    /// Adds how many there are of something.
+    /// Adds a count with the noun for it.
     pub fn count(&mut self, count: u32, what: &str) -> Result<(), NoMemory> {
         let end = if count == 1 { "" } else { "s" };
         self.say(format_args!("{count} {what}{end}"))
     }
 
-    /// Adds the name of a file. What is too long for one is cut.
+    /// Adds the name of a file, and shortens one that is too long.
     pub fn name(&mut self, name: &str) -> Result<(), NoMemory> {
         let most = if name.len() > LONGEST_NAME {
             QUOTED
@@ -100,7 +100,7 @@ impl Page {
         self.show_some(name.as_bytes(), most)
     }
 
-    /// Adds blanks that are as wide as these bytes are when they are shown.
+    /// Adds blanks that are as wide as these bytes when they are shown.
     pub fn indent(&mut self, bytes: &[u8]) -> Result<(), NoMemory> {
         let text = String::from_utf8_lossy(self.alloc, bytes)?;
         for letter in text.as_str().chars() {
@@ -109,7 +109,7 @@ impl Page {
         Ok(())
     }
 
-    /// Adds a byte of ASCII so many times.
+    /// Adds an ASCII character this many times.
     pub fn repeat(&mut self, letter: char, times: usize) -> Result<(), NoMemory> {
         for _ in 0..times {
             self.text.push(letter)?;

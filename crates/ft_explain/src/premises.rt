@@ -1,7 +1,7 @@
 //! The premises of typing rules, in words.
 use ft_isa::{Colour, Instr};
 
-/// The colour of the registers that an instruction reads, where its own name has one.
+/// The colour of the registers that an instruction reads, if its own name has one.
 fn colour_of(instr: Instr) -> Option<Colour> {
     match instr {
         Instr::Ld { colour, .. } | Instr::St { colour, .. } => Some(colour),
@@ -54,7 +54,7 @@ fn queues(instr: Instr) -> &'static str {
     }
 }
 
-/// What is wrong where the premise with this number fails.
+/// What is wrong if the premise with this number fails.
 pub(crate) fn premise(number: u64, instr: Instr) -> &'static str {
     match number {
         1 => "a register that it reads has no type",

@@ -1,7 +1,7 @@
 //! The registers that instructions read.
 use ft_isa::{Instr, Reg};
 
-/// The registers that an instruction reads, in the order in which its rule looks at them.
+/// The registers that an instruction reads, in the order in which its rule examines them.
 pub(crate) fn reads(instr: Instr) -> [Option<Reg>; 2] {
     [instr.first_read(), instr.second_read()]
 }

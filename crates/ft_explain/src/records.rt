@@ -21,7 +21,7 @@ pub(crate) enum Part {
     Name,
 }
 
-/// A record: its kind, its number in its section, and where it begins in the bytes.
+/// A record: its kind, its number in its section, and its first byte.
 #[derive(Clone, Copy)]
 pub(crate) struct Record {
     pub part: Part,
@@ -45,7 +45,7 @@ impl Part {
         }
     }
 
-    /// The field in which a place of the record stands. The kind of a node or an instruction is its first byte.
+    /// The field that contains an offset of the record. The kind of a node or an instruction is its first byte.
     pub fn field(self, kind: u8, offset: usize) -> Option<Field> {
         match self {
             Part::Cell => field_at(CELL, offset),
@@ -85,7 +85,7 @@ pub(crate) fn total(header: Header) -> usize {
     end
 }
 
-/// The record at a place of the bytes, past the header.
+/// The record that contains a place of the bytes, past the header.
 pub(crate) fn record_at(header: Header, at: usize) -> Option<Record> {
     let mut start = HEADER_SIZE;
     for (part, size, count) in sections(header) {

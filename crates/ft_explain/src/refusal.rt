@@ -1,24 +1,24 @@
 //! Refusals, read from their lines.
 use ft_isa::read_number;
 
-/// A refusal, as its line tells it.
+/// A refusal, as its line states it.
 #[derive(Clone, Copy, Debug, PartialEq, Eq)]
 pub(crate) enum Refusal {
-    /// The words are no command.
+    /// The words are not a command.
     Usage,
-    /// A source is refused, with a number and what it tells.
+    /// A source is refused, with the number of the refusal and its place or the like.
     Source(u64, u64),
     /// An object's bytes, or the tables that an assembly text means, break this rule at this place.
     Object(u64, u64),
     /// The entry block's code type does not fit.
     Entry,
-    /// The initial word of this cell has not its type.
+    /// A cell's initial word does not have the cell's type.
     Cell(u64),
     /// The rule of an instruction does not apply: its block, its index in the block and the premise.
     Instr(u64, u64, u64),
-    /// A fault list, a campaign or a script is refused, with a number and what it tells.
+    /// A fault list, a campaign or a script is refused, with the number of the refusal and its line or the like.
     List(u64, u64),
-    /// An assembly text is refused, with a number and what it tells.
+    /// An assembly text is refused, with the number of the refusal and its line or the like.
     Text(u64, u64),
     /// A link map or a module is refused, with a number and a line of the map, a module or a limit.
     Link(u64, u64),
@@ -63,7 +63,7 @@ fn link_of(text: &str) -> Option<Refusal> {
 }
 
 impl Refusal {
-    /// The refusal of a line with its line feed; `None` where the line is none of a refusal.
+    /// The refusal that a line, with its line feed, states; `None` if it is not a refusal.
     pub fn read(line: &[u8]) -> Option<Refusal> {
         let text = str::from_utf8(line).ok()?.strip_suffix("\n")?;
         if text == "usage" {
@@ -86,7 +86,7 @@ impl Refusal {
         }
     }
 
-    /// The status of a call that is refused so.
+    /// The status of a call with this refusal.
     pub fn status(self) -> u8 {
         match self {
             Refusal::Usage => 2,

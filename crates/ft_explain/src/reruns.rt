@@ -1,4 +1,4 @@
-//! Runs that are run again to see what they met.
+//! Repeats runs to see what stopped them.
 ghost use Rattle.std.specs.Prelude.{◌≡◌, ◌≤◌};
 ghost use Rattle.ft_types.specs.Spellable.{IsSpellable};
 
@@ -6,7 +6,7 @@ use ft_isa::{Plan, Strike};
 use ft_machine::{Machine, Status, WildLeft};
 use ft_types::Program;
 
-/// Takes some steps of a machine, at most `most`, and tells how many; none of one that has stopped.
+/// Takes at most `most` steps of a machine, and returns how many; none if it has stopped.
 fn advance<P: Program>(machine: &mut Machine, program: &P, wild: &mut WildLeft, most: u64) -> u64
     requires { IsSpellable (P.object program.now) }
     ensures few { result ≤ most }
@@ -17,7 +17,7 @@ fn advance<P: Program>(machine: &mut Machine, program: &P, wild: &mut WildLeft, 
     }
 }
 
-/// Takes `most` steps of a machine, or fewer where it stops, and tells how many.
+/// Takes `most` steps of a machine, or fewer if it stops, and returns how many.
 pub(crate) fn go<P: Program>(
     machine: &mut Machine,
     program: &P,
@@ -37,18 +37,18 @@ pub(crate) fn go<P: Program>(
     most.saturating_sub(left)
 }
 
-/// What a run met.
+/// How a repeated run went.
 #[derive(Clone, Copy)]
 pub(crate) struct Met {
     /// How many steps it took, up to its stop.
     pub taken: u64,
-    /// Whether the strike found its site; `None` where the run did not come to its step.
+    /// Whether the strike found its site; `None` if the run did not reach its step.
     pub struck: Option<bool>,
-    /// How the machine stood when the strike came.
+    /// The state of the machine when the strike came.
     pub stood: Status,
 }
 
-/// Strikes a machine after so many steps of it, and goes on.
+/// Strikes a machine after this many of its steps, and continues.
 fn strike<P: Program>(
     machine: &mut Machine,
     program: &P,

@@ -1,4 +1,4 @@
-//! Scripts of the debugger with lines that are no command.
+//! Scripts of the debugger with lines that are not commands.
 use crate::elsewhere::of_debugger;
 use crate::excerpt::Place;
 use crate::lines::wrong_words;
@@ -9,13 +9,13 @@ use ft_edge::Shelf;
 use ft_isa::NoMemory;
 use ft_script::{Command, read_script};
 
-/// The most bytes of a script.
+/// The maximum size of a script in bytes.
 const SCRIPT_LIMIT: usize = 1_048_576;
 
-/// How many lines are explained at the most.
+/// The maximum number of lines explained.
 const MOST_LINES: usize = 10;
 
-/// The commands of the debugger: the first word of each, and the whole.
+/// The commands of the debugger: the first word of each, and its form.
 const COMMANDS: &[(&str, &str)] = &[
     ("step", "step N"),
     ("go", "go N"),
@@ -36,7 +36,7 @@ fn first_word(line: &str) -> &str {
     }
 }
 
-/// Says what is wrong with a line that is no command.
+/// Says what is wrong with a line that is not a command.
 fn say_bad(page: &mut Page, line: &str) -> Result<(), NoMemory> {
     let first = first_word(line);
     for (word, form) in COMMANDS {
@@ -57,7 +57,7 @@ fn say_bad(page: &mut Page, line: &str) -> Result<(), NoMemory> {
     Ok(())
 }
 
-/// Explains why a line is no command.
+/// Explains why a line is not a command.
 fn explain_bad(page: &mut Page, start: Place<'_>) -> Result<(), NoMemory> {
     let line = start.line();
     let (at, habit) = match wrong_words(line) {
@@ -75,7 +75,7 @@ fn explain_bad(page: &mut Page, start: Place<'_>) -> Result<(), NoMemory> {
     place.show(page, 1)
 }
 
-/// Explains the lines of a script that are no command, the first of them.
+/// Explains the first lines of a script that are not commands.
 fn explain_lines(page: &mut Page, script: &[u8], commands: &[Command<'_>]) -> Result<(), NoMemory> {
     let mut explained: usize = 0;
     for (i, command) in commands.iter().enumerate() {
@@ -89,7 +89,7 @@ fn explain_lines(page: &mut Page, script: &[u8], commands: &[Command<'_>]) -> Re
     Ok(())
 }
 
-/// Explains which lines of a session's script are no commands, where the script can be read again.
+/// Explains which lines of a session's script are not commands, if the script can be read again.
 pub(crate) fn explain_session<S: Shelf>(
     page: &mut Page,
     name: Option<&'static str>,

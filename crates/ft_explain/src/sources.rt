@@ -1,4 +1,4 @@
-//! Sources that are refused.
+//! Explains sources that are refused.
 use crate::content::{Content, say_other_kind};
 use crate::excerpt::{Place, letter_from, part};
 use crate::expected::{Lack, habit, instead_of, instead_of_comma, lack_at, unclosed};
@@ -8,12 +8,12 @@ use crate::page::Page;
 use ft_isa::NoMemory;
 use ft_lexer::{Kind, Lexer, Token};
 
-/// Whether a byte may stand in a name.
+/// Whether a byte may occur in a name.
 fn is_in_name(byte: u8) -> bool {
     byte.is_ascii_alphanumeric() || byte == b'_'
 }
 
-/// The token that begins at a place; the character or run of digits there where no token begins, and nothing at the end.
+/// The token that begins at a place; the character or run of digits there if no token begins, and empty at the end.
 fn token_at(source: &[u8], at: usize) -> &[u8] {
     let rest = part(source, at, source.len());
     if let Some(Ok(token)) = Lexer::new(rest).next()
@@ -33,7 +33,7 @@ fn is_indexed(source: &[u8], past: usize) -> bool {
     }
 }
 
-/// Where a name is declared first.
+/// Where a name is first declared.
 fn first_declared(source: &[u8], name: &[u8]) -> Option<usize> {
     let mut lexer = Lexer::new(source);
     let mut declares = false;
@@ -77,7 +77,7 @@ fn say_byte(page: &mut Page, source: &[u8], at: usize, token: &[u8]) -> Result<(
     }
 }
 
-/// Says that a token is not expected, and what to write for a habit from another language.
+/// Says that a token is not expected, and what to write instead of an idiom of another language.
 fn say_unexpected(page: &mut Page, source: &[u8], at: usize, token: &[u8]) -> Result<(), NoMemory> {
     if token.is_empty() {
         return page.say("unexpected end of the source");
@@ -90,7 +90,7 @@ fn say_unexpected(page: &mut Page, source: &[u8], at: usize, token: &[u8]) -> Re
     }
 }
 
-/// What is wrong with a token that is too deep.
+/// What is wrong with a token that is nested too deeply.
 fn say_depth(page: &mut Page, token: &[u8]) -> Result<(), NoMemory> {
     match token {
         b"(" | b"{" | b"[" => say_of(page, token, " is nested more than 100 deep"),
@@ -102,7 +102,7 @@ fn say_depth(page: &mut Page, token: &[u8]) -> Result<(), NoMemory> {
     }
 }
 
-/// Says which name was probably meant, of those that are declared.
+/// Says which declared name was probably meant.
 fn say_near_name(page: &mut Page, source: &[u8], name: &[u8]) -> Result<(), NoMemory> {
     let mut lexer = Lexer::new(source);
     let mut declares = false;
@@ -118,7 +118,7 @@ fn say_near_name(page: &mut Page, source: &[u8], name: &[u8]) -> Result<(), NoMe
     Ok(())
 }
 
-/// Whether a name was probably meant as one that is declared.
+/// Whether a name is probably a misspelling of a declared one.
 fn is_near_name(page: &Page, name: &[u8], known: &[u8]) -> Result<bool, NoMemory> {
     let alloc = page.alloc();
     let Ok(name) = str::from_utf8(name) else {
@@ -165,7 +165,7 @@ fn say_at(page: &mut Page, number: u64, source: &[u8], at: usize) -> Result<(), 
     }
 }
 
-/// What is wrong with a whole source, or with one whose bytes are not there.
+/// What is wrong with a whole source, or with one whose bytes are missing.
 fn say_whole(page: &mut Page, number: u64, told: u64) -> Result<(), NoMemory> {
     match number {
         1 => page.say(format_args!("the source is too long: at most {told} bytes are allowed")),
@@ -180,7 +180,7 @@ fn say_whole(page: &mut Page, number: u64, told: u64) -> Result<(), NoMemory> {
     }
 }
 
-/// What is wrong where a source is refused with this number.
+/// What is wrong with a source that is refused with this number.
 fn rule(number: u64) -> &'static str {
     match number {
         2 => "a character is not part of the language, or a name has more than 32 bytes",
@@ -194,12 +194,12 @@ fn rule(number: u64) -> &'static str {
     }
 }
 
-/// Whether a refusal with this number tells a place.
+/// Whether a refusal with this number has a place.
 pub(crate) fn has_place(number: u64) -> bool {
     matches!(number, 2..=7 | 11 | 12)
 }
 
-/// Points to where a name is declared first.
+/// Points to where a name is first declared.
 fn point_to_first(page: &mut Page, name: &str, source: &[u8], at: usize) -> Result<(), NoMemory> {
     let token = token_at(source, at);
     let Some(first) = first_declared(source, token) else {
@@ -215,7 +215,7 @@ fn point_to_first(page: &mut Page, name: &str, source: &[u8], at: usize) -> Resu
     place.show(page, token.len())
 }
 
-/// Explains what a source lacks, at the end of the token after which it is lacking.
+/// Explains what is missing, at the end of the token before it.
 fn explain_lack(
     page: &mut Page,
     name: &str,
@@ -267,7 +267,7 @@ fn explain_at(
     at: usize,
     source: &[u8],
 ) -> Result<(), NoMemory> {
-    // What is lacking at the end is lacking after the last token.
+    // What is missing at the end is missing after the last token.
     let place = Place::of(source, at.min(source.trim_ascii_end().len()));
     page.head_at(name, &place)?;
     say_at(page, number, source, at)?;
@@ -279,7 +279,7 @@ fn explain_at(
     Ok(())
 }
 
-/// Explains why a source is refused. The source is there where the refusal has a place.
+/// Explains why a source is refused. If the refusal has a place, the source is given.
 pub(crate) fn explain_source(
     page: &mut Page,
     name: &str,

@@ -1,9 +1,9 @@
-//! Texts that are no fault.
+//! Texts that are not faults.
 use crate::numbers::{blank_in, is_number, say_misfit};
 use crate::page::Page;
 use ft_isa::{NoMemory, read_site};
 
-/// Says why a part of a fault is no number.
+/// Says why a part of a fault is not a number.
 fn say_wrong_number(page: &mut Page, called: &str, word: &str) -> Result<(), NoMemory> {
     if word.is_empty() {
         return page.say(format_args!("the {called} is missing"));
@@ -14,7 +14,7 @@ fn say_wrong_number(page: &mut Page, called: &str, word: &str) -> Result<(), NoM
     say_misfit(page, word.as_bytes(), u64::MAX)
 }
 
-/// Why a word is no site.
+/// Why a word is not a site.
 fn wrong_site(site: &str) -> &'static str {
     let blank = blank_in(site.as_bytes());
     if blank.is_empty() {
@@ -45,7 +45,7 @@ fn say_site_and_word(page: &mut Page, rest: &str) -> Result<(), NoMemory> {
     }
 }
 
-/// Says which part of a text makes it no fault.
+/// Says which part of a text makes it not a fault.
 pub(crate) fn say_wrong_part(page: &mut Page, text: &str) -> Result<(), NoMemory> {
     let (step, rest) = match text.split_once(':') {
         Some((step, rest)) => (step, Some(rest)),

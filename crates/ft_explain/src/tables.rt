@@ -1,4 +1,4 @@
-//! Assembly texts whose tables break a rule of the object format, at the lines that do.
+//! Assembly texts whose tables break a rule of the object format: finds the lines that do.
 use crate::excerpt::Place;
 use crate::listing::{counts_of, is_empty_block, line_of, line_with, words_before_rows};
 use crate::objects::rule;
@@ -11,7 +11,7 @@ use ft_isa::{NoMemory, read_number};
 /// Where the header's field of the entry block begins.
 const ENTRY_FIELD: usize = 44;
 
-/// The kinds of lines that the header counts: where their field ends, their name, and how many there may be.
+/// The kinds of lines that the header counts: where their field ends, their name, and the maximum number of them.
 const COUNTED: &[(usize, &str, &str)] = &[
     (12, "cells", "at most 1024 are allowed"),
     (16, "nodes", "at most 1048576 are allowed"),
@@ -33,7 +33,7 @@ struct Breach<'t> {
     counts: Header,
 }
 
-/// The word of a node's line that a place in its record stands for.
+/// The word of a node's line that corresponds to an offset in its record.
 fn word_of_node(offset: usize) -> usize {
     match offset {
         0 | 1 => 2,
@@ -44,7 +44,7 @@ fn word_of_node(offset: usize) -> usize {
     }
 }
 
-/// The word of an instruction's line that a place in its record stands for.
+/// The word of an instruction's line that corresponds to an offset in its record.
 fn word_of_instr(line: &[u8], offset: usize) -> usize {
     match word(line, 0) {
         b"jmp_B" if offset >= 12 => 2,
@@ -56,7 +56,7 @@ fn word_of_instr(line: &[u8], offset: usize) -> usize {
     }
 }
 
-/// The word of a line that a place in a record stands for. The record is one of those that the line adds.
+/// The word of a line that corresponds to an offset in a record. The record is one of those that the line adds.
 fn word_of(part: Part, line: &[u8], offset: usize, index: usize) -> usize {
     match part {
         Part::Cell if offset < 4 => 1,
@@ -119,7 +119,7 @@ impl<'t> Breach<'t> {
         }
     }
 
-    /// What the word numbers, and how many of these there are.
+    /// What the word refers to, and how many of these there are.
     fn named(&self) -> (&'static str, u32) {
         if self.is_basic() || self.record.part == Part::Block {
             return ("type", self.counts.types);
@@ -197,7 +197,8 @@ fn say_index(page: &mut Page, breach: &Breach<'_>) -> Result<(), NoMemory> {
 /// What is wrong with the order of lines.
 fn order_words(text: &[u8], breach: &Breach<'_>) -> &'static str {
     match breach.record.part {
-        Part::Reg => "the `reg` lines of a type are in rising order of their registers, each once",
+        Part::Reg =>
+            "the `reg` lines of a type list each register at most once, in ascending order",
         Part::Block if is_empty_block(text, breach.place.number()) =>
             "this block has no instruction",
         Part::Block => "the block before this one has no instruction",
@@ -213,7 +214,7 @@ fn may_begin(byte: Option<&u8>) -> bool {
     }
 }
 
-/// Whether a byte may go on a name.
+/// Whether a byte may continue a name.
 fn may_follow(byte: &u8) -> bool {
     byte.is_ascii_alphanumeric() || matches!(*byte, b'_' | b'[' | b']')
 }
@@ -295,7 +296,7 @@ fn explain_count(page: &mut Page, name: &str, counts: Header, at: usize) -> Resu
     Ok(())
 }
 
-/// Explains that the entry block is not there.
+/// Explains that the entry block does not exist.
 fn explain_entry(page: &mut Page, name: &str, text: &[u8], counts: Header) -> Result<(), NoMemory> {
     let line = line_with(text, b"entry").and_then(|number| Place::of_line(text, number));
     let Some(start) = line else {
@@ -313,7 +314,7 @@ fn explain_entry(page: &mut Page, name: &str, text: &[u8], counts: Header) -> Re
     place.show(page, entry.len())
 }
 
-/// Explains why the tables that an assembly text means are refused, where the text is not there or no line is known.
+/// Explains why the tables of an assembly text are refused if the text is missing or no line is known.
 fn explain_unplaced(page: &mut Page, name: &str, number: u64, at: u64) -> Result<(), NoMemory> {
     page.head(name)?;
     page.say("the text is not a valid object: ")?;
@@ -321,8 +322,8 @@ fn explain_unplaced(page: &mut Page, name: &str, number: u64, at: u64) -> Result
     page.say(format_args!("\n  at byte {at} of its tables in version 2 of the object format\n"))
 }
 
-/// Explains why the tables that an assembly text means are refused: the rule with this number is broken at this
-/// place of their spelling.
+/// Explains why the tables of an assembly text are refused: their spelling breaks the rule with this number at this
+/// place.
 pub(crate) fn explain_tables(
     page: &mut Page,
     name: &str,

@@ -1,4 +1,4 @@
-//! Explanations of calls.
+//! Explains calls.
 use crate::assembly::explain_text;
 use crate::checks::explain_check;
 use crate::joins::{explain_cells, explain_join};
@@ -24,16 +24,16 @@ use ft_isa::NoMemory;
 use ft_view::View;
 use std::alloc::Global;
 
-/// The most bytes of an assembly text.
+/// The maximum size of an assembly text in bytes.
 const TEXT_LIMIT: usize = 134_217_728;
 
-/// The most bytes of a fault list.
+/// The maximum size of a fault list in bytes.
 const LIST_LIMIT: usize = 4_194_304;
 
-/// The most bytes of a link map.
+/// The maximum size of a link map in bytes.
 const MAP_LIMIT: usize = 65_536;
 
-/// What the file of a command holds.
+/// What a command expects its file to be.
 #[derive(Clone, Copy, Debug, PartialEq, Eq)]
 enum Holds {
     /// An object.
@@ -46,7 +46,7 @@ enum Holds {
     Map,
 }
 
-/// What words name: a file, a fault list, and whether a script is taken.
+/// What words name: a file, a fault list, and whether a script is read.
 #[derive(Clone, Copy)]
 struct Named<'w> {
     file: &'w str,
@@ -55,7 +55,7 @@ struct Named<'w> {
     takes_script: bool,
 }
 
-/// A file that holds this, beside which nothing is read.
+/// A file of this kind, and nothing else to read.
 fn alone<'w>(file: &'w str, holds: Holds) -> Named<'w> {
     Named {
         file,
@@ -120,7 +120,7 @@ fn refused_object<S: Shelf>(
     }
 }
 
-/// Says that an object is not accepted, where its bytes are not there.
+/// Says that an object is not accepted, without its bytes.
 fn say_refused(page: &mut Page, name: &str) -> Result<(), NoMemory> {
     page.head(name)?;
     page.say("the object is not accepted\n")
@@ -282,7 +282,7 @@ fn unread<S: Shelf, L: Look>(
     explain_unread_module(page, named.file, slice(&map), shelf, look)
 }
 
-/// Explains a call by its command, its status and the line that it put last.
+/// Explains a call from its command, its status and the last line that it wrote.
 fn by_command<S: Shelf, L: Look>(
     page: &mut Page,
     words: &[String],
@@ -322,10 +322,10 @@ fn by_outcome<S: Shelf, L: Look>(
     explain_outcome(page, &command, status, shelf)
 }
 
-/// What a person is told of a call with these words that ended with this status, where `line` was put last.
-/// It is empty for a call that did what it was to, and was not cut. The shelf gives the files again: what is said
-/// of a file speaks of the bytes that it has now. `look` tells what stands under the name of a file that could not
-/// be read. Each line of the text has its line feed.
+/// The explanation of a call with these words, given its status and the last line written. It is empty for a call
+/// that succeeded and was not cut. The shelf reads files again: an explanation describes the bytes a file has now.
+/// `look` says what the name of a file that could not be read refers to. Each line of the text ends with a line
+/// feed.
 pub fn explain<S: Shelf, L: Look>(
     alloc: Global,
     words: &[String],

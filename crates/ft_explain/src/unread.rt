@@ -1,11 +1,11 @@
-//! Files that could not be read.
+//! Explains files that could not be read.
 use crate::excerpt::Place;
 use crate::look::{Found, Look};
 use crate::page::Page;
 use ft_edge::{LoadFault, Shelf};
 use ft_isa::NoMemory;
 
-/// The most bytes that are looked at of a file.
+/// The maximum number of bytes examined of a file.
 const LIMIT: usize = 134_217_728;
 
 /// Whether a file can be read.
@@ -14,7 +14,7 @@ fn can_be_read<S: Shelf>(page: &Page, name: &str, shelf: &mut S) -> bool {
     !matches!(shelf.load(name, LIMIT, &mut bytes), Err(LoadFault::Failed))
 }
 
-/// What the line of a module begins with in a link map.
+/// How the line of a module begins in a link map.
 const MODULE: &str = "module ";
 
 /// The first line of a link map whose module cannot be read, counted from 1, and the module's file.
@@ -35,7 +35,7 @@ fn first_unread<'m, S: Shelf>(
     None
 }
 
-/// The first folder in a name that is none, and what stands there.
+/// The first part of a path that is not a folder, and what it is.
 fn wrong_folder<'n, L: Look>(name: &'n str, look: &L) -> Option<(&'n str, Found)> {
     let mut wrong = None;
     for (at, byte) in name.as_bytes().iter().enumerate() {
@@ -46,7 +46,7 @@ fn wrong_folder<'n, L: Look>(name: &'n str, look: &L) -> Option<(&'n str, Found)
     wrong
 }
 
-/// A name with what stands under it, where this is no folder.
+/// A name and what it refers to, if that is not a folder.
 fn no_folder<'n, L: Look>(name: &'n str, look: &L) -> Option<(&'n str, Found)> {
     match look.look(name) {
         Found::Folder => None,
@@ -104,7 +104,7 @@ fn say_why<L: Look>(page: &mut Page, name: &str, look: &L) -> Result<(), NoMemor
     page.say("\n")
 }
 
-/// Says why a file cannot be read, where this is so; false where it can be read.
+/// If a file cannot be read, says why; otherwise returns false.
 fn say_if_unread<S: Shelf, L: Look>(
     page: &mut Page,
     name: &str,
@@ -118,8 +118,8 @@ fn say_if_unread<S: Shelf, L: Look>(
     Ok(true)
 }
 
-/// Explains that a file could not be read: each of the two that cannot be read now. Where both can be read, it was
-/// the script, or it is there again.
+/// Explains that a file could not be read: names each of the two that cannot be read now. If both can be read, it
+/// was the script, or the file has reappeared.
 pub(crate) fn explain_unread<S: Shelf, L: Look>(
     page: &mut Page,
     names: (&str, Option<&str>),

@@ -1,4 +1,4 @@
-//! Words that are no command.
+//! Words that are not a command.
 use crate::dashes::{Dashed, dashed_option, first_dashed, say_dashed};
 use crate::forms::{COMMANDS, OPTIONS, command_lines, first_word, most_of, operand_of, value_of};
 use crate::help::{
@@ -11,7 +11,7 @@ use crate::page::Page;
 use crate::strikes::say_wrong_part;
 use ft_isa::{NoMemory, read_strike, read_wild};
 
-/// Whether an option was given among these words, which are options and values in turn.
+/// Whether an option was given among these words, which are alternately options and values.
 fn is_given(words: &[String], option: &str) -> bool {
     for (i, word) in words.iter().enumerate() {
         if i % 2 == 0 && word.as_str() == option {
@@ -21,7 +21,7 @@ fn is_given(words: &[String], option: &str) -> bool {
     false
 }
 
-/// Says what is wrong with the value of `--fault`; false where nothing is.
+/// Says what is wrong with the value of `--fault`; false if nothing is.
 fn say_fault(page: &mut Page, value: &str) -> Result<bool, NoMemory> {
     if read_strike(value.as_bytes()).is_ok() {
         return Ok(false);
@@ -33,7 +33,7 @@ fn say_fault(page: &mut Page, value: &str) -> Result<bool, NoMemory> {
     Ok(true)
 }
 
-/// Says what is wrong with the value of `--wild`; false where nothing is.
+/// Says what is wrong with the value of `--wild`; false if nothing is.
 fn say_wild(page: &mut Page, value: &str) -> Result<bool, NoMemory> {
     if read_wild(page.alloc(), value.as_bytes()).is_ok() {
         return Ok(false);
@@ -46,7 +46,7 @@ fn say_wild(page: &mut Page, value: &str) -> Result<bool, NoMemory> {
     Ok(true)
 }
 
-/// Says what is wrong with the number of an option, which is at most `most`; false where nothing is.
+/// Says what is wrong with the number of an option, which is at most `most`; false if nothing is.
 fn say_number(page: &mut Page, option: &str, value: &str, most: u64) -> Result<bool, NoMemory> {
     if is_number(value.as_bytes(), most) {
         return Ok(false);
@@ -58,7 +58,7 @@ fn say_number(page: &mut Page, option: &str, value: &str, most: u64) -> Result<b
     Ok(true)
 }
 
-/// Says what is wrong with the value of an option; false where nothing is.
+/// Says what is wrong with the value of an option; false if nothing is.
 fn say_value(page: &mut Page, option: &str, value: &str, most: u64) -> Result<bool, NoMemory> {
     match option.as_bytes() {
         b"--fault" => say_fault(page, value),
@@ -79,7 +79,7 @@ fn say_near_option(page: &mut Page, command: &'static str, word: &str) -> Result
     Ok(())
 }
 
-/// Whether a word is the option of other programs for the file that they write.
+/// Whether a word is the option that names the output file in other programs.
 fn is_of_output(word: &str) -> bool {
     matches!(word.as_bytes(), b"-o" | b"--out" | b"--output")
 }
@@ -96,7 +96,7 @@ fn say_unknown_option(page: &mut Page, command: &'static str, word: &str) -> Res
     say_near_option(page, command, word)
 }
 
-/// Says that a word stands after the operand where an option may.
+/// Says that an argument follows the operand where only options may.
 fn say_extra(page: &mut Page, command: &'static str, word: &str) -> Result<(), NoMemory> {
     page.say("unexpected argument ")?;
     page.quote(word.as_bytes())?;
@@ -110,7 +110,7 @@ fn say_extra(page: &mut Page, command: &'static str, word: &str) -> Result<(), N
     }
 }
 
-/// Says that a command does not take this where an option may stand.
+/// Says that a command does not take this argument where only options may follow.
 fn say_untaken(page: &mut Page, command: &'static str, word: &str) -> Result<(), NoMemory> {
     if word.is_empty() {
         return page.say("an argument is empty");
@@ -127,7 +127,7 @@ fn say_untaken(page: &mut Page, command: &'static str, word: &str) -> Result<(),
     say_unknown_option(page, command, word)
 }
 
-/// Says what is wrong with an option, after the words before it; false where nothing is.
+/// Says what is wrong with an option, after the words before it; false if nothing is.
 fn say_option(
     page: &mut Page,
     command: &'static str,
@@ -164,14 +164,14 @@ fn say_options(page: &mut Page, command: &'static str, options: &[String]) -> Re
     page.say("missing `--faults FILE`")
 }
 
-/// Says that the operand of `demo` is no number of turns.
+/// Says that the operand of `demo` is not a number of turns.
 fn say_turns(page: &mut Page, word: &str, most: u64) -> Result<(), NoMemory> {
     page.say("invalid N ")?;
     page.quote(word.as_bytes())?;
     page.say(format_args!(": expected a number from 1 to {most}"))
 }
 
-/// Says that an option stands where the operand should.
+/// Says that an option was given where the operand belongs.
 fn say_misplaced(page: &mut Page, command: &'static str, word: &str) -> Result<(), NoMemory> {
     let called = operand_of(command);
     if word == "--" {
@@ -194,8 +194,8 @@ fn explain_dashed(
     }
 }
 
-/// Explains that a file with the name of an option could not be read: probably the operand was forgotten. False
-/// where the words show no such thing.
+/// Explains that a file with the name of an option could not be read: probably the operand was forgotten. Returns
+/// false otherwise.
 pub(crate) fn explain_option_as_file(page: &mut Page, words: &[String]) -> Result<bool, NoMemory> {
     let [first, operand, ..] = words else {
         return Ok(false);
@@ -261,7 +261,7 @@ fn say_unknown(page: &mut Page, word: &str) -> Result<(), NoMemory> {
     page.say("more: `talft help`, `talft help COMMAND`\n")
 }
 
-/// Says the help that is asked for.
+/// Says the requested help.
 fn say_help_for(page: &mut Page, rest: &[String]) -> Result<(), NoMemory> {
     let [name, ..] = rest else {
         return say_help(page);
@@ -272,7 +272,7 @@ fn say_help_for(page: &mut Page, rest: &[String]) -> Result<(), NoMemory> {
     }
 }
 
-/// Explains why words are no command.
+/// Explains why words are not a command.
 pub(crate) fn explain_usage(page: &mut Page, words: &[String]) -> Result<(), NoMemory> {
     let [first, rest @ ..] = words else {
         page.say("talft: error: missing command\n")?;

@@ -183,7 +183,7 @@ const TABLES: &[(&str, &str)] = &[
     ),
     (
         "node 0 memory\nnode 0 word 1\ntype 0 0\nreg r2 G int 1\nreg r1 G int 1\nblock 0\nhalt\nentry 0\n",
-        "file:5:5: error: invalid `r1`: the `reg` lines of a type are in rising order of their registers, each once\n reg r1 G int 1\n     ^~\n",
+        "file:5:5: error: invalid `r1`: the `reg` lines of a type list each register at most once, in ascending order\n reg r1 G int 1\n     ^~\n",
     ),
     (
         "node 0 memory\ntype 0 0\nblock 0\nblock 0\nhalt\nentry 0\n",

@@ -6,7 +6,7 @@ use std::test::Fail;
 /// A file: its name and its bytes.
 pub(crate) type File<'a> = (&'a str, &'a [u8]);
 
-/// Whoever knows what stands under some names, and nothing of others.
+/// A look-up that knows only some names.
 struct Folders;
 
 impl Look for Folders {

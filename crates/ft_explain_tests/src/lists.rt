@@ -134,7 +134,7 @@ const TOLD: &[(&str, u8, &str, &str)] = &[
     ("check folder/x", 3, "", "folder/x: error: cannot be read\n"),
     ("check secret/x", 3, "", "secret/x: error: cannot be read\n"),
     ("check file", 3, "", "talft: error: a file cannot be read\n"),
-    ("debug file", 3, "", "standard input: error: is a folder\n"),
+    ("debug file", 3, "", "error: standard input is a folder\n"),
     (
         "campaign file --steps 5 --faults list",
         3,

@@ -56,6 +56,6 @@ fn a_meaning_that_is_cut_is_explained(rt: HostRuntime) -> Result<(), Fail> {
 #[test]
 fn a_constant_index_beyond_its_array_is_noted(rt: HostRuntime) -> Result<(), Fail> {
     let source = b"cell a[4] = 0;\na[3] = 1;\na[5] = 2;\n";
-    let text = "file:3:3: note: `a` has 4 cells: the index 5 means cell 1\n a[5] = 2;\n   ^\n";
+    let text = "file:3:3: note: `a` has 4 cells: the index 5 selects cell 1\n a[5] = 2;\n   ^\n";
     check_said(&rt, "compile file", &[("file", source)], text)
 }

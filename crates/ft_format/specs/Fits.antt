@@ -1,4 +1,4 @@
--- Which objects the fields of records can hold: tables that can be counted, and numbers that fit.
+-- Which objects the fields of records can hold: tables of fewer than 2^32 rows, and numbers that fit.
 use Rattle.std.specs.Prelude.{ℕ, ◌<◌, ◌^◌, List, length, sum_by}
 use Rattle.std.specs.List.{AllByRecursion}
 use Rattle.ft_isa.specs.Words.{IsWord}
@@ -103,7 +103,7 @@ FitsInstr (BzB rz rd subst) = FitsSubst subst
 FitsInstr (Idx rd rs first m) = Is32 first × Is32 m
 FitsInstr _ = Unit {0}
 
--- the tables of an object can be counted, and their numbers fit
+-- each table of an object has fewer than 2^32 rows, and their numbers fit
 pub record Fits (o : Object) : Type 0 where
   pub counts : HasCounts o
   pub cells : AllByRecursion FitsCell o.cells

@@ -37,12 +37,12 @@ abbrev pub last_instr_kind : Version → ℕ
 last_instr_kind First = 7
 last_instr_kind Second = 8
 
--- the maximum bytes of a name
+-- the maximum size of a name in bytes
 abbrev pub longest_name : Version → ℕ
 longest_name First = 32
 longest_name Second = 40
 
--- the maximum bytes of all names
+-- the maximum size of all names in bytes
 abbrev pub most_name_bytes : Version → ℕ
 most_name_bytes First = 32768
 most_name_bytes Second = 40960

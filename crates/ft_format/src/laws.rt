@@ -22,7 +22,7 @@ pub fn rules_are_exact()
 {}
 
 /// An object obeys the rules of its tables exactly if some bytes of version 2 spell it, which are those that break no
-/// rule and stand for it; and of each version there is at most one such list of bytes. In `exact` and `one` the bytes
+/// rule and stand for it; and each version has at most one such list of bytes. In `exact` and `one` the bytes
 /// are judged by `broken` and read by `object_of`, without regard to what is written for an object.
 pub fn spellings_are_one()
     // The objects that obey the rules are those that some bytes of version 2 spell.

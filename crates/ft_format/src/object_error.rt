@@ -21,7 +21,7 @@ pub enum ObjectError {
     /// Padding, or a field that the record does not use, is not zero.
     #[error("object 4 {at}")]
     Pad { at: usize },
-    /// A code has no meaning, refs are too many, or a node is of the wrong sort.
+    /// A code has no meaning, there are too many refs, or a node is of the wrong sort.
     #[error("object 5 {at}")]
     Kind { at: usize },
     /// The number of a part that does not exist, or may not be used here.

@@ -53,7 +53,7 @@ impl Version {
         }
     }
 
-    /// The maximum bytes of a name.
+    /// The maximum size of a name in bytes.
     pub fn longest_name(self) -> u8
         ensures { result ≡ longest_name self }
     {
@@ -63,7 +63,7 @@ impl Version {
         }
     }
 
-    /// The maximum bytes of all names.
+    /// The maximum size of all names in bytes.
     pub fn most_name_bytes(self) -> u32
         ensures { result ≡ most_name_bytes self }
     {

@@ -75,7 +75,7 @@ abbrev pub is_register : Option ℕ → ℕ → Bool
 is_register None r = false
 is_register (Some q) r = q == r
 
--- whether one of two registers, if they are given, is register r
+-- whether register r is one of two registers, each of which may be absent
 abbrev pub is_one_of : Option ℕ → Option ℕ → ℕ → Bool
 is_one_of (Some p) (Some q) r = (p == r) || (q == r)
 is_one_of p None r = is_register p r

@@ -83,12 +83,12 @@ pub record IsLongestViable {V : Type 0} (Tells : List ℕ → V → Type 0) (tex
   pub viable : IsViable Tells (take at text)
   pub longest : (n : ℕ) → n ≤ length text → IsViable Tells (take n text) → n ≤ at
 
--- the text spells no value, and is refused at the first byte after which no text is possible
+-- the text spells no value, and is refused at the end of its longest prefix with which some such text begins
 pub record IsRefusedAt {V : Type 0} (Tells : List ℕ → V → Type 0) (text : List ℕ) (at : ℕ) : Type 0 where
   pub none : (value : V) → ¬ (Tells text value)
   pub place : IsLongestViable Tells text at
 
--- a refusal of the text of wild answers is at its place; out of memory claims nothing
+-- a refusal of the text of wild answers is at its place; running out of memory claims nothing
 abbrev pub IsWildError : List ℕ → WildError → Type 0
 IsWildError text (Form at) = IsRefusedAt IsWildText text at
 IsWildError text NoMemory = Unit {0}

@@ -16,11 +16,11 @@ pub enum Op {
     Ltu,
     /// 1 if the words are equal, and 0 otherwise.
     Eq,
-    /// The bits that both words have.
+    /// The bits set in both words.
     And,
-    /// The bits that one of the words has, or both.
+    /// The bits set in one of the words, or in both.
     Or,
-    /// The bits that exactly one of the words has.
+    /// The bits set in exactly one of the words.
     Xor,
     /// The first word times 2 to the second, modulo 2^64: 0 if the second is 64 or more.
     Shl,

@@ -14,10 +14,10 @@ pub struct Output {
 /// The address of the first cell; the others follow one by one.
 pub const FIRST_CELL: u64 = 1_048_576;
 
-/// The maximum bytes of a line besides its name: a space, 20 digits and a line feed.
+/// The maximum number of bytes of a line besides its name: a space, 20 digits and a line feed.
 pub const VALUE_ROOM: usize = 22;
 
-/// The maximum bytes of an output's line if the name has at most 40 bytes.
+/// The maximum number of bytes of an output's line if the name has at most 40 bytes.
 pub const LINE_ROOM: usize = 62;
 
 /// Puts a piece into a buffer so that it ends at a place, and returns where it begins.

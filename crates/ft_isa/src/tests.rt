@@ -1,7 +1,7 @@
 use crate::{Form, Op, Reg, Site, Strike, Wild, WildError, apply, read_strike, read_wild};
 use std::test::Fail;
 
-/// The word of only the highest bit.
+/// The word with only the highest bit set.
 const TOP: u64 = 0x8000_0000_0000_0000;
 
 /// Operations on two words, and their results.

@@ -143,7 +143,7 @@ impl<'a> Lexer<'a> {
         })
     }
 
-    /// Takes a token of two bytes that are alike.
+    /// Takes a token of two equal bytes.
     fn pair(&mut self, kind: Kind) -> Token<'a>
         requires twice { is_twice self.old.rest.now ≡ true }
         requires no_number { kind ≢ kinds.Number }

@@ -29,8 +29,9 @@ pub record NameOneBlock (a b : Ask) : Type 0 where
 abbrev pub NameTwoBlocks : Ask → Ask → Type 0
 NameTwoBlocks a b = ¬ (NameOneBlock a b)
 
--- a map by which modules can be linked: 1 to 64 files, and each export and import names one of them; line numbers
--- increase strictly; no name is exported twice; no block is named by two imports or by an import and an export
+-- a map by which modules can be linked: 1 to 64 files, and each export and import names one of them; the lines of
+-- exports increase strictly, and so do those of imports, and no line is of both; no name is exported twice; no block is
+-- named by two imports or by an import and an export
 pub record IsSound (linkage : LinkMap) : Type 0 where
   pub some_files : 1 ≤ length linkage.files
   pub few_files : length linkage.files ≤ 64

@@ -19,9 +19,9 @@ const MODULE_LIMIT: usize = 64;
 /// What a line does to the lines so far.
 #[derive(Clone, Copy)]
 pub(crate) enum Turn {
-    /// They go on.
+    /// It continues them.
     On,
-    /// They go on, and it repeats what one of them says.
+    /// It continues them, and repeats what one of them says.
     Again,
     /// It is not allowed there.
     Stuck,

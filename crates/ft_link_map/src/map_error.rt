@@ -4,8 +4,8 @@ use thiserror::Error;
 /// Why a text is not a link map. `line` counts lines from 1.
 #[derive(Clone, Copy, Debug, PartialEq, Eq, Error)]
 pub enum MapError {
-    /// This line is the first with none of the forms, or an export or import before any module, or a 65th module. Or no
-    /// line is, and there is no module: this line, after the last, is missing.
+    /// This line is the first with none of the forms, or an export or import before any module, or a 65th module. Or
+    /// there is no module, and this is the line after the last.
     #[error("link 1 {line}")]
     Line { line: u32 },
     /// Each line is allowed where it is, and this is the first that exports a name exported before, or a block imported

@@ -6,10 +6,10 @@ ghost use Rattle.ft_link_map.specs.MapLines.{is_file_byte, is_file, is_word_byte
 
 use ft_isa::read_number;
 
-/// The maximum bytes of a file's name.
+/// The maximum size of a file's name in bytes.
 const FILE_LIMIT: usize = 255;
 
-/// The maximum bytes of a block's name.
+/// The maximum size of a block's name in bytes.
 const NAME_LIMIT: usize = 32;
 
 /// Whether a byte is allowed in a file's name.

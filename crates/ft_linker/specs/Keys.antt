@@ -1,4 +1,4 @@
--- Keys: shapes of nodes of which the parts are numbers of trees, in their order.
+-- Keys: shapes of nodes in which tree numbers replace the parts, in order.
 use Rattle.std.specs.Prelude.{ℕ, Option}
 use Rattle.std.specs.BTreeMap.{BTreeMap, get}
 use Rattle.ft_static.specs.declared.node.Shape.{Shape}

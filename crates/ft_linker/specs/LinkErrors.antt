@@ -4,7 +4,7 @@ use Rattle.ft_modules.specs.LinkRefusals.{LinkRefusal, Cells, Rows, CodeOf, TooB
 use Rattle.ft_linker.specs.declared.link_error.LinkError.{LinkError}
 use Rattle.ft_linker.specs.declared.link_error.LinkError.TheVariants as errors
 
--- an error says which refusal it is; out of memory claims nothing
+-- an error says which refusal it is; running out of memory claims nothing
 abbrev pub IsRefusalOf : Option LinkRefusal → LinkError → Type 0
 IsRefusalOf x (errors.Cells m) = x ≡ Some (Cells m)
 IsRefusalOf x (errors.Rows m) = x ≡ Some (Rows m)

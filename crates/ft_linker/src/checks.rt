@@ -1,4 +1,4 @@
-//! Tests of a module that is added, and of lines without their blocks.
+//! Tests of a module that is added, and of lines whose block does not exist.
 ghost use Rattle.std.specs.Prelude.{◌≡◌, ◌<◌, ◌^◌, ◌&&◌, [], ◌∷◌, ◌++◌, IfErr, None, OnOk, length};
 ghost use Rattle.std.specs.List.{list_all};
 ghost use Rattle.std.specs.Option.{option_map};

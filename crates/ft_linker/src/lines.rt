@@ -24,7 +24,7 @@ fn has_block(objects: &[Object], ask: &Ask) -> bool
     }
 }
 
-/// The first line without its block.
+/// The first line whose block does not exist.
 pub fn first_without(objects: &[Object], asks: &[Ask]) -> Option<u32>
     ensures { result ≡ first_without objects.now asks.now }
 {

@@ -74,7 +74,7 @@ impl Traced {
         self.get(r).is_some()
     }
 
-    /// Whether none of two registers, as far as they are given, is entered.
+    /// Whether neither of two registers, if given, is entered.
     fn both_free(&self, first: Option<Reg>, second: Option<Reg>) -> bool
         ensures { (e : Entered) → Stands self.now e → result ≡ both_free e (number_of first) (number_of second) }
     {

@@ -49,13 +49,13 @@ pub enum Step3 {
         q: u8,
         spare: u8,
     },
-    /// On to block `to` if pair `q` holds 0, else to the next step.
+    /// Goes to block `to` if pair `q` holds 0, else to the next step.
     Exit {
         q: u8,
         spare: u8,
         to: u32,
     },
-    /// On to block `to`.
+    /// Goes to block `to`.
     Go {
         spare: u8,
         to: u32,

@@ -1,4 +1,4 @@
-//! Stretches of whole instructions, each a fetch and what it does.
+//! Stretches of whole instructions, each fetched and executed.
 ghost use Rattle.std.specs.Prelude.{◌≡◌, ◌<◌, ◌≤◌, ◌+◌, ◌-◌, ◌*◌, ◌/◌, ◌^◌, ℕ, length, None, IfSome, IfNone, true};
 ghost use Rattle.ft_isa.specs.declared.output.Output.{Output as Committed};
 ghost use Rattle.ft_types.specs.Objects.{instr_at};

@@ -12,7 +12,7 @@ use std::test::Fail;
 /// The address of the second cell, `a[1]`.
 const SECOND: u64 = 1_048_577;
 
-/// The maximum steps of the run.
+/// The maximum number of steps of the run.
 const STEPS: u64 = 100;
 
 /// The run of an object if register `r` is struck before step 2: the step that stopped it, what was committed, and its

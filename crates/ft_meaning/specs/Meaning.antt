@@ -91,7 +91,7 @@ abbrev pub with_turn : ℕ → State → (State → Outcome) → Outcome
 with_turn zero s go = Cut s
 with_turn (suc l) s go = go (with_left l s)
 
--- a loop; the number, which is at least that of the turns left, only bounds the recursion
+-- a loop; its number bounds the recursion, and is at least the number of turns left
 abbrev pub loops : ℕ → Expression Slot → (State → Outcome) → State → Outcome
 loops zero e body s = at_zero (value e s.vars s.cells) (Ended (evaluated e s)) (Cut (evaluated e s))
 loops (suc n) e body s =

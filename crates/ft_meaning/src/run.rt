@@ -104,7 +104,7 @@ impl Run {
         cell_at(array, self.word(index), self.cells.len())
     }
 
-    /// Assigns a word to a cell, and puts it.
+    /// Assigns a word to a cell, and writes its line.
     fn assign_cell<K: Sink>(
         &mut self,
         names: &[Vec<u8>],
@@ -125,7 +125,7 @@ impl Run {
         Ok(())
     }
 
-    /// Assigns a word, and puts a cell's.
+    /// Assigns a word, and writes the line of a cell.
     fn assign<K: Sink>(
         &mut self,
         names: &[Vec<u8>],

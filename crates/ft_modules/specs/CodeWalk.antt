@@ -53,7 +53,7 @@ entered_after i e = entered_past (written i) (claimed i) e
 abbrev pub is_free : Entered → Reg → Bool
 is_free e r = not (is_some (finite.get e r.number))
 
--- whether none of two registers, as far as they are given, is entered
+-- whether neither of two registers, if given, is entered
 abbrev pub both_free : Entered → Option ℕ → Option ℕ → Bool
 both_free e (Some p) (Some q) = not (is_some (finite.get e p)) && not (is_some (finite.get e q))
 both_free e (Some p) None = not (is_some (finite.get e p))

@@ -78,7 +78,7 @@ indexes_by_address = Mov r1 (green 1) (code 0) ∷ Idx r2 r1 0 1 ∷ Halt ∷ []
 abbrev pub knows_address : Object
 knows_address = record storer { types = record nothing_known { regs = record { reg = r0; colour = Green; basic = code 0; expr = 0 } ∷ [] } ∷ [] }
 
--- a module of which a cell holds one
+-- a module with a cell that holds a code address
 abbrev pub holds_address : Object
 holds_address = record storer { cells = record { name = codes "out"; basic = code 0; init = 1 } ∷ [] }
 

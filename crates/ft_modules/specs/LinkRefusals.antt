@@ -105,7 +105,7 @@ has_block modules m b = nat_lt b (unwrap_or (option_map (λ (o : Object). length
 abbrev pub line_of : Ask → ℕ
 line_of a = a.line
 
--- the first line without its block
+-- the first line whose block does not exist
 abbrev pub first_without : List Object → List Ask → Option ℕ
 first_without modules asks = option_map line_of (find (λ (a : Ask). not (has_block modules a.module a.block)) asks)
 

@@ -3,7 +3,7 @@
 //! A module is an accepted object. `specs/Linked.antt` defines the object that a map makes of modules,
 //! `specs/LinkRefusals.antt` why it makes none, and `specs/ModulesRun.antt` the run that goes from module
 //! to module. The crate promises in `laws` that modules can be linked exactly if nothing is refused, that they
-//! are refused in turn, and that trees of expressions are compared by numbers (`specs/TreeKeys.antt`). It
+//! are tested in turn, and that trees of expressions are compared by numbers (`specs/TreeKeys.antt`). It
 //! promises in `module_laws` that a module is refused only because of totals, and that permitted exchanges
 //! leave it a module. It promises in `linking_laws` that the linked object is spellable and accepted, that
 //! it runs as its modules do, and that one fault in it is masked or detected.

@@ -145,7 +145,7 @@ IsMemoryAt fs i = slice_get fs i ≡ Some (memory_form (updates_at fs i))
 pub record IsDistinct (fs : List Form) : Type 0 where
   pub one : (i j : ℕ) (x : Form) → slice_get fs i ≡ Some x → slice_get fs j ≡ Some x → i ≡ j
 
--- how many atoms a number is
+-- 1 if the number is that of an atom, 0 if it is 0
 abbrev pub present : ℕ → ℕ
 present zero = 0
 present (suc k) = 1

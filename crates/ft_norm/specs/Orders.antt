@@ -1,4 +1,4 @@
--- The order in which entries keep terms. It is by numbers, so it never affects a form.
+-- The order in which entries keep terms. It is by numbers, so no comparison looks into a form.
 use Rattle.std.specs.Prelude.{ℕ, ◌<◌, ◌≤◌, ◌^◌, ◌≡◌, List, [], ◌∷◌, length}
 use Rattle.std.specs.Cmp.Lexicographic.{slice_cmp}
 use Rattle.std.specs.Ordering.{nat_cmp}

@@ -18,7 +18,7 @@ pub record IsPacked (p : PackedTerm) : Type 0 where
   pub high : p.high < 2 ^ 32
   pub low : p.low < 2 ^ 32
 
--- so are all parts of all of these
+-- all parts of all these terms are numbers of four bytes
 abbrev pub ArePacked : List PackedTerm → Type 0
 ArePacked [] = Unit {0}
 ArePacked (p ∷ ps) = IsPacked p × ArePacked ps

@@ -32,7 +32,7 @@ use std::sync::ledger::Ledger;
 /// How many words the interner remembers places for.
 const RECENT: usize = 64;
 
-/// The maximum number of forms: one more than the number of each fits a `u32`, and so does that number.
+/// The maximum number of forms: the count, and one more than each form's number, fit a `u32`.
 const FORMS: usize = 4_294_967_294;
 
 /// Normal forms, of integers and of memories. The list of them only grows, and a `Form` stands for one of them through
@@ -70,8 +70,8 @@ impl Interner {
         Interner::keyed(alloc, 0, 0)
     }
 
-    /// An interner that holds no form, and whose table hashes by these two keys. The keys affect how fast the calls are
-    /// but no form: whoever does not know them cannot make the table slow.
+    /// An interner that holds no form, and whose table hashes by these two keys. The keys affect speed, but not the
+    /// forms: whoever does not know them cannot make the table slow.
     pub fn keyed(alloc: Global, first: u64, second: u64) -> Result<Interner, NoMemory>
         ensures { IfOk result (λ s. s ≡ []) }
     {

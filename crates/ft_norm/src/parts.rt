@@ -20,8 +20,8 @@ fn part(made: &IndexMap<u32, Form>, n: u32) -> Result<u32, u32>
     }
 }
 
-/// A node of this shape with the numbers of their forms in the places of its parts, or the first part
-/// of which no form was made.
+/// A node of this shape with the numbers of their forms in the places of its parts; or a number of which no form was
+/// made, below every bound of the parts.
 pub fn parts_of(made: &IndexMap<u32, Form>, shape: Shape) -> Result<Shape, u32>
     ensures made { IfOk result (AreMade made.now shape) }
     ensures missing { IfErr result (λ k. ((n : ℕ) → HasPartsBelow n shape → k < n) × (get nat_eq made.now k ≡ None)) }

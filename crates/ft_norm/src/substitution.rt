@@ -18,7 +18,7 @@ use indexmap::IndexMap;
 use std::alloc::Global;
 use std::sync::ledger::Ledger;
 
-/// How many nodes' memory is kept when they are forgotten.
+/// For how many nodes a cleared memo keeps its memory.
 const FEW: usize = 64;
 
 /// The forms of the nodes that were made so far, while the same forms are substituted for the variables. It serves many

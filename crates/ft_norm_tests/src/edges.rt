@@ -7,7 +7,7 @@ use ft_isa::{NoMemory, Op};
 use ft_norm::{Form, Interner};
 use std::test::Fail;
 
-/// Whether `x` and then `y` less `y` is `x`.
+/// Whether `(x + y) - y` is `x`.
 fn comes_back(forms: &mut Interner, x: Form, y: Form) -> Result<bool, NoMemory>
     requires first { IsInteger forms.old x }
     requires second { IsInteger forms.old y }

@@ -1,4 +1,4 @@
-//! Tests of the interner: forms whose equality is known by hand.
+//! Tests of the interner: forms whose equality was worked out by hand.
 //!
 //! The crate has only tests, since a crate with tests is proved twice.
 #![tactic(auto)]

@@ -1,4 +1,4 @@
--- What a reader returns, against the rules.
+-- What a reader returns, in terms of the rules.
 use Rattle.std.specs.Prelude.{◌≡◌, Option, None, Some, Result, Ok, Err}
 use Rattle.ft_format.specs.declared.object_error.ObjectError.{ObjectError}
 use Rattle.ft_object.specs.declared.decode_error.DecodeError.{DecodeError}

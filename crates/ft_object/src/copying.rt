@@ -40,7 +40,7 @@ fn copy_blocks(view: &View, blocks: &mut Vec<Block>) -> Result<(), DecodeError>
     Ok(())
 }
 
-/// Copies the instrs into an empty vector.
+/// Copies the instructions into an empty vector.
 fn copy_instrs(view: &View, instrs: &mut Vec<Instr>) -> Result<(), DecodeError>
     requires counted { IsCounted (object_of view.now) }
     requires empty { instrs.old.items ≡ [] }
@@ -54,7 +54,7 @@ fn copy_instrs(view: &View, instrs: &mut Vec<Instr>) -> Result<(), DecodeError>
     Ok(())
 }
 
-/// Copies the substs into an empty vector.
+/// Copies the substitution rows into an empty vector.
 fn copy_substs(view: &View, substs: &mut Vec<u32>) -> Result<(), DecodeError>
     requires counted { IsCounted (object_of view.now) }
     requires empty { substs.old.items ≡ [] }

@@ -1,4 +1,4 @@
-//! Vectors that grow within their room and tables that are copied, or out of memory.
+//! Vectors that grow within their capacity, and copied tables; each call may run out of memory.
 ghost use Rattle.std.specs.Prelude.{◌≡◌, ◌∷◌, ◌++◌, [], IfOk, OnOk};
 ghost use Rattle.ft_object.specs.Judged.{OnlyMemory};
 
@@ -22,7 +22,7 @@ pub(crate) fn push<T: Drop>(values: &mut Vec<T>, value: T) -> Result<(), DecodeE
     values.push(value).map_err(|_| DecodeError::NoMemory)
 }
 
-/// A table of its own of these values.
+/// An owned table of these values.
 pub(crate) fn copy<T: Copy>(alloc: Global, values: &[T]) -> Result<Table<T>, DecodeError>
     ensures copied { IfOk result (λ t. t ≡ values.now) }
     ensures err { OnlyMemory result }

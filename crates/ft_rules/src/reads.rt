@@ -1,4 +1,4 @@
-//! What the rows read of a context, with the premises of the reading, in their order.
+//! What typing rows read from a context, and the premises that each read has, in order.
 ghost use Rattle.std.specs.Prelude.{◌≡◌, ◌<◌, ◌==◌, ◌&&◌, IfOk, List, ℕ, length};
 ghost use Rattle.ft_static.specs.Form.{Form as Normal, Polynomial};
 ghost use Rattle.ft_static.specs.FormOrder.{same_polynomial};

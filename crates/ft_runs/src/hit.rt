@@ -3,7 +3,7 @@ use crate::clean::Clean;
 use crate::struck::Struck;
 use ft_types::Program;
 
-/// The result of a strike: the run is struck, or nothing is there to strike.
+/// The result of a strike: the run is struck, or there is nothing to strike.
 #[derive(Drop)]
 pub enum Hit<'a, 'w, P: Program> {
     /// The run that was struck.

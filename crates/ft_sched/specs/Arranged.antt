@@ -37,10 +37,10 @@ pub record LaysFirst (laid laid' waiting waiting' : List Instr) (queued queued' 
   pub waited : waiting ≡ first ∷ waiting'
   pub lays : Lays first laid laid' queued queued' committed committed'
 
--- whatever block it is, an instruction gets its place: it was first in the rest
+-- in any block, the first of the remaining instructions gets its place
 abbrev pub GetsPlace : Instr → List Instr → List Instr → ℕ → ℕ → List Instr → List Instr → ℕ → ℕ → Type 0
 GetsPlace i laid waiting queued committed laid' waiting' queued' committed' = (rows start past : ℕ) (base rest : List Instr) → length laid + length waiting < past → IsArranged rows start past base (i ∷ rest) laid waiting queued committed → IsArranged rows start past base rest laid' waiting' queued' committed'
 
--- whatever block it is, those that wait are written
+-- in any block, the waiting instructions are written
 abbrev pub LaysAll : List Instr → List Instr → ℕ → ℕ → List Instr → ℕ → ℕ → Type 0
 LaysAll laid waiting queued committed laid' queued' committed' = (rows start past : ℕ) (base rest : List Instr) → Arranges rows start past base rest laid waiting queued committed → Arranges rows start past base rest laid' [] queued' committed'

@@ -1,4 +1,4 @@
-//! Where each register was last met.
+//! Where each register was last seen.
 ghost use Rattle.std.specs.Prelude.{◌≡◌, length};
 ghost use Rattle.ft_sched.specs.Registers.{number_of};
 ghost use Rattle.ft_sched.specs.LastPlaces.{place_of, marked, unmet};
@@ -21,7 +21,7 @@ impl Model for LastPlaces {
 }
 
 impl LastPlaces {
-    /// No register was met.
+    /// No register was seen.
     pub fn new() -> LastPlaces
         ensures { result ≡ unmet }
     {
@@ -38,7 +38,7 @@ impl LastPlaces {
         }
     }
 
-    /// A register was met at a place, if one is given.
+    /// A register was seen at a place, if one is given.
     pub fn mark(&mut self, register: Option<Reg>, place: usize)
         ensures { self.new ≡ marked self.old (number_of register) place }
     {

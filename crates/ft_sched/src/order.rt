@@ -25,7 +25,7 @@ pub struct Order {
     ghost committed_few: { committed ≤ length laid.items },
 }
 
-/// A count, with one more if it counts.
+/// A count, increased by 1 if the test holds.
 fn with(count: usize, counts: bool) -> usize
     requires { count + 1 < 2 ^ 64 }
     ensures { result ≡ count + cond counts 1 0 }

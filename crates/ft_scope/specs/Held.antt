@@ -30,13 +30,13 @@ pub record Holds (n : Names) (ds : List Declared) : Type 0 where
   pub cells : n.cells ≡ min (cell_count ds) (2 ^ 64 - 1)
   pub vars : n.vars ≡ variable_count ds
 
--- a declaration fails at the place of its name, if that was declared before; out of memory claims nothing
+-- a declaration fails at the place of its name, if that was declared before; running out of memory claims nothing
 abbrev pub DeclareFails : SourceError → ℕ → Option Slot → Type 0
 DeclareFails (Twice at) place before = (at ≡ place) × (is_some before ≡ true)
 DeclareFails NoMemory place before = Unit {0}
 DeclareFails _ place before = ⊥
 
--- declarations fail at the first name that was declared before; out of memory claims nothing
+-- declarations fail at the first name that was declared before; running out of memory claims nothing
 abbrev pub TwiceFails : SourceError → Option ℕ → Type 0
 TwiceFails (Twice at) first = first ≡ Some at
 TwiceFails NoMemory first = Unit {0}

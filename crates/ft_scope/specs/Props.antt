@@ -1,4 +1,4 @@
--- That the names of a program exist has at most one proof, so it may be a ghost field.
+-- The fact that the names of a program exist has at most one proof, so a ghost field may hold it.
 use Rattle.std.specs.Prelude.{ℕ}
 use Rattle.std.proofs.Math.Bridge.{le_prop}
 use Rattle.ft_syntax.specs.Plain.{Expression, literal, name, indexed, operation, StatementList, none, assign, assign_at, loop, choose}

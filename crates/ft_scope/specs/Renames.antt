@@ -6,7 +6,7 @@ use Rattle.ft_scope.specs.declared.slot.Slot.{Slot}
 use Rattle.ft_scope.specs.declared.slot.Slot.TheVariants.{Run}
 use Rattle.ft_scope.specs.Size.{SlotFits, RunFits}
 
--- an error of the code against a result of the definition; out of memory claims nothing
+-- an error of the code against a result of the definition; running out of memory claims nothing
 abbrev pub Fails : {A : Type 0} → SourceError → Result A ℕ → Type 0
 Fails (Unknown at) r = r ≡ Err at
 Fails NoMemory r = Unit {0}

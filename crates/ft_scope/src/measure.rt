@@ -117,7 +117,7 @@ fn measure_statement(s: &Stmt<Slot>) -> Measure
     }
 }
 
-/// A loop or a choice whose parts measure this much.
+/// The need and weight of a loop or a choice, from those of its parts.
 fn with_branch(parts: Measure) -> Measure
     ensures need { result.need ≡ parts.need }
     ensures weight { result.weight ≡ min (parts.weight + 16) (2 ^ 64 - 1) }

@@ -1,4 +1,4 @@
-//! Names that are used as what they are not.
+//! Misused names: an array without an index, or another name with one.
 ghost use Rattle.std.specs.Prelude.{◌≡◌, Some};
 ghost use Rattle.ft_scope.specs.Scope.{bare_misuse, index_misuse, first_of};
 

@@ -7,7 +7,7 @@ use crate::register::Register;
 use ft_isa::{Site, read_number, read_site};
 use ft_text::first_space;
 
-/// The maximum steps of one command.
+/// The maximum number of steps of one command.
 const STEP_LIMIT: u64 = 1_000_000;
 
 /// Whether two texts are the same.

@@ -15,7 +15,7 @@ is_running Running = true
 is_running Done = false
 is_running Detected = false
 
--- whether a site exists beside a queue with n entries
+-- whether a site exists if the queue has n entries
 abbrev pub is_site : Site → ℕ → Bool
 is_site (R r) entries = true
 is_site D entries = true

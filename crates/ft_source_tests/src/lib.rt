@@ -1,7 +1,7 @@
 //! Tests of sources: texts that are parsed or refused, their names and limits, and what they are lowered
 //! to.
 //!
-//! The crate has only tests, since a crate with tests is proved twice. Outputs are known by hand, and a
+//! The crate has only tests, since a crate with tests is proved twice. Outputs were worked out by hand, and a
 //! plain interpreter runs the flows, beside the definition that the contract of `lower` cites.
 #![tactic(auto)]
 

@@ -60,7 +60,7 @@ at_x = upd memory_variable x (word 7)
 abbrev pub past_x : Memory
 past_x = upd at_x (add x (word 1)) (word 8)
 
--- or then 8 at the address y
+-- and then 8 at the address y
 abbrev pub then_y : Memory
 then_y = upd at_x y (word 8)
 

@@ -19,7 +19,7 @@ source_number (source.Array at) = 11
 source_number (source.Length at) = 12
 source_number source.NoMemory = 0
 
--- its argument: a place, or what is above a limit
+-- its argument: a place, what is above a limit, or the limit of a text; 0 for out of memory
 abbrev pub source_told : SourceError → ℕ
 source_told source.TooLong = 1048576
 source_told (source.Byte at) = at

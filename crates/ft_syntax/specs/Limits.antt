@@ -4,7 +4,7 @@ use Rattle.ft_lexer.specs.declared.kind.Kind.{Kind}
 use Rattle.ft_lexer.specs.declared.kind.Kind.TheVariants.{While, If, Semi, LParen, RParen, LBrace, RBrace, Plus, Minus, Star, Less, EqEq, LBracket, RBracket, And, Or, Xor, Shl, Shr}
 use Rattle.ft_lexer.specs.Scan.{Lexeme}
 
--- the maximum bytes of a source text
+-- the maximum size of a source text in bytes
 abbrev pub text_limit : ℕ
 text_limit = 1048576
 

@@ -28,7 +28,7 @@ pub record StopsAt (ts : List Lexeme) (at : ℕ) : Type 0 where
   pub stops : IsViable (before ++ lexeme ∷ []) → ⊥
   pub shallow : IsShallow nothing_open before
 
--- a program is possible after all lexemes, but they are not one
+-- a program is possible after all lexemes, but they do not form one
 pub record Lacks (ts : List Lexeme) (end at : ℕ) : Type 0 where
   pub place : at ≡ end
   pub viable : IsViable ts

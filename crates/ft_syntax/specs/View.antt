@@ -64,7 +64,7 @@ LexRefused (Number at) r = r ≡ Err (lex_errors.Number at)
 LexRefused NoMemory r = Unit {0}
 LexRefused _ r = ⊥
 
--- the next lexeme is not an operator
+-- the next lexeme, if any, is not an operator
 abbrev pub NoOperator : List Lexeme → Type 0
 NoOperator [] = Unit {0}
 NoOperator (t ∷ ts) = (p : Waiting) (a : NamedExpression) → push t.kind p a ≡ None
@@ -87,7 +87,7 @@ BeginsNone While = ⊥
 BeginsNone If = ⊥
 BeginsNone _ = Unit {0}
 
--- the next lexeme does not begin a statement
+-- the next lexeme, if any, does not begin a statement
 abbrev pub NoStatement : List Lexeme → Type 0
 NoStatement [] = Unit {0}
 NoStatement (t ∷ ts) = BeginsNone t.kind
@@ -96,7 +96,7 @@ abbrev pub IsNotBracket : Kind → Type 0
 IsNotBracket LBracket = ⊥
 IsNotBracket _ = Unit {0}
 
--- the next lexeme is not the bracket of an index
+-- the next lexeme, if any, is not the bracket of an index
 abbrev pub NoBracket : List Lexeme → Type 0
 NoBracket [] = Unit {0}
 NoBracket (t ∷ ts) = IsNotBracket t.kind

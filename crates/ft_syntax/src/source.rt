@@ -11,7 +11,7 @@ use crate::tokens::all_tokens;
 use crate::tree::Tree;
 use std::alloc::Global;
 
-/// The maximum bytes of a source text.
+/// The maximum size of a source text in bytes.
 const TEXT_LIMIT: usize = 1_048_576;
 
 /// The tree of a source text, whose names are slices of the text.

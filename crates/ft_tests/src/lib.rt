@@ -1,6 +1,6 @@
-//! The tool over files in memory, for the crates of rows.
+//! Runs the tool over files in memory, for the crates that test rows.
 //!
-//! A row is words, the text that the tool writes and the status that it returns. The crate promises
+//! A row has words, the text that the tool writes and the status that it returns. The crate promises
 //! nothing; test crates share it to compare the tool's answer with a row. An error names what differs.
 #![tactic(auto)]
 

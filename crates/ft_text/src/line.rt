@@ -4,7 +4,7 @@ ghost use Rattle.std.specs.Prelude.{◌≡◌, ◌≤◌, ◌+◌, ◌++◌, [],
 use itoa::Buffer;
 use std::marker::Model;
 
-/// The maximum bytes of a line.
+/// The maximum size of a line in bytes.
 pub const ROOM: usize = 160;
 
 /// The maximum digits of a number below 2^64.

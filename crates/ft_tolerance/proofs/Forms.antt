@@ -14,7 +14,7 @@ use Rattle.ft_static.specs.NodeTree.{tree_at}
 use Rattle.ft_static.specs.declared.node.Node.{Node}
 use Rattle.ft_static.proofs.NodeTrees.{tree_fits}
 use Rattle.ft_static.proofs.FormsDenote.{norm_value, value_norm_memory}
-use Rattle.ft_static.proofs.Under.{value_under, value_memory_under, valuation_under-lawful}
+use Rattle.ft_static.proofs.Under.{value_under, valuation_under-lawful}
 use Rattle.ft_types.specs.declared.object.Object.{Object}
 use Rattle.ft_typing.specs.Context.{integer_form_of, memory_form_of, integer_form_after, memory_form_after, rows_of}
 use Rattle.ft_typing.specs.Context.{replacement}
@@ -83,7 +83,7 @@ pub after_denotes : (o : Object) (u : Subst) (n : ℕ) (v : Valuation) → AreNo
     ≡ value_polynomial (integer_form_of o n) (valuation_by o u v)
 unfolding integer_form_after
 after_denotes o u n v h lawful =
-    value_under (integer_at (trees o.nodes) n) (replacement o u).integers (replacement o u).memory v lawful
+    (value_under (replacement o u).integers (replacement o u).memory v lawful).0 (integer_at (trees o.nodes) n)
     (integer_words (tree_at o.nodes n) (has_words o.nodes n h))
     ∙ ap (value (integer_at (trees o.nodes) n)) (under_is_by o u v h lawful)
     ∙ sym (integer_form_denotes o n (valuation_by o u v) h (by_lawful o u v h lawful))
@@ -92,7 +92,7 @@ pub memory_after_denotes : (o : Object) (u : Subst) (n : ℕ) (v : Valuation) �
     value_updates (memory_form_after o (replacement o u) n) v ≡ value_updates (memory_form_of o n) (valuation_by o u v)
 unfolding memory_form_after
 memory_after_denotes o u n v h lawful =
-    value_memory_under (memory_at (trees o.nodes) n) (replacement o u).integers (replacement o u).memory v lawful
+    (value_under (replacement o u).integers (replacement o u).memory v lawful).1 (memory_at (trees o.nodes) n)
     (memory_words (tree_at o.nodes n) (has_words o.nodes n h))
     ∙ ap (memory_value (memory_at (trees o.nodes) n)) (under_is_by o u v h lawful)
     ∙ sym (memory_form_denotes o n (valuation_by o u v) h (by_lawful o u v h lawful))

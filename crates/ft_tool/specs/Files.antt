@@ -95,7 +95,7 @@ ReadsList faults_of list (Err list_faults.TooMany) = IsListError list lists.TooM
 ReadsList faults_of list (Err list_faults.Failed) = ⊥
 ReadsList faults_of list (Err list_faults.NoMemory) = Unit {0}
 
--- a fault list that is one of these texts is that of these faults, or is not one
+-- some text of these is a list of these faults, or is not a fault list
 abbrev pub GetsList : {V : Type 0} → (V → List Strike) → (List ℕ → Type 0) → Result V ListFault → Type 0
 GetsList faults_of Is (Ok v) = (list : List ℕ) × (Is list × IsFaultList list (faults_of v))
 GetsList faults_of Is (Err (list_faults.Line number)) = (list : List ℕ) × (Is list × IsListError list (lists.Line number))

@@ -12,7 +12,7 @@ use Rattle.ft_command.specs.Commands.{Campaign}
 use Rattle.ft_tool.specs.Texts.{list_line}
 use Rattle.ft_tool.specs.Replies.{Answer, one_piece}
 
--- the status by the verdicts: 10 if some verdict is corrupt
+-- the status, from the verdicts: 10 if one is corrupt
 abbrev pub status_of : List Verdict → ℕ
 status_of vs = if count_by is_corrupt vs == 0 then 0 else 10
 

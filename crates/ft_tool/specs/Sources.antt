@@ -30,7 +30,8 @@ OverText Over text a =
     ((p : Program) × (IsProgramOf text p × Over p a))
     ⊎ ((e : SourceError) × (IsRefusalOf text e × IsSourceRefused e a))
 
--- the answer of a compilation: the bytes of an object that stands for the program, in version 2 of the format and one piece
+-- the answer of a compilation: the bytes of an object that stands for the program, in version 2 of the format and one
+-- piece
 pub record CompilesProgram (p : Program) (a : Answer) : Type 0 where
   pub object : Object
   pub stands : StandsFor p object
@@ -38,7 +39,7 @@ pub record CompilesProgram (p : Program) (a : Answer) : Type 0 where
   pub spelled : Spells bytes Second object
   pub answer : a ≡ one_piece bytes 0
 
--- the answer of an execution: the run of an object that stands for the program, for n steps without a strike
+-- the answer of an execution: the run of an object that stands for the program, for this many steps without a strike
 pub record ExecutesProgram (steps : ℕ) (p : Program) (a : Answer) : Type 0 where
   pub object : Object
   pub stands : StandsFor p object

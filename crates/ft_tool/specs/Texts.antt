@@ -16,7 +16,8 @@ object_line e = codes "object " ++ decimal (error_number e) ++ codes " " ++ deci
 abbrev pub accepted_line : List ℕ
 accepted_line = codes "accepted\n"
 
--- the line of an object that is not accepted: the entry block's code type; a cell; or a block, an index in it and a premise
+-- the line of an object that is not accepted: the entry block's code type; a cell; or a block, an index in it and a
+-- premise
 abbrev pub check_line : Refusal → List ℕ
 check_line EntryType = codes "check entry\n"
 check_line (CellType k) = codes "check cell " ++ decimal k ++ codes "\n"
@@ -34,15 +35,16 @@ again_line n = codes "again " ++ decimal n ++ codes "\n"
 abbrev pub source_line : SourceError → List ℕ
 source_line e = codes "source " ++ decimal (source_number e) ++ codes " " ++ decimal (source_told e) ++ codes "\n"
 
--- `asm`, the number of the refusal, and its argument: a line's number, or the maximum bytes of a text
+-- `asm`, the number of the refusal, and its argument: a line's number, or the maximum number of bytes of a text
 abbrev pub asm_line : ℕ → ℕ → List ℕ
 asm_line n x = codes "asm " ++ decimal n ++ codes " " ++ decimal x ++ codes "\n"
 
--- `link`, the number of the refusal, and its argument: a line's number, a module's, or the maximum bytes of a map
+-- `link`, the number of the refusal, and its argument: a line's number, a module's, or the maximum number of bytes of a
+-- map
 abbrev pub link_line : ℕ → ℕ → List ℕ
 link_line n x = codes "link " ++ decimal n ++ codes " " ++ decimal x ++ codes "\n"
 
--- the line of a module's code address that is not only jumped to: the module, the block and the index in it
+-- the line of a module's code address used other than as a target: the module, the block and the index in it
 abbrev pub link_code_line : ℕ → ℕ → ℕ → List ℕ
 link_code_line m b i = codes "link 5 " ++ decimal m ++ codes " " ++ decimal b ++ codes " " ++ decimal i ++ codes "\n"
 

@@ -56,7 +56,7 @@ pub(crate) enum Ending {
     ListRefused,
     /// The text is refused as an assembly text.
     TextRefused,
-    /// The link map is refused, or the link that it describes.
+    /// The link map, or the link that it describes, is refused.
     LinkRefused,
 }
 

@@ -16,19 +16,19 @@ use ft_view::View;
 use std::alloc::Global;
 use thiserror::Error;
 
-/// The maximum bytes of a file that are read as an object.
+/// The maximum number of bytes of a file that are read as an object.
 pub(crate) const OBJECT_LIMIT: usize = 67_108_864;
 
-/// The maximum bytes of a file that are read as a source.
+/// The maximum number of bytes of a file that are read as a source.
 pub(crate) const SOURCE_LIMIT: usize = 1_048_576;
 
-/// The maximum bytes of a file that are read as an assembly text.
+/// The maximum number of bytes of a file that are read as an assembly text.
 pub(crate) const TEXT_LIMIT: usize = 134_217_728;
 
-/// The maximum bytes of a file that are read as a link map.
+/// The maximum number of bytes of a file that are read as a link map.
 pub(crate) const MAP_LIMIT: usize = 65_536;
 
-/// The maximum bytes of a file that are read as a fault list.
+/// The maximum number of bytes of a file that are read as a fault list.
 const LIST_LIMIT: usize = 4_194_304;
 
 /// Loads the file of a name into an empty vector, up to a limit.

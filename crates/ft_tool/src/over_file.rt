@@ -22,7 +22,7 @@ pub(crate) trait FileCommand {
     // The name of its file.
     ghost file: { Self → Word };
 
-    // The maximum bytes that are read of its file.
+    // The maximum number of bytes that are read of its file.
     ghost limit: { Self → ℕ };
 
     // The answer over the file's bytes.
@@ -32,7 +32,7 @@ pub(crate) trait FileCommand {
     fn file(&self) -> &str
         ensures { result.now ≡ file self.now };
 
-    /// The maximum bytes that are read of its file.
+    /// The maximum number of bytes that are read of its file.
     fn limit(&self) -> usize
         ensures { result ≡ limit self.now };
 

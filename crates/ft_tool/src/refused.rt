@@ -95,7 +95,7 @@ pub(crate) fn link_line(number: u64, told: u64) -> Line
     line
 }
 
-/// The line of a code address that is not only jumped to, by the number of its module.
+/// The line of a code address used other than as a target, by the number of its module.
 pub(crate) fn link_code_line(number: u32, block: u32, index: u32) -> Line
     ensures { result ≡ link_code_line number block index }
 {

@@ -7,10 +7,10 @@ use ft_edge::Source;
 use std::alloc::Global;
 use thiserror::Error;
 
-/// The maximum bytes of a script.
+/// The maximum size of a script in bytes.
 const SCRIPT_LIMIT: usize = 1_048_576;
 
-/// The maximum bytes of one take.
+/// The maximum size of one take in bytes.
 const PIECE: usize = 4096;
 
 /// Why there is no script.

@@ -22,7 +22,7 @@ pub(crate) fn put_link_line<K: Sink>(number: u64, told: u64, out: &mut K) -> End
     }
 }
 
-/// Puts the line of a code address that is not only jumped to, by the number of its module.
+/// Puts the line of a code address used other than as a target, by the number of its module.
 fn put_code_line<K: Sink>(number: u32, block: u32, index: u32, out: &mut K) -> Ending
     ensures { Ends result (λ a. a ≡ one_piece (link_code_line number block index) 13)
         (K.log out.old) (K.log out.new) ⊥ }

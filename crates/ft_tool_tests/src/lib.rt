@@ -1,5 +1,5 @@
 //! Tests of the top call, over files in memory: each command once, loads, takes and puts that fail, and
-//! what late faults of a campaign fetch.
+//! how many instructions late faults of a campaign cost.
 //!
 //! The crate has only tests, since a crate with tests is proved twice. A row has the words, the text that
 //! is written and the status. The values come from the definitions and from another implementation, not

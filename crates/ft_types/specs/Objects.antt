@@ -13,12 +13,12 @@ use Rattle.ft_types.specs.declared.object.CodeType.{CodeType}
 use Rattle.ft_types.specs.declared.object.TypeHead.{TypeHead}
 use Rattle.ft_types.specs.declared.object.RegType.{RegType}
 
--- a code type's rows are few enough to be counted
+-- a code type has fewer than 2^32 rows of each kind
 pub record HasCountedRows (t : CodeType) : Type 0 where
   pub regs : length t.regs < 2 ^ 32
   pub queue : length t.queue < 2 ^ 32
 
--- the lists of an object are short enough to be counted
+-- each list of an object has fewer than 2^32 entries
 pub record IsCounted (o : Object) : Type 0 where
   pub cells : length o.cells < 2 ^ 32
   pub nodes : length o.nodes < 2 ^ 32

@@ -48,7 +48,7 @@ pub record Context : Type 0 where
 abbrev pub typed : Context → ℕ → Option Typed
 typed c r = finite.get c.registers r
 
--- the context with this known of register r
+-- the context after this was learnt about register r
 abbrev pub with_type : ℕ → Typed → Context → Context
 with_type r t c = record c { registers = finite.insert c.registers r t }
 

@@ -152,7 +152,8 @@ leads o u t c next =
 -- halt | 6 (Zero), 14 | the block ends
 -- idx rd, rs, first, length | 1 (rs), 18 | rd: colour of rs, `ref b` for the cells' type b, add of the word
 -- 1048576 + first and rem of rs's form by length
--- What a row doesn't name stays. BlockEnd, 17, comes after these: it needs the instruction's place in its block.
+-- Anything that a row does not name is unchanged. BlockEnd, 17, comes after these: it needs the instruction's place in
+-- its block.
 abbrev pub row : Object → Context → Instr → Outcome
 row o c (OpReg op rd rs rt) =
     for_typed (typed c rs.number) (λ s.

@@ -25,7 +25,7 @@ use Rattle.ft_typing.specs.TypingRow.{Outcome, Goes, Ends, Fails, same_colour, i
 
 -- THE TESTS
 
--- a test; it is of registers, of words and of the substitution of the instruction that makes it
+-- a test, on the registers, words and substitution of the instruction that makes it
 pub data Test : Type 0 where
   -- the register has a type
   is_typed : Reg → Test

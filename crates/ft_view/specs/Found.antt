@@ -1,4 +1,4 @@
--- What a reader of a record returns, against the record's rules.
+-- What a reader of a record returns, in terms of the record's rules.
 use Rattle.std.specs.Prelude.{◌≡◌, Option, None, Some, Result, Ok, Err}
 use Rattle.ft_format.specs.declared.object_error.ObjectError.{ObjectError}
 

@@ -29,8 +29,8 @@ fn has_word_of(name: &[u8], other: &[u8], at: usize) -> bool
     word(name, at) == word(other, at)
 }
 
-/// Whether two names of one length may be the same: `false` only for different ones, which words of eight bytes show
-/// quickly, and seldom `true` for them.
+/// Whether two names of one length may be the same: `false` only if they differ. It compares eight bytes at a
+/// time, and is seldom `true` for different names.
 #[inline(always)]
 fn may_be_same(name: &[u8], other: &[u8]) -> bool
     requires { length name.now ≡ length other.now }

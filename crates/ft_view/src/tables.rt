@@ -23,7 +23,7 @@ use crate::sections::regs::check_regs;
 use crate::sections::substs::check_substs;
 use ft_format::{Header, ObjectError, Places};
 
-/// The maximum bytes of an object file.
+/// The maximum number of bytes of an object file.
 const LIMIT: usize = 67108864;
 
 /// The rules of the cells, whose names end within the name bytes.

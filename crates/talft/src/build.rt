@@ -1,4 +1,4 @@
-//! What the installed program is a build of: version, commit and kit.
+//! The build of the installed program: version, commit and kit.
 use ft_edge::{FolderShelf, Load, Shelf};
 use std::alloc::Global;
 use std::fs;
@@ -10,7 +10,7 @@ const OWN_FILE: &str = "/proc/self/exe";
 /// Where an installation names its build, in the folder that has `bin`.
 const BUILD: &str = "share/doc/talft/BUILD";
 
-/// The maximum bytes of that file.
+/// The maximum size of that file in bytes.
 const LIMIT: usize = 1024;
 
 /// The name of the file that describes the running program's build.

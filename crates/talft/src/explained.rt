@@ -21,7 +21,7 @@ const NO_TEXT: &str = "talft: error: an argument is not UTF-8 text\n";
 const COMMANDS: &str =
     "talft: note: debugger commands are read from the terminal up to Ctrl-D; `tools/debugger OBJECT` has a prompt and help\n";
 
-/// The maximum bytes of a link map.
+/// The maximum size of a link map in bytes.
 const MAP_LIMIT: usize = 65_536;
 
 /// Whether calls are explained: unless the environment forbids it.

@@ -14,7 +14,8 @@ const MAGIC: &[u8] = b"TALFT";
 /// The system's number for a closed stream.
 const CLOSED: i32 = 9;
 
-/// A writer that remembers why its last write failed. Before an object goes to a terminal it says what that is.
+/// A writer that remembers why its last write failed. Before an object goes to a terminal, it warns that objects are
+/// binary.
 #[derive(Drop)]
 pub(crate) struct Watched<'r, R: Eprint, W: Write> {
     rt: &'r R,
