@@ -19,7 +19,13 @@
     True
     >>> talft.run(data, fault="4:x:6")
     Traceback (most recent call last):
-    ValueError: no plan: fault '4:x:6', wild ''
+    ValueError: invalid fault '4:x:6': expected STEP:SITE:WORD
+    >>> talft.run(data, fault="4:r1:6", wild="x")
+    Traceback (most recent call last):
+    ValueError: no plan: fault '4:r1:6', wild 'x'
+    >>> talft.run("five.obj")
+    Traceback (most recent call last):
+    TypeError: expected the object's bytes, not a name
     >>> talft.recover(data, fault="4:r1:6")[:2]
     ('done', [('out', 5)])
     >>> list(talft.stream(data))
@@ -30,6 +36,9 @@
     >>> counter = talft.compile("cell n = 0; n = n + 1;")
     >>> talft.run(talft.set_cell(counter, 0, 41))
     ('done', [('n', 42)])
+    >>> talft.set_cell(counter, "n", 41)
+    Traceback (most recent call last):
+    TypeError: the cell is a number from 0
     >>> talft.set_cell(counter, 7, 0)
     Traceback (most recent call last):
     IndexError: no cell 7
@@ -41,6 +50,9 @@
     OverflowError: -1 is not from 0 to 2^64 - 1
     >>> talft.campaign(data, "4:r1:6\\n900:r2:7\\n", steps=100)[1]
     ('idle', 0)
+    >>> talft.campaign(data, ["4:r1:6", "900:r2:7"])
+    Traceback (most recent call last):
+    TypeError: faults is one text, a fault per line
     >>> talft.campaign(data, "4:x:6")
     Traceback (most recent call last):
     talft.Refused: list 1 1
@@ -132,7 +144,11 @@ class Refused(ValueError):
 def _load():
     here = os.path.join(os.path.dirname(os.path.abspath(__file__)), "libtalft.so")
     name = os.environ.get("TALFT_LIBRARY") or (here if os.path.exists(here) else "libtalft.so")
-    library = ctypes.CDLL(name)
+    try:
+        library = ctypes.CDLL(name)
+    except OSError as error:
+        told = "not found" if "No such file" in str(error) else f"not loaded ({error})"
+        raise ImportError(f"{name} {told}: build or install it, or set TALFT_LIBRARY") from None
     size, word, text = ctypes.c_size_t, ctypes.c_uint64, ctypes.c_char_p
     why = ctypes.POINTER(_Refusal)
     made = ctypes.POINTER(size)
@@ -171,6 +187,12 @@ def _bytes(data):
     return data.encode() if isinstance(data, str) else bytes(data)
 
 
+def _object(data):
+    if isinstance(data, (str, os.PathLike)):
+        raise TypeError("expected the object's bytes, not a name")
+    return _bytes(data)
+
+
 def _number(value, bits=64):
     """The number itself; ctypes would take the rest modulo 2^bits."""
     value = operator.index(value)
@@ -200,7 +222,7 @@ def _written(function, *asked):
 
 def check(data):
     """Checks an object; raises Refused if it is not accepted."""
-    data, why = _bytes(data), _Refusal()
+    data, why = _object(data), _Refusal()
     status = _LIBRARY.talft_check(data, len(data), ctypes.byref(why))
     if status != _OK:
         _answer(status, why)
@@ -208,19 +230,25 @@ def check(data):
 
 def _run(function, data, steps, fault, wild):
     """What a function that runs an object returns, with an array that grows as needed."""
-    data, room, steps = _bytes(data), 1024, _number(steps)
+    data, room, steps = _object(data), 1024, _number(steps)
     plan = _bytes(fault), _bytes(wild)
     ran, why = _Ran(), _Refusal()
-    while True:
-        out = (_Output * room)()
-        status = function(
-            data, len(data), plan[0], len(plan[0]), plan[1], len(plan[1]), steps, out, room,
+
+    def status_of(struck, answers):
+        return function(
+            data, len(data), struck, len(struck), answers, len(answers), steps, out, room,
             ctypes.byref(ran), ctypes.byref(why),
         )
+
+    while True:
+        out = (_Output * room)()
+        status = status_of(*plan)
         if status != _FULL:
             break
         room *= 4
     if status == _BAD_PLAN:
+        if status_of(plan[0], b"") == _BAD_PLAN and status_of(b"", b"") != _BAD_PLAN:
+            raise ValueError(f"invalid fault {fault!r}: expected STEP:SITE:WORD")
         raise ValueError(f"no plan: fault {fault!r}, wild {wild!r}")
     if status not in _ENDS:
         _answer(status, why)
@@ -248,7 +276,7 @@ def recover(data, steps=1_000_000, fault="", wild=""):
 def stream(data, steps=1_000_000):
     """Checks an object and runs it in slices of steps; gives the name and the word of each output as it comes. How it
     ended ("done", "cut") is the generator's value, as `yield from` gives it."""
-    data, machine, why, ran, steps = _bytes(data), _Machine(), _Refusal(), _Ran(), _number(steps)
+    data, machine, why, ran, steps = _object(data), _Machine(), _Refusal(), _Ran(), _number(steps)
     status = _LIBRARY.talft_open(data, len(data), ctypes.byref(machine), ctypes.byref(why))
     if status != _OK:
         _answer(status, why)
@@ -280,26 +308,28 @@ def assemble(text):
 
 def disassemble(data):
     """The assembly text of an object."""
-    data = _bytes(data)
+    data = _object(data)
     return _written(_LIBRARY.talft_disassemble, data, len(data)).decode()
 
 
 def upgrade(data):
     """The object in version 2 of the format."""
-    data = _bytes(data)
+    data = _object(data)
     return _written(_LIBRARY.talft_upgrade, data, len(data))
 
 
 def schedule(data):
     """The schedule of an object, which must be accepted."""
-    data = _bytes(data)
+    data = _object(data)
     return _written(_LIBRARY.talft_schedule, data, len(data))
 
 
 def set_cell(data, cell, word):
     """The object with another initial word in a cell, which is given by its number and must be of type `int`. It is
     accepted exactly when the object is."""
-    data, why = _bytes(data), _Refusal()
+    data, why = _object(data), _Refusal()
+    if isinstance(cell, str):
+        raise TypeError("the cell is a number from 0")
     out = ctypes.create_string_buffer(data)
     status = _LIBRARY.talft_set_cell(out, len(data), _number(cell, 32), _number(word), ctypes.byref(why))
     if status == _NO_CELL:
@@ -314,7 +344,7 @@ def set_cell(data, cell, word):
 def link(text, modules):
     """The object that a link map links from modules, which are given by the names of their files."""
     text, module = _bytes(text), ctypes.c_uint32(0)
-    pairs = [(_bytes(name), _bytes(data)) for name, data in modules.items()]
+    pairs = [(_bytes(name), _object(data)) for name, data in modules.items()]
     given = (_Module * len(pairs))(*((name, len(name), data, len(data)) for name, data in pairs))
     room, made, why = 4096, ctypes.c_size_t(0), _Refusal()
     while True:
@@ -334,7 +364,9 @@ def link(text, modules):
 def campaign(data, faults, steps=1_000_000, wild=""):
     """Checks an object and tries each fault of a list: for each, in order, its verdict ("masked", "detected", "idle"), and
     the step that detected it, or 0. `faults` is a text of lines such as "4:r1:6"."""
-    data, faults, wild, steps = _bytes(data), _bytes(faults), _bytes(wild), _number(steps)
+    if not isinstance(faults, (str, bytes, bytearray, memoryview)):
+        raise TypeError("faults is one text, a fault per line")
+    data, faults, wild, steps = _object(data), _bytes(faults), _bytes(wild), _number(steps)
     room, totals, why = faults.count(b"\n") + 1, _Totals(), _Refusal()
     out = (_Verdict * room)()
     status = _LIBRARY.talft_campaign(

@@ -7,7 +7,7 @@ import re
 import subprocess
 import tempfile
 
-from common import SITES, VERDICT, Refused, check_object, in_this_process, not_run, program, verdicts
+from common import SITES, VERDICT, Refused, check_object, in_this_process, not_run, program, put, verdicts
 from debugging.sessions import length_of_run
 from messages import named
 
@@ -57,9 +57,8 @@ def check_lines(path, object_file, wild=None):
     if not some:
         return
     steps = max(known for *_, known in some) + 1
-    with tempfile.NamedTemporaryFile("w", suffix=".faults") as faults:
-        faults.write("".join(f"{fault}\n" for _, fault, *_ in some))
-        faults.flush()
+    with tempfile.NamedTemporaryFile(suffix=".faults") as faults:
+        put(faults.name, "".join(f"{fault}\n" for _, fault, *_ in some).encode())
         words = [program(), "survey", object_file, "--faults", faults.name, "--steps", str(steps)]
         try:
             done = subprocess.run(words + (["--wild", wild] if wild else []), stdin=subprocess.DEVNULL,

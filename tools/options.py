@@ -30,12 +30,14 @@ class Once(argparse.Action):
 class Parser(argparse.ArgumentParser):
     """Reads the words of a tool.
 
-    `others` are beginnings of words for another program. `instead` says what to do about one word too many."""
+    `others` are beginnings of words for another program. `instead` says what to do about one word too many, and
+    `elsewhere` about options that other programs have, by their names."""
 
-    def __init__(self, name, about, more, others=(), instead=None, **rest):
+    def __init__(self, name, about, more, others=(), instead=None, elsewhere=None, **rest):
         super().__init__(prog=name, description=about, epilog=more,
                          formatter_class=argparse.RawDescriptionHelpFormatter, **rest)
         self.others, self.given, self.spare, self.instead = tuple(others), set(), set(), instead
+        self.elsewhere = elsewhere or {}
         for action in (None, "store"):
             self.register("action", action, Once)
 
@@ -85,8 +87,20 @@ class Parser(argparse.ArgumentParser):
         """Refuses an option, and names those that may be meant."""
         if name in OUTPUT and not set(OUTPUT).intersection(self.options()):
             self.error(f"unknown option {quoted(name)}: {self.prog} writes to standard output: add `>FILE`")
+        if name in self.elsewhere:
+            self.error(f"unknown option {quoted(name)}: {self.elsewhere[name]}")
         passed = f"; only {listed(self.others, 'and')} are passed on" if self.others else ""
-        self.error(f"unknown option {quoted(name)}{near('--' + name.strip('-'), self.options()) or passed}")
+        self.error(f"unknown option {quoted(name)}{self.meant(name) or passed}")
+
+    def meant(self, name):
+        """What the author of an unknown option may have meant, to be appended to the message; or nothing."""
+        short = re.fullmatch(r"-([a-zA-Z]{1,2})(\d*)", name)
+        if not short:
+            return near("--" + name.strip("-"), self.options())
+        # One or two letters are near to too many names: only those that begin with them are meant.
+        found = [f"{option} {short[2]}".rstrip() for action in self._actions for option in action.option_strings
+                 if option.startswith("--" + short[1]) and not (short[2] and action.nargs == 0)]
+        return f"; did you mean {listed(found)}?" if found and not self.others else ""
 
     def told_name(self, name):
         """An option or a word as messages name it, and what its value is called."""

@@ -109,6 +109,11 @@ else
   skip 'a disk that fills' 'the system lets no user mount'
 fi
 
+# The copy of the object is named, not the object that is read.
+"$top/talft" compile "$top/examples/sieve.src" >limit.obj
+head -n 1 list >one.list
+report 'a limit on files' '1 campaign: limited/object: file too large' "$(ulimit -f 1
+  "$top/tools/campaign" limit.obj --faults one.list --dir limited 2>said; echo "$? $(tail -n 1 said)")"
 refuses 'another campaign in the same folder' \
   'campaign: here: it holds another campaign: give another --dir, or remove it' \
   campaign fibonacci.obj --faults piece.aa --steps "$most" --dir here

@@ -31,10 +31,15 @@ report 'a recorded session is a plain script' "$(printf '%s\n' "${commands[@]}")
 report 'which anybody can run again' 'at 14 done' "$("$top/talft" debug "$five" <script | tail -n 1)"
 report 'a plain script is a source of commands' 'at 12 detected|at 14 done' \
   "$(session "$five" "source $work/script" | kept '^at 1')"
-report 'a record overwrites no file' "$work/script: exists already, and is kept; give another file" \
+report 'a record overwrites no file' "line 1: $work/script: exists already, and is kept; give another file" \
   "$(session "$five_text" "record $work/script" step | grep script)"
 report 'the file is as it was' 8 "$(wc -l <script)"
 report 'a refused command is told by the status' 1 "$(session "$five_text" nonsense >said; echo $?)"
+report 'the line of a refused command' 'line 3: unknown command `regg`; `help` lists the commands|'\
+'line 6: missing site or word, as in `zap r1 6`' "$(session "$five_text" 'step 4' 'reg r1' 'regg r2' '' '# words' zap 'step 4' |
+  kept '^line')"
+report 'a refused command after -c has no line' 'unknown command `regg`; `help` lists the commands' \
+  "$("$top/tools/debugger" "$five_text" -c 'regg r2' </dev/null | tail -n 1)"
 report 'no refused command' 0 "$(session "$five_text" step >said; echo $?)"
 report 'no colours in a pipe' 0 "$(session "$five_text" 'info registers' 'zap r1 9' explain | grep -c $'\e')"
 report 'reverse-next, reverse-continue and undo' 'at 12 running|at 10 running|at 4 running|at 10 running' \
@@ -47,7 +52,7 @@ report 'conditions, hits, until and finish' \
     grep -oE '^(at (296|120|208).*|  a: r0 G 2,.*)|3 hits so far' | paste -sd '|')"
 report 'lines of a source' '5 6 8 9 10 13 14 15' "$(session "$debugging/lines.src" line line line line line line line |
   sed -n 's/.*, lines.src:\([0-9]*\))$/\1/p' | paste -sd ' ')"
-report 'a variable is struck in one colour' '`i` is a variable: strike its green word in r3, or its blue one in r35' \
+report 'a variable is struck in one colour' 'line 1: `i` is a variable: strike its green word in r3, or its blue one in r35' \
   "$(session "$fibonacci" 'zap i 1' | tail -n 1)"
 
 refuses 'a missing object of the debugger' 'debugger: /nowhere: no such file' debugger /nowhere
@@ -77,7 +82,7 @@ replace() {
 report 'a program that is replaced' 'replaced.asm was replaced: this session keeps what it read at its start' \
   "$(>said; replace | "$top/tools/debugger" replaced.asm >said; grep was.replaced said)"
 report 'a position that is too far' \
-  'the position 99999999999999999999 is too far: a session ends at 3000000000' \
+  'line 1: the position 99999999999999999999 is too far: a session ends at 3000000000' \
   "$(session "$five_text" 'goto 99999999999999999999' | tail -n 1)"
 report 'a fault that is too far ahead' 'at 14 done' \
   "$(echo c | "$top/tools/debugger" "$five_text" --fault 99999999999999999999:r1:6 | grep '^at 1')"
@@ -97,10 +102,11 @@ sleep 0.5
 report 'a killed tool leaves nothing running' 'found ' "${call:+found} $(ps -o stat= -p "${call:-0}" | grep -v Z)"
 report 'ten million steps' 'at 10000000 running' "$(session endless.obj 'goto 10000000' | grep '^at 1')"
 
-# `says NAME COMMANDS SAID` compares the last line of what the prompt writes of these commands, over $program.
+# `says NAME COMMANDS SAID` compares the last line of what the prompt writes of these commands, over $program. The line of a
+# refused one is left out.
 says() {
   local name=$1 commands=$2 said=$3
-  report "$name" "$said" "$(printf '%b\n' "$commands" | "$top/tools/debugger" "$program" 2>&1 | tail -n 1)"
+  report "$name" "$said" "$(printf '%b\n' "$commands" | "$top/tools/debugger" "$program" 2>&1 | tail -n 1 | sed 's/^line [0-9]*: //')"
 }
 program=$five_text
 says 'no number' 'goto abc' 'invalid number `abc`: expected decimal digits, or hex as 0x10'
@@ -297,6 +303,14 @@ report 'the adapter for editors' '0 failed' "$(sed 's/.* passed, \(.*\);.*/\1/' 
 
 refuses 'a screen without a terminal' 'debugger: --tui needs a terminal for standard input and output' \
   debugger "$five_text" --tui
+if has script 'terminals that cannot show the screen'; then
+  for term in dumb '' unheard-of; do
+    report "a screen on the terminal <$term>" \
+      "debugger: --tui: the terminal \`$term\` cannot show it: set TERM, or leave --tui out|status 1" \
+      "$(TERM=$term timeout 60 script -qec "$top/tools/debugger $five_text --tui; echo status \$?" /dev/null </dev/null |
+        tr -d '\r' | paste -sd '|')"
+  done
+fi
 if has tmux 'the screen and the prompt in a terminal'; then
   # `on LINE..` is what keys.sh writes of these lines.
   on() { printf '%s\n' "$@" | bash "$debugging/keys.sh" 100 30 "$keyed"; }

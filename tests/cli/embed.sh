@@ -1,6 +1,16 @@
 # The C library, from the archive that the gate proved: the loader compared with the command, the task, Python, and C++.
 library=$top/crates/ft_c/out/library
 embed=(-std=c99 -Wall -Wextra -Werror -pedantic -O2 -I"$top/include")
+# Without the library, the module is missing too.
+imported() { TALFT_LIBRARY=$1 PYTHONPATH=$top/embed python3 -B -c 'import talft' 2>&1 | tail -n 1; }
+[ -e "$top/embed/libtalft.so" ] || ldconfig -p | grep -q libtalft.so || report 'no library for Python' \
+  'ImportError: libtalft.so not found: build or install it, or set TALFT_LIBRARY' "$(imported '')"
+report 'no library where it should be' \
+  "ImportError: $work/none.so not found: build or install it, or set TALFT_LIBRARY" "$(imported "$work/none.so")"
+echo text >"$work/text.so"
+report 'a library that is none' \
+  "ImportError: $work/text.so not loaded ($work/text.so: file too short): build or install it, or set TALFT_LIBRARY" \
+  "$(imported "$work/text.so")"
 if has cc 'the C library' && has ar 'the C library'; then
   report 'the C library is made' 0 "$(bash "$top/build/library.sh" >embed.said 2>&1; echo $?)"
   report 'what the shared library shows' "$(sed -n 's/^\(uint32_t\|void\) \(talft_[a-z_]*\)(.*/\2/p' "$top/include/talft.h" |
@@ -48,6 +58,30 @@ if has cc 'the C library' && has ar 'the C library'; then
   printf 'module a.obj\nexport x 900\n' >embed_map
   report 'a link that is refused' "$("$top/talft" link embed_map 2>/dev/null)" "$(beside link embed_map a.obj)"
   report 'Python' '' "$(cd "$library" && TALFT_LIBRARY=$library/libtalft.so python3 -m doctest talft.py 2>&1)"
+  while IFS='|' read -r asked told; do
+    report "Python: $asked" "$told" "$(TALFT_LIBRARY=$library/libtalft.so PYTHONPATH=$library python3 -B -c "import talft
+five = open('$top/examples/five.obj', 'rb').read()
+talft.$asked" 2>&1 | tail -n 1)"
+  done <<'END'
+run(five, fault='4:r1')|ValueError: invalid fault '4:r1': expected STEP:SITE:WORD
+recover(five, fault='4:r64:6')|ValueError: invalid fault '4:r64:6': expected STEP:SITE:WORD
+run(five, fault='4:r1', wild='z')|ValueError: invalid fault '4:r1': expected STEP:SITE:WORD
+run(five, fault='4:r1:6', wild='z')|ValueError: no plan: fault '4:r1:6', wild 'z'
+run(five, fault='99:r1:6', steps=9)|
+check('five.obj')|TypeError: expected the object's bytes, not a name
+check(__import__('pathlib').Path('five.obj'))|TypeError: expected the object's bytes, not a name
+recover('five.obj')|TypeError: expected the object's bytes, not a name
+disassemble('five.obj')|TypeError: expected the object's bytes, not a name
+upgrade('five.obj')|TypeError: expected the object's bytes, not a name
+schedule('five.obj')|TypeError: expected the object's bytes, not a name
+set_cell('five.obj', 0, 5)|TypeError: expected the object's bytes, not a name
+stream('five.obj').__next__()|TypeError: expected the object's bytes, not a name
+campaign('five.obj', '4:r1:6')|TypeError: expected the object's bytes, not a name
+link('module five.obj', {'five.obj': 'five.obj'})|TypeError: expected the object's bytes, not a name
+campaign(five, ['4:r1:6'])|TypeError: faults is one text, a fault per line
+campaign(five, {'4:r1:6'})|TypeError: faults is one text, a fault per line
+set_cell(five, 'out', 5)|TypeError: the cell is a number from 0
+END
   # The tools use the library if it is installed, otherwise the program: the same answers, with fewer processes.
   mkdir embed_kit && cp -r "$top/tools" embed_kit/tools && cp "$library/talft.py" embed_kit/tools
   printf '#!/bin/sh\necho "$1" >>"%s"\nexec "%s" "$@"\n' "$PWD/embed_calls" "$top/talft" >embed_kit/talft

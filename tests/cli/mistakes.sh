@@ -29,6 +29,13 @@ done <<END
 2|build five.asm --uncheked|build: unknown option \`--uncheked\`; did you mean \`--unchecked\`?
 2|build five.asm one.src|build: unexpected argument \`one.src\`: the object's name comes after \`-o\`
 2|debugger five.obj list|debugger: unexpected argument \`list\`: commands come after \`-c\`, or from standard input
+2|debugger five.asm -x e1|debugger: unknown option \`-x\`: commands come after \`-c\`, or from standard input
+2|debugger -ex run five.asm|debugger: unknown option \`-ex\`: commands come after \`-c\`, or from standard input
+2|campaign five.obj -j4 --faults list|campaign: unknown option \`-j4\`; did you mean \`--jobs 4\`?
+2|campaign five.obj -j 4 --faults list|campaign: unknown option \`-j\`; did you mean \`--jobs\`?
+2|campaign five.obj -x4 --faults list|campaign: unknown option \`-x4\`
+2|plot lines --out p --format jpg|plot: unknown option \`--format\`: --out NAME.png or NAME.svg chooses the format
+2|cc one.c -o x.obj -s|cc: unknown option \`-s\`; only \`-O\`, \`-I\`, \`-D\`, \`-U\`, \`-W\`, \`-f\`, \`-g\`, \`-m\`, \`-std=\` and \`-w\` are passed on
 2|build five.asm -o a.obj -o b.obj|build: \`-o\` is given twice
 2|build five.asm -o|build: \`-o\` needs a value, OBJECT
 2|build five.asm —unchecked|build: \`—unchecked\` begins with a typographic dash: write \`--unchecked\`
@@ -164,9 +171,16 @@ refuses_clang mine '`mine.h` is not found: give its folder with -I'
 refuses_clang symbols \
   '`printf` and `exit` are not defined: add the C file that defines them, or do without: there is no C library (docs/C.md)'
 refuses_clang linker 'the linker wasm-ld is not found: install lld'
+echo 'clang: error: unable to make temporary file: No such file or directory' >unable
+CLANG=$PWD/clang CLANG_SAYS=$PWD/unable TMPDIR=/nonexistent refuses 'a folder TMPDIR that is missing' \
+  'cc: clang cannot make a temporary file: TMPDIR is `/nonexistent`: set it to a folder that can be written' cc one.c -o x.obj
+CLANG=$PWD/clang CLANG_SAYS=$PWD/unable TMPDIR='' TMP='' TEMP='' TEMPDIR='' refuses 'a folder /tmp that cannot be written' \
+  'cc: clang cannot make a temporary file: /tmp cannot be written: set TMPDIR to a folder that can be written' cc one.c -o x.obj
 if has clang 'the functions of a C file' && has wasm-ld 'the functions of a C file'; then
   printf 'int x;\nint foo(void) { return x + 1; }\nvoid step(int a) { x = a; }\n' >two.c
   echo 'static int x;' >nothing.c
+  TMPDIR=/nonexistent refuses 'a folder TMPDIR that clang does not find' \
+    'cc: clang cannot make a temporary file: TMPDIR is `/nonexistent`: set it to a folder that can be written' cc two.c -o x.obj
   refuses 'a C file without an entry' 'cc: two.c: defines no function `run` or `main`; use --entry with `foo` or `step`' \
     cc two.c -o x.obj
   refuses 'an entry that is misspelled' 'cc: two.c: defines no function `fooo`; did you mean `foo`?' \
@@ -206,7 +220,7 @@ long=$(printf 'r%.0s' {1..5000})
 refuses 'a site that is long' "faults: --sites: unknown site \`${long:0:58}..\`: the sites are $five_sites" \
   faults five.obj --sites "$long"
 refuses 'a name that is too long' "build: ${long:0:99}..${long:0:99}: the name is too long" build "$long"
-report 'an escape at the prompt' 'invalid number `\x1b[31m`: expected decimal digits, or hex as 0x10' \
+report 'an escape at the prompt' 'line 1: invalid number `\x1b[31m`: expected decimal digits, or hex as 0x10' \
   "$(printf 'zap r1 \e[31m\n' | "$top/tools/debugger" five.obj 2>&1 | tail -n 1)"
 if [ "$(id -u)" != 0 ]; then
   cp five.obj secret.obj
@@ -221,9 +235,47 @@ for row in 'stepp|unknown command `stepp`; did you mean `step`?; `help` lists th
   'print ou|unknown name `ou`: expected a register (r0 to r63, d, pcg, pcb), a part of the queue (qa0 to qv7) or a cell; did you mean `out`?' \
   'plan 4:r1|invalid fault `4:r1`: expected STEP:SITE:WORD, such as 4:r1:6' \
   'delete 7|no breakpoint or watch has the number 7: `info breaks` lists them' 'source nosuch|nosuch: no such file' \
-  'source folder|folder: is a folder' 'zap r1|missing site or word, as in `zap r1 6`'; do
-  report "the command ${row%%|*}" "${row#*|}" "$(echo "${row%%|*}" | "$top/tools/debugger" five.obj 2>&1 | tail -n 1)"
+  'source folder|folder: is a folder' 'zap r1|missing site or word, as in `zap r1 6`' \
+  'zap r1 = 6|write `zap r1 6`, without `=`' 'zap r1=6|write `zap r1 6`, without `=`' 'flip r1 =0|write `flip r1 0`, without `=`' \
+  'zap r1=|missing site or word, as in `zap r1 6`' 'zap r1 6 = 7|unexpected argument `=`'; do
+  report "the command ${row%%|*}" "line 1: ${row#*|}" "$(echo "${row%%|*}" | "$top/tools/debugger" five.obj 2>&1 | tail -n 1)"
 done
+
+# No temporary folder: Python is told to try only one that is missing.
+mkdir no_temporary
+printf 'import tempfile\ntempfile._candidate_tempdir_list = lambda: ["/nonexistent"]\n' >no_temporary/sitecustomize.py
+while read -r words; do
+  # shellcheck disable=SC2086
+  report "no temporary folder: $words" \
+    "1 ${words%% *}: no temporary folder can be written (/tmp, /var/tmp, ..): set TMPDIR" \
+    "$(PYTHONPATH=$PWD/no_temporary "$top"/tools/$words 2>said >/dev/null </dev/null; echo "$? $(cat said)")"
+done <<'END'
+set five.obj out=5 -o x.obj
+cc one.c -o x.obj
+explain five.obj --fault 4:r1:6
+debugger five.obj -c where
+plot lines
+report lines --object five.obj
+ending five.obj --text five.asm
+END
+# A limit on files: the one that is written is named. `TEMP` is a name that the tool makes up.
+"$top/talft" compile "$top/examples/sieve.src" >big.obj
+"$top/talft" dis big.obj >big.asm
+while IFS='|' read -r words told; do
+  # shellcheck disable=SC2086
+  report "a limit on files: $words" "${words%% *}: $told" "$(ulimit -f 1
+    TMPDIR=$PWD/folder TALFT=$top/talft "$top"/tools/$words 2>&1 >/dev/null </dev/null | tail -n 1 |
+      sed "s|$PWD/folder/tmp[a-z0-9_]*|TEMP|; s|$PWD/||")"
+done <<'END'
+set big.obj prime=5 -o x.obj|TEMP/object: file too large
+ending big.obj --text big.asm|TEMP.obj: file too large
+debugger big.asm -c where|the copy of big.asm in memory: file too large
+explain five.obj --fault 4:r1:6|a temporary file in folder: file too large
+plot lines --out limited.svg|TEMP/picture: file too large
+build big.asm -o x.obj|x.obj: `talft asm`: killed by signal 25: file too large
+END
+report 'standard output that is limited' 'faults: standard output: file too large' \
+  "$(ulimit -f 1; "$top/tools/faults" big.obj --flip all --sample 999 2>&1 >limited | tail -n 1)"
 
 # On a terminal, an object is not written, and an error starts a new line.
 if has script 'mistakes on a terminal'; then
@@ -237,6 +289,9 @@ if has script 'mistakes on a terminal'; then
     "$(on_terminal "$top/tools/campaign five.obj --faults bad --dir terminal.kept" | tail -n 1 | sed 's/.*\x1b\[K//; s/: expected.*//')"
   report 'the prompt on a terminal' 'unknown command `stepp`; did you mean `step`?; `help` lists the commands' \
     "$(on_terminal "$top/tools/debugger five.obj -c stepp -c quit" | grep unknown | sed 's/\x1b\[[0-9;]*m//g')"
+  report 'a typed command has no line' 'unknown command `stepp`; did you mean `step`?; `help` lists the commands' \
+    "$(printf 'stepp\nquit\n' | timeout 60 script -qec "$top/tools/debugger five.obj" /dev/null | tr -d '\r' |
+      sed 's/\x1b\[[0-9;?]*[a-z]//g' | grep unknown)"
 fi
 
 # Standard streams that are closed.

@@ -5,7 +5,7 @@ from common import Refused
 from debugging import breaks, explaining, stepping, views
 from debugging.commands_shown import Shown
 from debugging.help import ALONE, ELSEWHERE, HELP, SHORT
-from debugging.reading import no_more, number, one_word, word_of
+from debugging.reading import no_more, no_sign, number, one_word, word_of
 from messages import listed, named, near, quoted, reason
 
 # How many outputs of a move are printed, and the longest move whose changes are printed.
@@ -261,12 +261,14 @@ class Commands(Shown):
         self.displayed = [name for name in self.displayed if words and name not in words]
 
     def do_zap(self, words):
+        no_sign("zap", words)
         if len(words) < 2:
             raise Refused("missing site or word, as in `zap r1 6`")
         no_more(words[2:])
         self.struck(words[0], self.session.zap(words[0], word_of(words[1])))
 
     def do_flip(self, words):
+        no_sign("flip", words)
         if len(words) < 2:
             raise Refused("missing site or bit, as in `flip r1 0`")
         no_more(words[2:])

@@ -27,6 +27,13 @@ def no_more(words, command=None):
         raise Refused(f"unexpected argument {quoted(words[0])}" + (f": `{command}` takes none" if command else ""))
 
 
+def no_sign(command, words):
+    """Refuses an equals sign between a site and its word."""
+    parts = " ".join(words).replace("=", " ", 1).split()
+    if any("=" in word for word in words) and len(parts) == 2:
+        raise Refused(f"write {quoted(f'{command} {parts[0]} {parts[1]}')}, without `=`")
+
+
 def fault_joined(words):
     """The words of a command line, so that a fault that begins with a dash is not mistaken for an option."""
     joined = []

@@ -11,6 +11,7 @@ from debugging.commands import MOST_TO_END, Commands, Quit
 from debugging.help import AGAIN
 from debugging.panes import Panes
 from debugging.sessions import Interrupted
+from messages import quoted
 
 HELP = ["n p        one machine step forward, back (arrows right and left, too)",
         "N P        ten machine steps",
@@ -225,10 +226,23 @@ def wrapped(line, width):
                          break_on_hyphens=False) or [""]
 
 
+def check_terminal():
+    """Refuses a terminal that is unknown, or cannot move its cursor."""
+    try:
+        curses.setupterm()
+        is_able = curses.tigetstr("cup") is not None
+    except curses.error:
+        is_able = False
+    if not is_able:
+        raise Refused(f"--tui: the terminal {quoted(os.environ.get('TERM', ''))} cannot show it: set TERM, or leave --tui "
+                      "out")
+
+
 def show(session):
     """Runs the full screen."""
     if not (sys.stdin.isatty() and sys.stdout.isatty()):
         raise Refused("--tui needs a terminal for standard input and output")
+    check_terminal()
     os.environ.setdefault("ESCDELAY", "25")
 
     def begin(window):

@@ -10,7 +10,7 @@ import subprocess
 import tempfile
 import threading
 
-from common import Refused, not_run, program, why
+from common import Refused, naming, not_run, program, why
 from messages import named
 from debugging.leaving import RUNNING, end_with_parent
 from debugging.machine import REGISTERS, cell_number
@@ -106,7 +106,7 @@ class Calls:
         target = self.target
         words = [target.program, "debug", target.object_file] + (["--wild", target.wild] if target.wild else [])
         # A file, not a pipe: `communicate` forgets its remaining input when it is called again after a timeout.
-        with tempfile.TemporaryFile("w+") as script:
+        with naming(f"a temporary file in {tempfile.gettempdir()}"), tempfile.TemporaryFile("w+") as script:
             script.write("".join(line + "\n" for line in lines))
             script.seek(0)
             try:

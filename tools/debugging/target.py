@@ -4,7 +4,7 @@ import re
 import shlex
 import subprocess
 
-from common import Refused, in_this_process, not_run, program, why
+from common import Refused, in_this_process, naming, not_run, program, why
 from debugging.listing import Listing
 from debugging.machine import cell_number
 from debugging.source_lines import lines_of
@@ -84,7 +84,7 @@ class Target:
             data = asked_of([self.program, "asm" if self.kind == "text" else "compile", path])
         self.file = os.memfd_create("object")
         self.object_file = f"/proc/self/fd/{self.file}"
-        with open(os.dup(self.file), "wb") as out:
+        with naming(f"the copy of {path} in memory"), open(os.dup(self.file), "wb") as out:
             out.write(data)
         self.text_file = self.source_file = self.source = self.names = self.refused = None
         try:
