@@ -1,5 +1,5 @@
 #!/usr/bin/env python3
-"""Writes docs/CHANGING.md with its lists of files made anew. `tests/cli.sh` checks that the file is so.
+"""Writes docs/CHANGING.md with its lists of files regenerated. `tests/cli.sh` checks that the file is up to date.
 
     python3 docs/changing.py            writes the document
     python3 docs/changing.py --counts   writes how many files each kind of change touches
@@ -11,10 +11,10 @@ and proofs outside comments.
 
 `<!-- cases: CASE.. | CASE.. ; FILE.. -->` begins the files that go by cases: they name at least three quarters of the
 cases of one of the sets between the bars. A new case changes them, as a rule: the prover refuses a match without it,
-and a table lacks its row. A file that names fewer, one as an example or two apart from all others, stays as it is.
-The sets are the same cases as different layers call them.
+and a table lacks its row. A file that names fewer has a last clause for the others, and changes only if that does not
+fit. The sets are the same cases as different layers call them.
 
-FILE.. are files that must change and name no case, but its number or a limit on numbers.
+FILE.. are other files that must change: they hold the case's number, a limit on numbers, its parts or its fields.
 """
 import os
 import re

@@ -1,5 +1,5 @@
 #!/usr/bin/env bash
-# Writes docs/CRATES.md from crates.txt and the head comment of each crate. `tests/cli.sh` checks that the file is so.
+# Writes docs/CRATES.md from crates.txt and the crates' head comments. `tests/cli.sh` checks that it is up to date.
 set -eu
 cd "$(dirname "$0")/.."
 

@@ -250,7 +250,7 @@ def promises(trace):
 
 
 def short(paths):
-    """Paths in little room: many of one folder are counted."""
+    """Paths in short: many of one folder are only counted."""
     folders = collections.defaultdict(list)
     for path in paths:
         folders[os.path.dirname(path)].append(path)
@@ -321,7 +321,7 @@ def document(trace):
 
 
 def back(name, parts):
-    """A function with its clauses and the requirements of each, in little room."""
+    """A function with its clauses and the requirements of each, in short."""
     same = {tuple(found) for _, found in parts}
     if len(same) == 1:
         return f"`{name}` {', '.join(same.pop())}"

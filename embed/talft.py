@@ -266,7 +266,7 @@ def run(data, steps=1_000_000, fault="", wild=""):
 
 
 def recover(data, steps=1_000_000, fault="", wild=""):
-    """Checks an object and runs it; if the fault is detected, runs it again without the fault. Gives how the run
+    """Checks an object and runs it; if the fault is detected, runs it again without the fault. Returns how the run
     without the fault ended ("done", "cut"), its outputs, and how many of them the first run had committed when it was
     detected, or None."""
     end, outputs, ran = _run(_LIBRARY.talft_recover, data, steps, fault, wild)
@@ -274,8 +274,8 @@ def recover(data, steps=1_000_000, fault="", wild=""):
 
 
 def stream(data, steps=1_000_000):
-    """Checks an object and runs it in slices of steps; gives the name and the word of each output as it comes. How it
-    ended ("done", "cut") is the generator's value, as `yield from` gives it."""
+    """Checks an object and runs it in slices of steps; yields the name and the word of each output as it comes. How it
+    ended ("done", "cut") is the generator's value, as `yield from` returns it."""
     data, machine, why, ran, steps = _object(data), _Machine(), _Refusal(), _Ran(), _number(steps)
     status = _LIBRARY.talft_open(data, len(data), ctypes.byref(machine), ctypes.byref(why))
     if status != _OK:

@@ -3,14 +3,16 @@
 # of it, under a native stack of 1 MB. Writes one row for each, as in tests/limits.tsv:
 #     bash tests/limits.sh >tests/limits.tsv
 # Words are patterns for the names of rows (limits.py list). A row fails if the status or the last line is wrong, if there is a
-# crash message, if the program takes more than 1.5 GB, or if time or memory grow faster than the work. It takes ten minutes,
-# needs Python 3 and GNU time, and is not part of the gate.
+# crash message, if the program takes more than 1.5 GB, or if time or memory grow faster than the work. Time and memory are
+# those without an explanation; each full row is then run once more with one. It takes ten minutes, needs Python 3 and GNU
+# time, and is not part of the gate.
 set -u
 top=$(cd "$(dirname "$0")/.." && pwd)
 work=$(mktemp -d)
 trap 'rm -rf "$work"' EXIT
 program=$top/crates/talft/out/talft
 bash "$top/build/prove.sh" >&2 || exit
+export TALFT_EXPLAIN=0
 failed=0
 
 fails() {
@@ -44,6 +46,18 @@ measure() {
   [ "$peak" -le 1500000 ] || fails "$1: $peak KB"
 }
 
+# Runs the program once more on the input of the last row, with an explanation on standard error.
+explain() {
+  local again peak
+  TALFT_EXPLAIN=1 sh -c 'ulimit -s 1024 && exec "$@"' sh /usr/bin/time -q -o peak -f %M timeout 900 "$program" "${row[@]:6}" \
+    <stdin >out 2>errors
+  again=$?
+  peak=$(tail -n 1 peak)
+  [ "$again" = "$status" ] || fails "explained: status $again, not $status"
+  [ "$(tail -n 1 out | tr -d '\0' | cut -c1-100)" = "$said" ] || fails "explained: <$(tail -n 1 out | cut -c1-100)>, not <$said>"
+  [ "$peak" -le 1500000 ] || fails "explained: $peak KB"
+}
+
 seconds() {
   printf '%d.%03d' $(($1 / 1000)) $(($1 % 1000))
 }
@@ -62,6 +76,7 @@ show() {
   factor=$((2 ** row[2]))
   [ "$time" -le $((14 * factor * half[1] / 10 + 60)) ] || fails "time grows from ${half[1]} to $time ms"
   [ "$peak" -le $((13 * factor * half[2] / 10 + 4000)) ] || fails "memory grows from ${half[2]} to $peak KB"
+  explain
   [ "${row[4]}" != '*' ] || said=
   printf '%s\t%s\t%s\t%s\t%s\t%s\t%s\t%d\t%s\t%s\t%d\n' "$command" "${row[0]}" "${row[5]}" "$status" "$said" "${row[1]}" \
     "$(seconds "$time")" "$(megabytes "$peak")" "${half[0]}" "$(seconds "${half[1]}")" "$(megabytes "${half[2]}")"

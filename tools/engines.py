@@ -59,7 +59,7 @@ def built(name):
 
 
 def local(campaign, asked, progress):
-    """So many parts at once on this machine. The next part begins before an answer is taken."""
+    """Runs several parts at once on this machine. The next part begins before an answer is taken."""
     waiting, running, ended, jobs = campaign.left(), {}, [], asked.jobs or os.cpu_count()
     campaign.called = built(campaign.called)
     try:

@@ -45,7 +45,7 @@ def wrong_folder(path):
     folder = os.path.dirname(path)
     if not folder or os.path.isdir(folder):
         return ""
-    # What has no folder either is not the part to name.
+    # Names the outermost part that is missing.
     while os.path.dirname(folder) and not os.path.exists(folder) and not os.path.isdir(os.path.dirname(folder)):
         folder = os.path.dirname(folder)
     return f"{quoted(folder)} is not a folder" if os.path.exists(folder) else f"there is no folder {quoted(folder)}"

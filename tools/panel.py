@@ -88,7 +88,7 @@ class Grid:
         self.sort()
 
     def raster(self, colours, blank):
-        """The cells as dots, from the bottom row to the top one: as many high as the picture has, and one across."""
+        """The cells as dots, from the bottom row to the top one: each as high as in the picture, and one dot across."""
         # Gnuplot draws no image with a single column.
         twice = 2 if self.columns == 1 else 1
         out = bytearray()

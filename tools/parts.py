@@ -13,7 +13,7 @@ MOST_FAULTS, MOST_PRODUCT = 65_536, 1_000_000_000
 WORTH = 4_096
 FAULT = re.compile(r"(0|[1-9]\d{0,19}):(?:%s):(0|[1-9]\d{0,19})" % "|".join(SITES))
 VERDICT_OF_LINE = re.compile(rb" (?:masked|idle|corrupt|detected \d{1,20})$", re.MULTILINE)
-# So many files are written at once: a disk takes them together.
+# How many files are written at once: a disk takes them together.
 AT_ONCE = 8
 
 
@@ -38,7 +38,7 @@ def write(path, data):
 
 
 def write_all(files):
-    """Writes files, of which each comes with its name: whole or not at all. Few of them are held in memory."""
+    """Writes files, each with its name, completely or not at all. Only a few at a time are held in memory."""
     with ThreadPoolExecutor(AT_ONCE) as pool:
         begun = collections.deque()
         for path, data in files:
@@ -50,7 +50,7 @@ def write_all(files):
 
 
 def not_kept(path, error):
-    """What is told where a file of the campaign cannot be written."""
+    """The error for a file of the campaign that cannot be written."""
     return Refused(f"{named(path)}: {reason(error)}; finished parts are kept: run the same command again to continue")
 
 

@@ -2,7 +2,7 @@
 """Makes random C programs, and compiles them with tools/cc: `programs.py FIRST COUNT`.
 
 Each is also compiled by gcc, and run. It must write the lines of `out` and `other` that the object's run writes. Levels
-of optimisation take turns. The same number gives the same program."""
+of optimization take turns. The same number gives the same program."""
 import os
 import random
 import subprocess

@@ -274,9 +274,17 @@ cell a[n] = 0;|1:8: error: unexpected `n`: expected a number
 cell out = -1;|1:12: error: unexpected `-`: numbers have no sign: -1 is 18446744073709551615 (2^64 - 1)
 cell out = 0;\nif (out <= 3) { out = 1; }|2:10: error: unexpected `=`: write `(b < a) == 0` for `a <= b`
 cell out = 0;\ncell b = 0\nb = 1;|2:11: error: expected `;` after `0`
+cell out = 0;\nout = f(3);|2:8: error: unexpected `(`: there are no calls or macros
+cell out = 0;\nf(3);|2:2: error: unexpected `(`: there are no calls or macros, and the only loop is `while`
+cell out = 0;\nprintln!("{}", 3);|2:8: error: unexpected character `!`: there are no calls or macros: an assignment to a cell is the output
+cell out = 0;\nassert!(out);|2:7: error: unexpected character `!`: there are no calls or macros
+cell out = 0;\nif (out !=(3)) { out = 1; }|2:9: error: unexpected character `!`: write `(a == b) == 0` for `a != b`
+cell out\xc2\xa0= 0;|1:9: error: unexpected U+00A0, a no-break space, which looks like a space: write a space
+cell out = 0;\nout =\xe3\x80\x805;|2:6: error: unexpected U+3000, an ideographic space, which looks like a space: write a space
+cell out\xe2\x80\x8b = 0;|1:9: error: unexpected U+200B, a zero width space, which is invisible: remove it
 END
 while IFS='|' read -r line message; do
-  printf 'cell out int 0\nnode 0 memory\ntype 0 0\nblock 0\n%s\nhalt\nentry 0\n' "$line" >habit.asm
+  printf 'cell out int 0\nnode 0 memory\ntype 0 0\nblock 0\n%b\nhalt\nentry 0\n' "$line" >habit.asm
   report "what is said of \`$line\`" "habit.asm:5:$message" "$(habit_in asm habit.asm)"
 done <<'END'
 mov r1 G out ref:int|10: error: invalid `out`: numbers are decimal digits, as in `42`; the address of this cell is 1048576
@@ -300,6 +308,19 @@ rem r1 r2 r3|1: error: unknown instruction `rem`: there is no division; `idx` ta
 not r1|1: error: unknown instruction `not`: write `xor` with 18446744073709551615 (2^64 - 1), as in `xor r1 r1 G 18446744073709551615`
 adc r1 r2 r3|1: error: unknown instruction `adc`; did you mean `add`?
 rep|1: error: unknown instruction `rep`: `man talft-assembly` lists the instructions
+HALT|1: error: unknown instruction `HALT`; did you mean `halt`?
+st r1 r2|1: error: unknown instruction `st`: write `st_G` for green or `st_B` for blue
+idx r1 r2 0|12: error: missing LENGTH: `idx` is followed by R R FIRST LENGTH
+jmp_B r1|9: error: missing MEMORY, the number of a node: `jmp_B` is followed by R MEMORY ROW ..
+bz_B r1 r2 0 r3|14: error: invalid `r3`: numbers are decimal digits, as in `42`
+node 0 mem|8: error: invalid `mem`: a node is `word`, `var`, `sel`, `memory`, `upd`, `rem` or an operation; did you mean `memory`?
+node 0 foo 1 2|8: error: invalid `foo`: a node is `word`, `var`, `sel`, `memory`, `upd`, `rem` or an operation
+node 0 var 256|12: error: invalid `256`: the largest number here is 255
+node 0 rem 1|13: error: missing LENGTH: `node` is followed by SCOPE, a kind and its operands, as in `node 0 word 5`
+node 0 xor 1 2 3|16: error: unexpected `3`: nothing may follow on this line
+mov\xc2\xa0r1 G 5 int|4: error: unexpected U+00A0, a no-break space, which looks like a space: write a space
+mov r1 G 5 int\xe2\x80\x89|15: error: unexpected U+2009, a thin space, which looks like a space: write a space
+mov r1 G 5 int \xe9|16: error: this line is not UTF-8: write it in ASCII
 END
 printf 'int main() { return 0; }\n' >program.c
 printf '#include <stdio.h>\nint main() { return 0; }\n' >program
@@ -312,6 +333,16 @@ printf 'module five.obj\nexport  next 1\n' >wide.map
 printf '4:r1:6\tdetected 11\n' >tab.faults
 printf '4:\tr1:6\n' >site.faults
 printf '4\tr1\t6\n' >columns.faults
+printf '4:r1:6 10:r1:6\n' >pair.faults
+printf '4:r1:6,10:r1:6\n' >comma.faults
+printf '4:r1:6\n4:\xe91:6\n' >latin.faults
+printf 'module five.obj\nexport n\xe9xt 1\n' >latin.map
+printf 'module five.obj\nimport then -> 2\nexport n\xe9xt 1\n' >arrow.map
+printf 'module five.obj\nexport next 1 first\n' >extra.map
+printf 'module "five.obj"\n' >quoted.map
+printf '4:r1:6\xc2\xa0\n' >space.faults
+head -c 100 five.obj >cut.obj
+head -c 20 five.obj >head.obj
 while IFS='|' read -r words message; do
   # shellcheck disable=SC2086
   report "what is said of \`$words\`" "$message" "$(habit_in $words)"
@@ -352,8 +383,52 @@ link tab.map|tab.map:1:7: error: words are separated by one space, not by a tab
 link wide.map|wide.map:2:8: error: words are separated by one space
 campaign five.obj --faults tab.faults|tab.faults:1:7: error: this line has a verdict after the fault; a fault list has only STEP:SITE:WORD
 campaign five.obj --faults site.faults|site.faults:1:3: error: invalid fault: expected STEP:SITE:WORD; invalid site `	r1`: it contains a tab
+campaign five.obj --faults pair.faults|pair.faults:1:8: error: only one fault per line
+campaign five.obj --faults comma.faults|comma.faults:1:8: error: only one fault per line
+campaign five.obj --faults latin.faults|latin.faults:2:3: error: this line is not UTF-8: write it in ASCII
+campaign five.obj --faults space.faults|space.faults:1:7: error: unexpected U+00A0, a no-break space, which looks like a space: write a space
+campaign five.obj --faults 4:r1:6|4:r1:6: error: this is a fault; `--faults` takes a FILE with one fault per line
+campaign five.obj --faults -|-: error: no such file; for standard input write `/dev/stdin`
+campaign five.obj --faults --steps 5|talft: error: missing FILE after `--faults`
+trial five.obj --fault --steps 5|talft: error: missing STEP:SITE:WORD after `--fault`
+run five.obj --steps --fault 4:r1:6|talft: error: missing N after `--steps`
+check -|-: error: no such file; for standard input write `/dev/stdin`
+check cut.obj|cut.obj: error: the object has 100 bytes, and its header gives 219: it is cut off: copy it again
+check head.obj|head.obj: error: the object has 20 bytes, and its header alone has 48: it is cut off: copy it again
+link latin.map|latin.map:2:9: error: this line is not UTF-8: write it in ASCII
+link arrow.map|arrow.map:2:13: error: unexpected `->`: expected `import NAME B`
+link extra.map|extra.map:2:15: error: unexpected `first`: expected `export NAME B`
+link quoted.map|quoted.map:1:8: error: `"five.obj"`: no such file; names are written without quotes
 campaign five.obj --faults columns.faults|columns.faults:1:2: error: invalid fault: expected STEP:SITE:WORD; invalid step `4	r1	6`: it contains a tab
 END
+"$top/talft" trial five.obj '--fault 4:r1:6' >with 2>said
+report 'what is said of an option and its value in one word' \
+  'talft: error: `--fault 4:r1:6` is one word: write two words' "$(head -n 1 said)"
+
+# Standard output that is a file of the call: a refused call writes its line there, others what they write.
+cp five.asm own.asm && cp five.obj own.obj && cp five.obj module.obj
+printf 'cell a = 0;\na = 1;\n' | tee own.src >read.src
+printf '4:r1:6\n' >own.faults
+printf 'module five.obj\n' >own.map
+printf 'module module.obj\n' >module.map
+while IFS='|' read -r file called words; do
+  # shellcheck disable=SC2086
+  "$top/talft" $words >"$file" 2>said </dev/null
+  report "what is said of \`$words >$file\`" \
+    "$file: $called: standard output is this file, which the shell emptied: give the output another name" "$(cat said)"
+done <<'END'
+own.src|note|compile own.src
+read.src|note|mean read.src
+own.faults|note|campaign five.obj --faults own.faults
+own.asm|error|asm own.asm
+own.obj|error|run own.obj
+own.map|error|link own.map
+module.obj|error|link module.map
+END
+cp mixed.obj own.obj
+"$top/talft" check own.obj >>own.obj 2>said
+report 'what is said of standard output that is added to a file of the call' 'own.obj: error: the object is not accepted' "$(cat said)"
+
 # An object with bytes of value 10, copied as a text: each gets a carriage return.
 printf 'cell a = 10;\na = 10;\n' >ten.src
 "$top/talft" compile ten.src >ten.obj 2>errors
@@ -401,6 +476,10 @@ undo|1: error: unknown command `undo`: `tools/debugger` knows this command
 regs|1: error: unknown command `regs`; did you mean `reg`?
 step\t1|5: error: words are separated by one space, not by a tab
 zap  r1 6|5: error: words are separated by one space
+zap r99 6|5: error: invalid command: expected `zap SITE WORD`; invalid site `r99`: a site is r0 to r63, d, pcg, pcb, qa0 to qa7 or qv0 to qv7
+zap r1 0x6|8: error: invalid command: expected `zap SITE WORD`; invalid word `0x6`: numbers are decimal
+zap r1|1: error: invalid command: expected `zap SITE WORD`; the word is missing
+zap r\xe9 6|6: error: this line is not UTF-8: write it in ASCII
 END
 
 # A kit that is missing, or is a different one.
@@ -470,17 +549,25 @@ else
 fi
 
 if command -v script >script.path; then
+  printf 'module five.obj\n' >one.map
   got=$(script -qec "$top/talft check mixed.obj" typescript </dev/null | tr -d '\r'; printf '/%d' "${PIPESTATUS[0]}")
   report 'a terminal as standard error' "$(printf 'check block 0 index 3 premise 2\nmixed.obj: error: block 0, instruction 3: its two operands do not have the same colour (premise 2)\n  add r33 r1 B 0\n  r1: G int\n/8')" "$got"
   got=$(script -qec "env TALFT_EXPLAIN=0 $top/talft check mixed.obj" typescript </dev/null | tr -d '\r'; printf '/%d' "${PIPESTATUS[0]}")
   report 'a terminal, and no explanation' "$(printf 'check block 0 index 3 premise 2\n/8')" "$got"
-  binary='talft: note: an object is binary: redirect it to a file, as in `talft compile SOURCE >FILE.obj`'
-  for words in 'compile eight.src' 'asm five.asm' 'upgrade five.obj' 'schedule five.obj'; do
+  while IFS='|' read -r form words; do
+    binary="talft: note: an object is binary: redirect it to a file, as in \`talft $form >FILE.obj\`"
     script -qec "$top/talft $words 2>said" typescript </dev/null >/dev/null
     report "what is said of \`$words\` on a terminal" "$binary" "$(cat said)"
-    "$top/talft" $words >written 2>said
+    # shellcheck disable=SC2086
+    "$top/talft" $words >written 2>said </dev/null
     report "what is said of \`$words\` into a file" '' "$(cat said)"
-  done
+  done <<'END'
+compile SOURCE|compile eight.src
+asm TEXT|asm five.asm
+link MAP|link one.map
+schedule OBJECT|schedule five.obj
+upgrade OBJECT|upgrade five.obj
+END
   script -qec "$top/talft upgrade five.obj" typescript </dev/null >with
   report 'what is said of an object comes before it' "$binary" "$(head -n 1 with | tr -d '\r')"
   report 'what comes after an object begins a line' '' "$(tail -c 1 with | tr -d '\n')"

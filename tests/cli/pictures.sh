@@ -34,7 +34,7 @@ if has gnuplot 'the pictures'; then
   report 'the cells of few.png' '10 4 1' \
     "$(dots few.png | awk '{ printf "%.0f %.0f %.0f", $2 / 1748, $6 / 1748, $8 / 1748 }')"
   tool 'only a PNG' 0 '' plot few.lines cell.lines --title 'one & <two>' --out pair.png
-  report 'no SVG' 'pair.png' "$(echo pair.*)"
+  report 'no SVG' 'pair.png' "$(ls pair.png pair.svg 2>/dev/null)"
   tool 'a title with signs' 0 '' plot few.lines --title "it's one & <two>" --out pair.svg
   report 'the title' "it's one & <two>" "$(python3 -c 'import html, sys; print(html.unescape(sys.stdin.read()))' \
     < <(sed -n 's/.*<text>\(.*two.*\)<.text>/\1/p' pair.svg))"

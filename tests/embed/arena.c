@@ -1,5 +1,5 @@
 /* Checks and runs objects by the library whose memory is one block of the caller. It looks for the least block with which
- * a check answers anything but status 5, and sees that a run with this block, call after call, ends alike.
+ * a check answers anything but status 5, and checks that a run with this block, call after call, ends the same way.
  *
  *     arena FILE..
  */

@@ -25,7 +25,7 @@ class Breaks:
             self.session.breaks.update(made)
 
     def add(self, made, parts, why, wanted, source=None):
-        """Adds a breakpoint; gives the reply to the client."""
+        """Adds a breakpoint; returns the reply to the client."""
         session = self.session
         number = session.number()
         places = session.places() | breaks.places_of(made.values()) | {part.key() for part in parts}

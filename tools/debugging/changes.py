@@ -121,7 +121,7 @@ def exactly(timeline, before, after, strikes, name, old, new):
 def pieces(timeline, start, end, strikes, name):
     """(from, to, word before, words) for each piece of a run in which a cell is stored, and the stop if there is one.
 
-    Only a commit changes a cell, and each commit is an output. So pieces of any length tell all stores."""
+    Only a commit changes a cell, and each commit is an output. So pieces of any length show all stores."""
     width = max(1, -(-(end - start) // PIECES))
     points = list(range(start, end, width)) + [end]
     parts = [path(strikes, here, there) for here, there in zip(points, points[1:])]
@@ -146,7 +146,7 @@ def pieces(timeline, start, end, strikes, name):
 
 
 def stores_another(piece):
-    """Whether a store of a piece puts another word."""
+    """Whether a store of a piece changes the word."""
     return any(old != new for old, new in zip([piece[2]] + piece[3], piece[3]))
 
 

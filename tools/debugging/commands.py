@@ -22,7 +22,7 @@ class Quit(Exception):
 class Commands(Shown):
     """Executes commands over a session; `out` takes lines, and `sure` asks whether a file may be overwritten.
 
-    Whoever shows the session on a screen is not told where a move led (`is_shown`)."""
+    If a screen shows the session (`is_shown`), no command prints where a move led."""
 
     def __init__(self, session, paint, out, sure=None, is_shown=False):
         self.session, self.paint, self.out, self.is_shown = session, paint, out, is_shown
@@ -44,7 +44,7 @@ class Commands(Shown):
         raise Refused(f"unknown command {quoted(name)}{near(name, HELP)}; `help` lists the commands")
 
     def do(self, line):
-        """One line; the command's name, for whoever repeats it."""
+        """Executes one line; returns the command's name, so that it can be repeated."""
         line = line.strip()
         if not line or line.startswith("#"):
             return None

@@ -48,8 +48,8 @@ def table(rows):
 class Change:
     """A position on the path: what changed there, by which instruction or strikes, and what is correct again.
 
-    `left` is how many words differ then, `passed` has what the instruction compared, where it was not as without the
-    strike, and `meets` has the colours of the words that it took."""
+    `left` is how many words differ then, `passed` has the instruction's comparisons that differ from those without the
+    strike, and `meets` the colours of the words that it took."""
 
     def __init__(self, position, instruction, strikes, new, gone, left):
         self.position, self.instruction, self.strikes, self.new, self.gone = position, instruction, strikes, new, gone

@@ -42,7 +42,7 @@ class Journal:
             raise Refused(f"{named(path)}: {reason(error)}; recording ends") from error
 
     def move(self, old, new, strikes):
-        """From a position to another; one too far back is reached from the start, replacing all earlier lines."""
+        """Moves from a position to another; one too far back is reached from the start, replacing all earlier lines."""
         if new > old:
             self.low = max(self.low, new - MOST_BACK)
             # Strikes made here already have their lines.

@@ -60,7 +60,7 @@ def cell_number(word, count):
 def detection(state, instruction, named=str, target=str):
     """Why the step from a state is detected, or None if it is not. The instruction is the fetched one.
 
-    `named` and `target` write a word that is an address of a cell, or of an instruction. Of a wild load this says what
+    `named` and `target` write a word that is an address of a cell, or of an instruction. For a wild load this says what
     happens when no answer is left, as only the program knows its answers."""
     if instruction is None:
         return of_fetch(state)

@@ -84,7 +84,7 @@ class Panes:
             self.put(top + i, 0, text, style, width)
 
     def registers(self, top, column, height):
-        """Both colours side by side; gives the next row."""
+        """Both colours side by side; returns the next row."""
         state = self.session.state()
         shown = [pair for pair in views.pairs(self.session, self.before) if self.every or not pair.is_unset]
         cut = max(0, len(shown) - max(3, height - 3))

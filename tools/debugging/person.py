@@ -147,16 +147,16 @@ class Session:
         return one.least <= 1 or self.hits(one, position) >= one.least
 
     def go(self, more=()):
-        """Forward to the first breakpoint, also of these, or change of a watched word, or to the stop.
+        """Forward to the first breakpoint, these included, to a change of a watched word, or to the stop.
 
-        What is broken off stays at the last place that was told; if there is none, it is Interrupted."""
+        An interrupted move ends at the last place that was reached; if there is none, it raises Interrupted."""
         every = list(self.breaks.values()) + list(more)
         if len(breaks.places_of(every)) > breaks.MOST:
             raise Refused(breaks.TOO_MANY)
         here = self.position
         try:
             for end in runs.stretches(self.position):
-                # What is at the end of the previous stretch is met by this one.
+                # This stretch also looks at the end of the previous one.
                 stop = self.first_stop(max(self.position, here - 1), end, every)
                 if stop.reason != "limit":
                     return self.arrive(stop)
@@ -228,7 +228,7 @@ class Session:
     # STRIKES
 
     def zap(self, site, word, planned=False):
-        """Strikes now; gives the old word. The program says whether the site exists."""
+        """Strikes now; returns the old word. The program says whether the site exists."""
         self.check_strike(site, word)
         said = self.timeline.ask_at(self.position, self.strikes, [f"zap {site} {word}"]).line()
         if said != "zapped":

@@ -217,7 +217,7 @@ class Screen(Panes):
 def wrapped(line, width):
     """A line in parts of this width, cut at spaces if possible; later ones are indented.
 
-    What would only be in a column is put nearer first."""
+    In a line that is too long, wide gaps between columns are narrowed first."""
     start = line[:len(line) - len(line.lstrip())]
     if len(line) > width:
         line = start + re.sub(" {3,}", "  ", line.lstrip())

@@ -145,7 +145,7 @@ class Lowering:
         {"while": self.loop, "if": self.choice}.get(word, self.assignment)(line, word)
 
     def test(self, line, out):
-        """A test: out of the block where it is 0."""
+        """A test: leaves the block if it is 0."""
         self.tokens.take("(")
         self.expression(line, self.count + 1)
         self.tokens.take(")")

@@ -64,7 +64,7 @@ def end_by_breaks(session, every):
     """Where the run reaches one of these breakpoints, or stops."""
     here = session.position
     for end in runs.stretches(here):
-        # What is at the end of the previous stretch is met by this one.
+        # This stretch also looks at the end of the previous one.
         stop = session.first_break(max(session.position, here - 1), end, every)
         if stop.reason != "limit":
             return stop.position

@@ -2,7 +2,7 @@
 from .ir import Value
 from .spill import Spiller, cells_of
 
-K = 31    # pair 31 is the spare of addresses
+K = 31    # pair 31 is the spare, for addresses
 
 
 def has_register(v):
@@ -111,8 +111,8 @@ class Colouring:
         self.at_calls()
 
     def at_calls(self):
-        """What lives across a call is in no register that the function uses; arguments and results like those that it
-        has."""
+        """A value that lives across a call gets no register that the function uses; arguments and results get the
+        function's own if possible."""
         for b in self.blocks:
             if b.term[0] == "call":
                 shared = b.term[1]

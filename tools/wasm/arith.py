@@ -14,7 +14,7 @@ class Arith(Divide):
         return self.mk("eq", bit, 0)
 
     def signed(self, value, bits):
-        """Order as signed numbers is order as unsigned ones with the sign turned."""
+        """Signed order is unsigned order once the sign bits are flipped."""
         return self.mk("xor", value, 1 << (bits - 1))
 
     def extended(self, value, source, bits):
@@ -157,7 +157,7 @@ class Arith(Divide):
         return self._absolute(rest, sign_a, bits)
 
     def _signed_power(self, kind, a, k, bits):
-        """By 2^k: towards 0 is down, where 2^k - 1 is added to what is below 0 first."""
+        """Division by 2^k towards 0, or its remainder: 2^k - 1 is added to a negative number, then it rounds down."""
         mk, top = self.mk, 1 << (bits - 1)
         sign = mk("shr", a, bits - 1)
         more = sign if k == 1 else mk("and", mk("sub", 0, sign), (1 << k) - 1) if k else 0

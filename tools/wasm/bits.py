@@ -8,8 +8,8 @@ NONE = frozenset()
 
 
 def readers_of(blocks):
-    """For each value the blocks that must be looked at again when more of its bits may be 1: those that use it, but its
-    own, and those that take it as an argument."""
+    """For each value the blocks that must be looked at again when more of its bits may be 1: those that use it, except
+    its own, and those that take it as an argument."""
     home, readers = {v: b for b in blocks for v in b.insts}, {}
     for b in blocks:
         for v in b.insts:
@@ -121,8 +121,8 @@ def demanded(blocks, preds, length):
 
 
 def drop_masks(blocks, preds, length):
-    """A mask whose cleared bits matter to no one is left out. A place of a shift is one of a sum, where that is
-    enough."""
+    """Drops masks and sums that change only bits that do not matter, and simplifies a right shift of a left shift or
+    of a sum where the bits that matter permit it."""
     need = demanded(blocks, preds, length)
     changed = False
     for b in blocks:
@@ -133,7 +133,7 @@ def drop_masks(blocks, preds, length):
                 v.repl, changed = find(v.a), True
     resolve(blocks)
     if not changed:
-        # (x << k) + c >> k is x + (c >> k), but for the k highest bits
+        # (x << k) + c >> k is x + (c >> k), except for the k highest bits
         for b in blocks:
             insts = []
             for v in b.insts:

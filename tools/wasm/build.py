@@ -53,7 +53,7 @@ class Builder(Calls, Arith, Access, Bulk, Floats):
 
     def trap_edge(self, at, what):
         """A trap is a loop on itself: a run that ends is then one that did not trap. Each has a block of its own, so
-        that it can be told where a run trapped."""
+        that the place of a trap is known."""
         key = self.g, self.func.name, at, what
         if key not in self.traps:
             block = self.traps[key] = self.g.block()

@@ -5,7 +5,7 @@ from .ir import Edge, Graph
 from .opcodes import FUNCREF
 
 MOST_NESTED = 200
-LONG = 400      # a function is shared where all its copies after the first would be longer
+LONG = 400      # a function is shared if its copies after the first would together have at least this length
 
 
 class Shared:
@@ -102,8 +102,8 @@ class Calls:
         return effects
 
     def find_circles(self, order):
-        """The functions that call themselves, at once or by others: for each the set of those that it is in a circle
-        with."""
+        """The functions that call themselves, directly or through others: for each the set of those in a cycle with
+        it."""
         reach = {f: set(callees(self.module, f)) for f in order}
         changed = True
         while changed:

@@ -217,7 +217,7 @@ class Module:
 
 
 def block_type(part, module):
-    """The parameters and results of a block, how many of each."""
+    """How many parameters and how many results a block has."""
     code = part.signed(33)
     if code >= 0:
         params, results = module.types[code]
@@ -226,7 +226,7 @@ def block_type(part, module):
 
 
 def operands(part, op, module):
-    """The two operands of an instruction, those of structure as lists that are filled in later."""
+    """The two operands of an instruction; the first one of a block, a loop or an `if` is a list to be filled in."""
     if op in (0x02, 0x03, 0x04):
         return list(block_type(part, module)), None
     if op in (0x0C, 0x0D, 0x10, 0xD2) or 0x20 <= op <= 0x26:

@@ -6,8 +6,8 @@ from .words import ones_of
 
 
 def ordered(pairs):
-    """Pairs of a parameter and its argument, so that no parameter is given before it was handed on; None where they
-    go round in a circle."""
+    """Pairs of a parameter and its argument, in an order in which no parameter is overwritten before it is read; None
+    if they form a cycle."""
     out, left = [], list(pairs)
     while left:
         taken = [x for _, x in left]
@@ -30,7 +30,7 @@ def meet(p, x, b, start):
 
 
 def copied(b, mid, start, other):
-    """Puts copies into a block for what an edge hands on, where the words before are of no use on its other way."""
+    """Puts copies into a block for what an edge passes on, if the old words are not used on the block's other edge."""
     edge = mid.term[1]
     pairs = [(p, x) for p, x in zip(edge.to.params, edge.args) if p in start[edge.to] and p is not x]
     if any(p in start[other.to] for p, _ in pairs):
@@ -46,7 +46,7 @@ def copied(b, mid, start, other):
 
 
 def copy_early(blocks):
-    """Does so for each branch that ends an iteration."""
+    """Copies early for each branch that ends an iteration."""
     start, _ = liveness(blocks)
     number = {b: i for i, b in enumerate(blocks)}
     for b in blocks:

@@ -14,7 +14,7 @@ FIRST = 1 << 20
 class Emitter:
     def __init__(self, program, length, pins=(), scopes=None):
         """pins: constants that have a pair of their own in all blocks: ("ref", cell), ("word", w) or ("code",
-        block). scopes: for blocks of loops those that they have there, each with its pair."""
+        block). scopes: for each block of a loop the constants that the loop keeps, each with its pair."""
         self.pairs, self.start, self.length, self.entry = program.pairs, program.start, length, program.main.entry
         self.program, self.backs, blocks = program, program.backs, program.blocks
         self.returns = {b.after: b for b in reversed(blocks) if b.after}
@@ -127,7 +127,7 @@ class Emitter:
         self.uses[key] = self.uses.get(key, 0) + 10 ** min(self.depth, 6)
 
     def enter(self, block):
-        """Puts what a loop keeps into its pairs, on the way into it."""
+        """Puts the constants that a loop keeps into their pairs, on the way into it."""
         kept, fresh = self.scopes.get(block, {}), {}
         for pin, pair in kept.items():
             if self.here.get(pin) != pair:
@@ -250,8 +250,8 @@ class Emitter:
         self.code.append(("bz", "B", self.pairs[cond], pair, *self.rows(block)))
 
     def call(self, block):
-        """Arguments to where the function has them, something to what passes through it, and the address to come back
-        to."""
+        """Moves arguments to where the function expects them, sets to 0 the pairs that pass through it without a word,
+        sets the return address, and jumps."""
         _, shared, args, edge = block.term
         entry, tail, moves = shared.graph.entry, edge.to, []
         for p, x in zip(entry.params, args):
@@ -274,7 +274,7 @@ class Emitter:
         self.jump(entry)
 
     def move_frame(self, by):
-        """On to the next frame, or back to the one before."""
+        """Moves on to the next frame, or back to the one before."""
         for pair, words in zip(self.program.stack, (by, by * self.program.frame)):
             self.operate("add", pair, pair, ("word", words & M64))
 
@@ -360,7 +360,7 @@ class Emitter:
                 self.put(pin, pair)
 
     def end(self, block):
-        """The end of a block; gives the block that follows it without a jump, or None."""
+        """The end of a block; returns the block that follows it without a jump, or None."""
         op = block.term[0]
         if op == "halt":
             self.code.append(("halt", "G"))

@@ -1,5 +1,5 @@
-"""Pass 2f: floating-point numbers as the words of their bits. What changes or compares them is a call of the
-functions that compiler-rt has for machines without such instructions, where the module has been linked with them."""
+"""Pass 2f: floating-point numbers as the words of their bits. Arithmetic, conversions and comparisons call the
+functions that compiler-rt has for machines without such instructions, if the module has been linked with them."""
 from .words import M32, M64
 
 FORMS = {"f32": ("sf", 32, 23, 127), "f64": ("df", 64, 52, 1023)}
@@ -11,8 +11,8 @@ OWN = ("abs", "neg", "copysign")
 
 
 def builtin_name(name):
-    """The function of compiler-rt, or of the same form of name, for an instruction; None for one that needs no
-    function."""
+    """The name of the function that compiler-rt has for an instruction, or a name of the same form; None for one
+    that needs no function."""
     kind, op = name.split(".")
     if op in OWN:
         return None

@@ -97,7 +97,7 @@ class Folding:
             if a.b & smear(c) == 0:
                 return self.mk("and", a.a, c)
             if a.b & smear(c) == smear(c) and ones_of(a.a) == 1:
-                bit = a.a       # a bit less 1: c where the bit is 0, and else 0
+                bit = a.a       # a bit minus 1: c where the bit is 0, and 0 otherwise
                 turned = bit.a if bit.op == "eq" and bit.b == 0 and ones_of(bit.a) == 1 else self.mk("eq", bit, 0)
                 return self.mk("mul", turned, c)
         if a.op in ("or", "xor"):
@@ -116,7 +116,7 @@ class Folding:
             return self.mk("xor", a.a, a.b ^ c)
         if c == 1 and ones_of(a) == 1:
             return self.mk("eq", a, 0)
-        if c == TOP64 and a.op == "add" and deep:       # turning the highest bit is adding it
+        if c == TOP64 and a.op == "add" and deep:       # flipping the highest bit is adding it
             return self.mk("add", a.a, a.b ^ c)
         if c == TOP32 and a.op == "and" and a.b == M32 and not isinstance(a.a, int) and a.a.op == "add":
             x, k = a.a.a, a.a.b
@@ -158,7 +158,7 @@ class Folding:
         if a.op == "add" and deep and smear(ones_of(a.a)) + a.b <= M64:
             return self.mk("ltu", a.a, c - a.b) if c > a.b else 0
         if a.op == "add" and deep and a.a.op == "and" and a.a.b == M32 and c + (-a.b & M64) <= M32:
-            x = a.a.a       # with 32 bits, too, a difference that goes round is not below c
+            x = a.a.a       # with 32 bits, too, a difference that wraps around is not below c
             if not isinstance(x, int) and x.op == "add" and isinstance(x.b, int):
                 return self.mk("ltu", self.mk("and", self.mk("add", x, a.b), M32), c)
         if a.op == "xor" and deep and a.b == c and c & (c - 1) == 0 and ones_of(a.a) < 2 * c:

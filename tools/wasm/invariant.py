@@ -5,7 +5,7 @@ from .loops import find_loops
 from .opt import dominators
 from .words import PURE
 
-MOST_LIVE = 22      # values that are live at once in a loop that takes more
+MOST_LIVE = 22      # operations are moved ahead of a loop until so many values are live in it at once
 
 
 def most_live(loop, end):
@@ -37,7 +37,7 @@ def hoist(loop, before, room):
 
 
 def hoist_all(blocks, preds):
-    """Does it for each loop, the inner ones first."""
+    """Moves operations ahead of each loop, the inner ones first."""
     loops = find_loops(blocks, preds, dominators(blocks, preds))
     if not loops:
         return

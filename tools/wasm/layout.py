@@ -1,5 +1,5 @@
-"""Pass 4: which branch goes on without a jump, tests turned where that helps, words put into registers where an
-instruction takes no word there, and edges with moves made blocks."""
+"""Pass 4: which branch goes on without a jump, tests inverted where that helps, words put into registers where an
+instruction takes no word there, and edges with moves turned into blocks."""
 from .invariant import hoist_all
 from .ir import Block, Edge, Value
 from .opt import dominators, order, preds_of, sweep

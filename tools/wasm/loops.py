@@ -7,9 +7,9 @@ FULL = (0, M64)
 
 
 class Loop:
-    """`steps`: for each counter what a turn adds to it, and the mask of its width; `tests`: for the edge on which the
-    loop goes on its test, and whether it leaves where that is 0; `own`: the range of a counter that is compared
-    itself."""
+    """`steps`: for each counter what a turn adds to it, and the mask of its width; `tests`: for each edge on which
+    the loop goes on, its test, and whether the loop ends where that is 0; `own`: the range of a counter that is
+    compared itself."""
 
     def __init__(self, head, body, latches):
         self.head, self.body, self.latches = head, body, latches
@@ -124,7 +124,7 @@ class Counters:
         return low + ahead, high + ahead, step, width, x, ahead
 
     def turns_equal(self, loop, x, goal):
-        """The loop is left when x is the goal. It must reach it, not pass it; it may wrap around once on its way."""
+        """The loop is left when x is the goal. x must reach it, and not pass it; it may wrap around once on its way."""
         low_goal, goal = self.of(goal)
         counted = self.counter(loop, x)
         if counted is None or low_goal != goal or goal > counted[3]:
@@ -141,7 +141,7 @@ class Counters:
         return (goal - low) // step
 
     def turns_less(self, loop, a, b, while_less):
-        """The loop continues while a < b, or while not: one of the two counts up or down to the other."""
+        """The loop continues while a < b, or while not a < b: one of the two counts up or down to the other."""
         top = next((x.b for x in (a, b) if not isinstance(x, int) and x.op == "xor" and x.b in TOPS), 0)
         if top:
             a, b = (x ^ top if isinstance(x, int) else x.a if x.op == "xor" and x.b == top else None for x in (a, b))
@@ -173,7 +173,7 @@ class Counters:
         return (low, high) if low >= 0 and high <= width else None
 
     def take(self, edge, holds, cond, undo):
-        """What is known on an edge of a test: the test, and how often its loop has turned."""
+        """What is known on an edge of a test: the test, and how often its loop has iterated."""
         self.assume(cond, holds, undo)
         loop = self.tested.get(edge)
         if loop:

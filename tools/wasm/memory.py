@@ -36,7 +36,7 @@ class Memory:
         return (address >> 3) % self.length
 
     def address_of(self, k):
-        """The address of the 8 bytes of a cell, or None for one that only fills up."""
+        """The address of the 8 bytes of a cell, or None for padding."""
         word = (self.low >> 3) + (k - (self.low >> 3)) % self.length
         return 8 * word if 8 * word < self.high else None
 

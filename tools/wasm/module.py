@@ -129,8 +129,8 @@ class Module:
         self.exports[name] = (what, index)
 
     def element(self, part, _):
-        """Active segments of functions, by their numbers; others are read by their form and kept as what cannot be
-        called."""
+        """Active segments of functions, by their numbers; others are read in their own form and kept as entries that
+        cannot be called."""
         at, flags = part.at, part.u()
         if flags > 7:
             part.refuse("an element segment of an unknown kind", at)

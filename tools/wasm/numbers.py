@@ -15,7 +15,7 @@ def is_nan(word, bits):
 
 
 def word_of(value, bits):
-    """The bits of the nearest number. What is none has the bits that hardware makes for it, without a sign."""
+    """The bits of the nearest number. A NaN has the bits that hardware gives it, without a sign."""
     as_word, as_number, infinity, quiet = FORMS[bits]
     if math.isnan(value):
         return infinity | quiet
@@ -77,7 +77,7 @@ def root(bits):
 
 
 def nearest_of(whole, bits):
-    """The bits of the number that is nearest to a whole one; of two, the even one."""
+    """The bits of the floating-point number that is nearest to an integer; of two, the even one."""
     fraction = {32: 24, 64: 53}[bits]
     size = abs(whole)
     shift = size.bit_length() - fraction
@@ -88,7 +88,7 @@ def nearest_of(whole, bits):
 
 
 def truncated(a, bits, to, is_signed, trap):
-    """The whole number toward 0. One that does not fit traps, or, without a trap, gives the nearest that does."""
+    """A number truncated toward 0. One that does not fit traps, or, without a trap, gives the nearest that does."""
     low, high = (-(1 << to - 1), (1 << to - 1) - 1) if is_signed else (0, (1 << to) - 1)
     value = number(a, bits)
     if math.isnan(value) or math.isinf(value) or not low <= math.trunc(value) <= high:
@@ -120,7 +120,7 @@ def of_form(bits, first_test, first_one, first_two):
 
 
 def conversions(trap):
-    """The instructions between whole numbers and others, and between the forms of them."""
+    """The conversions between integers and floating-point numbers, and between the forms of the latter."""
     found = {0xB6: lambda a: a >> 32 & 0x80000000 | 0x7FC00000 if is_nan(a, 64) else word_of(number(a, 64), 32),
              0xBB: lambda a: (a & 0x80000000) << 32 | 0x7FF8 << 48 if is_nan(a, 32) else word_of(number(a, 32), 64)}
     found.update(dict.fromkeys((0xBC, 0xBD, 0xBE, 0xBF), lambda a: a))

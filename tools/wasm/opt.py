@@ -40,7 +40,7 @@ def preds_of(blocks):
 
 
 def resolve(blocks):
-    """All names of replaced values are followed."""
+    """Replaces each use of a replaced value by its replacement."""
     for b in blocks:
         for v in b.insts:
             a, w = v.a, v.b
@@ -133,7 +133,7 @@ def merge_blocks(blocks, preds):
 
 
 def used_elsewhere(blocks):
-    """The values that are used but in jumps of blocks that only jump to hand on their own parameters."""
+    """The values that are used, except by blocks that only jump and pass on their own parameters."""
     uses = set()
     for b in blocks:
         for v in b.insts:
@@ -204,7 +204,7 @@ def rebuild(g, blocks, preds):
         b.cse, b.known = table, {k: v for k, v in known.items() if k.op == "ref"}
         rebuild_block(g, b)
         for key in [k for k in g.added if k[0] == "idx"]:
-            table.pop(key, None)     # an address is cheap to make again, and dear to keep
+            table.pop(key, None)     # an address is cheap to make again, and costly to keep
         todo.append((b, g.added))
         todo += [(x, None) for x in reversed(under[b])]
     resolve(blocks)
@@ -274,7 +274,7 @@ def sweep(blocks, preds):
 
 
 def clean(g):
-    """Again and again, while much changes."""
+    """Cleans the graph again and again, while much changes."""
     for _ in range(50):
         blocks = order(g)
         preds = preds_of(blocks)

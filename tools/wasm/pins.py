@@ -52,7 +52,7 @@ def scopes_of(emitter, pins, most):
 
 
 def choose(emitter, most):
-    """What an emitter that has run without such constants would keep: those of the program, so many at most, and those
+    """What an emitter that has run without such constants would keep: those of the program, at most `most`, and those
     of loops, which may be twice as many in each."""
     total = {}
     for (_, pin), n in emitter.uses.items():

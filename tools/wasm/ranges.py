@@ -97,7 +97,7 @@ class Ranges(Counters):
             self.learn(x.a, -(-low // c), high // c, undo, depth)
 
     def assume(self, cond, holds, undo):
-        """The word of a test is not 0 here (holds), or it is."""
+        """The word of a test is not 0 here (holds), or it is 0."""
         if isinstance(cond, int):
             return
         if not holds:

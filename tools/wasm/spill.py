@@ -4,8 +4,8 @@ from .opt import preds_of
 
 
 def cells_of(colouring, groups, first_cell):
-    """A cell for each group that is spilled. Constants and addresses have none: they are made again. And how many
-    they are."""
+    """A cell for each group that is spilled, and how many cells that takes. Constants and addresses have none: they
+    are made again."""
     place, cell_of = {}, {}
     for g in groups:
         members = colouring.members[g]
@@ -20,7 +20,7 @@ def cells_of(colouring, groups, first_cell):
 
 class Spiller:
     """`place`: for each value that is spilled its cell, ("frame", word), or None where it is made again; `tiny`:
-    values of so short a life that they must not be spilled."""
+    values so short-lived that they must not be spilled."""
 
     def __init__(self, place, tiny):
         self.place, self.tiny = place, tiny

@@ -122,7 +122,7 @@ class Program:
         s.used |= set(pairs.values()) | set(s.results)
         for c in [*self.calls[s], *(c for c in self.recursive if c.func in s.circle)]:
             s.used |= c.used
-        for c in self.recursive:        # those of a circle use what each of them uses
+        for c in self.recursive:        # functions of a cycle use what each of them uses
             if c.func in s.circle:
                 c.used |= s.used
 

@@ -5,7 +5,7 @@ MOST = {"instructions": 65536, "nodes": 1 << 20, "code types": 4096, "substituti
 
 
 def return_name(k, i):
-    """The cell of the return address of frame i of the function k of those that call themselves."""
+    """The cell that holds the return address of frame i of function k, counting only functions that call themselves."""
     return f"return_{k}[{i}]"
 
 

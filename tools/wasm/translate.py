@@ -164,7 +164,7 @@ def table_of(memory, with_result, spills, frames):
 
 
 def translate(path, data, options):
-    """The whole of it, without the collector of cycles, which would look at hundreds of thousands of values in vain."""
+    """The translation, with the cycle collector off: it would examine hundreds of thousands of values for nothing."""
     collecting = gc.isenabled()
     gc.disable()
     try:

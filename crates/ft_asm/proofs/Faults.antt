@@ -44,7 +44,7 @@ zip_on [] vs (l ∷ ls) ms h i = absurd h
 zip_on (w ∷ ws) vs [] ms h i = absurd h
 zip_on (w ∷ ws) vs (l ∷ ls) ms h i = (h.0, zip_on ws vs ls ms h.1 i)
 
--- lines of words that go on are those of the words before, and then others
+-- the lines of words and others after them are the lines of those words, and then lines of the others
 zip_apart : (ws vs : List (List (List ℕ))) (ls ms : List Line) → AllZip IsForm ws ls → AllZip IsForm (ws ++ vs) ms →
     (ns : List Line) × (ms ≡ ls ++ ns) × AllZip IsForm vs ns
 zip_apart [] vs [] ms h i = (ms, refl, i)
@@ -246,7 +246,7 @@ told (l ∷ ls) d e h =
 
 -- ANSWERS
 
--- lines that say these lines, which lead somewhere
+-- what these texts say leads to this draft
 pub record Lead (texts : List (List ℕ)) (d : Draft) : Type 0 where
   pub said : List Line
   pub forms : AllZip IsForm (said_in texts) said
@@ -281,7 +281,7 @@ lead_more texts d e line l h t f n =
           ∙ ap (option_and_then (λ f. walk f [])) n;
     }
 
--- what the text would go on with, and the listing that it would be then
+-- lines that would complete the text, and its listing with them
 finish : (d : Draft) → (ls : List Line) × ((l : Listing) × (walk d ls ≡ Some (Done l))) × AllByRecursion FitsLine ls
 finish (Start cs ns) = (
   lines.Entry 0 ∷ [],

@@ -26,8 +26,8 @@ use Rattle.ft_isa.specs.declared.basic.Basic.{Basic}
 use Rattle.ft_isa.specs.declared.colour.Colour.{Colour}
 use Rattle.ft_isa.specs.declared.colour.Colour.TheVariants.{Green, Blue}
 use Rattle.ft_isa.specs.declared.reg.Reg.{Reg}
-use Rattle.ft_format.specs.Fits.{FitsBase, FitsBasic, Is32}
-use Rattle.ft_asm.specs.Lines.{reg_word, colour_word, base_word, refs_word, basic_word}
+use Rattle.ft_format.specs.Codes.{FitsBase, FitsBasic, Is32}
+use Rattle.ft_asm.specs.Operands.{reg_word, colour_word, base_word, refs_word, basic_word}
 use Rattle.ft_asm.specs.Forms.{number_of, if_below, below, reg_in, colour_in, plain_basic, base_in, one_more_ref}
 use Rattle.ft_asm.specs.Forms.{basic_in, rows_in}
 

@@ -18,17 +18,22 @@ use Rattle.ft_types.specs.Spellable.{subst_of}
 use Rattle.ft_static.specs.declared.node.Node.{Node}
 use Rattle.ft_static.specs.declared.node.Shape.{Shape}
 use Rattle.ft_static.specs.declared.node.Shape.TheVariants as shapes
-use Rattle.ft_format.specs.Fits.{Is8, FitsShape, FitsInstr}
+use Rattle.ft_format.specs.Codes.{Is8}
+use Rattle.ft_format.specs.NodeRecords.{FitsShape}
+use Rattle.ft_format.specs.InstrRecords.{FitsInstr}
 use Rattle.ft_asm.specs.declared.line.Code.{Code}
 use Rattle.ft_asm.specs.declared.line.Line.{Line}
 use Rattle.ft_asm.specs.declared.line.Line.TheVariants as lines
-use Rattle.ft_asm.specs.Lines.{AReg, AByte, AName, operand_word, form_words, shape_form, instr_form, line_form}
-use Rattle.ft_asm.specs.Lines.{reg_word, colour_word, code_words, placed, line_words, FitsRows, FitsCode, FitsLine}
-use Rattle.ft_asm.specs.Lines.{IsForm, IsAnyWord}
-use Rattle.ft_asm.specs.Forms.{reg_in, ended, rows_in, FitsOperands, Row, row_in, op_shape_row, shape_rows, op_shape_in}
-use Rattle.ft_asm.specs.Forms.{shape_in, node_line, node_head, node_with, node_in, op_reg_row, op_word_row, ld_row}
-use Rattle.ft_asm.specs.Forms.{st_row, going_rows, transfer_rows, op_code_in, or_else, op_line_in, transfer_in}
-use Rattle.ft_asm.specs.Forms.{instr_in, code_line, with_rows, code_in, all_in, type_row, line_rows, line_with, line_in}
+use Rattle.ft_asm.specs.Operands.{AReg, AByte, AName, operand_word, form_words, reg_word, colour_word}
+use Rattle.ft_asm.specs.NodeForms.{shape_form, op_shape_row, shape_rows, op_shape_in, shape_in, node_line, node_head}
+use Rattle.ft_asm.specs.NodeForms.{node_with, node_in}
+use Rattle.ft_asm.specs.InstrForms.{instr_form, op_reg_row, op_word_row, ld_row, st_row, going_rows, transfer_rows}
+use Rattle.ft_asm.specs.InstrForms.{op_code_in, or_else, op_line_in, transfer_in, instr_in, code_line, with_rows}
+use Rattle.ft_asm.specs.InstrForms.{code_in}
+use Rattle.ft_asm.specs.Lines.{line_form, code_words, placed, line_words, FitsRows, FitsCode, FitsLine, IsForm}
+use Rattle.ft_asm.specs.Words.{IsAnyWord}
+use Rattle.ft_asm.specs.Forms.{reg_in, ended, rows_in, FitsOperands, Row, row_in}
+use Rattle.ft_asm.specs.LineForms.{all_in, type_row, line_rows, line_with, line_in}
 use Rattle.ft_asm.proofs.FieldLaws.{op_field, rows_sound, rows_complete}
 use Rattle.ft_asm.proofs.RowLaws.{made_sound, taken_again, made_again, row_at, IsRight, Begins, row_sound, among_sound}
 use Rattle.ft_asm.proofs.Texts.{AreWords, first_is_word, shape_begins, shape_operands, instr_operands, line_operands}
@@ -301,6 +306,6 @@ pub one_line : (words : List (List ℕ)) (l m : Line) → IsForm words l → IsF
 one_line words l m h i = let both : Some l ≡ Some m = sym (line_again l h.0) ∙ ap line_in (sym h.1 ∙ i.1)
     ∙ line_again m i.0 in cc
 
--- words that are read as no line are none's
+-- words that are read as no line are the words of no line
 pub no_line : (words : List (List ℕ)) → line_in words ≡ None → (l : Line) → ¬ (IsForm words l)
 no_line words e l h = let some : None ≡ Some l = sym e ∙ ap line_in h.1 ∙ line_again l h.0 in absurd cc

@@ -13,7 +13,7 @@ use Rattle.ft_types.specs.declared.object.Block.{Block}
 use Rattle.ft_types.specs.Spellable.{IsCell, IsNodeIn, IsCodeType, AreBlocks, BeginAtZero, HasCodeType, IsInstr}
 use Rattle.ft_types.specs.Spellable.{IsSpellable}
 use Rattle.ft_asm.specs.declared.line.Line.TheVariants as lines
-use Rattle.ft_format.specs.Fits.{Is32}
+use Rattle.ft_format.specs.Codes.{Is32}
 use Rattle.ft_format.proofs.Nodes.{named_fits}
 use Rattle.ft_asm.specs.Lines.{FitsCode, FitsLine}
 use Rattle.ft_asm.specs.Listings.{type_lines, part_lines, listing_lines, rows_of, instrs_from, blocks_from, codes_of}
@@ -42,7 +42,7 @@ module _ (is : List Instr) (substs : List ℕ) where
       ∙ sym (map-append (code_of substs) (slice_range is b.start d.start) (drop d.start is))
       ∙ ap (map (code_of substs)) (sym (drop_split is b.start d.start (ends_within least b (d ∷ ds) h).0))
 
-  -- and begin where the blocks do
+  -- the parts of blocks make the blocks again
   blocks_back : (least : ℕ) (b : Block) (bs : List Block) → AreBlocks (length is) least (b ∷ bs) →
       blocks_from b.start (parts_of is substs (b ∷ bs)) ≡ b ∷ bs
   blocks_back least b [] h = refl
@@ -99,7 +99,7 @@ shown_of o h = all_shown (length o.types) o.nodes h.few_types h.nodes.few (lengt
     (rows_fit o h) 0 o.instrs (recursion_from_All (IsInstr (length o.types) (length o.cells)) o.instrs h.instrs)
     h.covered
 
--- a lawful object is had back from what its text says
+-- a lawful object is recovered from what its text says
 pub object_back : (o : Object) → IsSpellable o → object_of (listing_of o) ≡ o
 object_back o h =
     let parts = parts_all o.instrs o.substs o.blocks h.first_block h.blocks in
@@ -141,7 +141,7 @@ object_back o h =
       entry = o.entry;
     }) shown.rows
 
--- and each of its lines fits
+-- each line of a lawful object's text fits
 pub listing_fits : (o : Object) → IsSpellable o → AllByRecursion FitsLine (listing_lines (listing_of o))
 listing_fits o h =
     let types = length o.types in

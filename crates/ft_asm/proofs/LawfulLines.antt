@@ -21,10 +21,12 @@ use Rattle.ft_types.specs.declared.object.RegType.{RegType}
 use Rattle.ft_types.specs.Spellable.{is_letter, is_digit, is_bracket, is_name_byte, is_name, IsCell, IsRegRow}
 use Rattle.ft_types.specs.Spellable.{IsQueueRow, IsCodeType, IsInstr, subst_of, IsSubst, before, substs_of, Cover}
 use Rattle.ft_asm.specs.declared.line.Line.TheVariants as lines
-use Rattle.ft_format.specs.Fits.{Is32, FitsInstr}
+use Rattle.ft_format.specs.Codes.{Is32}
+use Rattle.ft_format.specs.InstrRecords.{FitsInstr}
 use Rattle.ft_format.proofs.Codes.{basic_fits}
 use Rattle.ft_format.proofs.Nodes.{named_fits, shape_fits}
-use Rattle.ft_asm.specs.Lines.{placed, FitsRows, FitsCode, FitsLine, HasParts, IsAnyWord}
+use Rattle.ft_asm.specs.Lines.{placed, FitsRows, FitsCode, FitsLine}
+use Rattle.ft_asm.specs.Words.{HasParts, IsAnyWord}
 use Rattle.ft_asm.specs.Listings.{pend_line, type_lines, rows_of, instr_at, instrs_from, rows_in, code_of}
 use Rattle.ft_asm.proofs.Texts.{part_from}
 
@@ -143,7 +145,7 @@ module _ (types : ℕ) (nodes : List Node) (few_types : types ≤ 4096) (few_nod
   -- INSTRUCTIONS
 
   module _ (cells : ℕ) (few_cells : cells ≤ 1024) (substs : List ℕ) (rows_fit : AllByRecursion Is32 substs) where
-    -- what is shown of one instruction: it fits, it is had back, and the rows after it are those after its own
+    -- what is shown of one instruction: it fits, it is recovered, and the rows after it are those after its own
     record OneShown (first : ℕ) (i : Instr) (rest : List Subst) : Type 0 where
       fits : FitsCode (code_of substs i)
       back : instr_at first (code_of substs i) ≡ i

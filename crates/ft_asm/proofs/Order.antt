@@ -178,7 +178,7 @@ one_list (w ∷ ws) (l ∷ ls) (m ∷ ms) h i = ap (λ x. x ∷ ls) (one_line w 
 pub one_said : (texts : List (List ℕ)) (l m : Listing) → Say texts l → Say texts m → l ≡ m
 one_said texts l m h i = one_listing l m (one_list (said_in texts) (listing_lines l) (listing_lines m) h i)
 
--- and reads as one object at most
+-- a text reads as at most one object
 pub one_reading : (text : List ℕ) (a b : Object) → Reads text a → Reads text b → a ≡ b
 one_reading text a b h i = h.means ∙ ap object_of (one_said (lines_of text) h.listing i.listing h.said i.said)
     ∙ sym i.means

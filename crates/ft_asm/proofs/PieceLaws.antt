@@ -20,7 +20,9 @@ use Rattle.ft_types.specs.Objects.{cell_head_of, name_of, type_head_of, regs_of,
 use Rattle.ft_types.specs.Spellable.{AreBlocks, subst_of, before, substs_of, Cover, IsSpellable}
 use Rattle.ft_asm.specs.declared.line.Line.{Line}
 use Rattle.ft_asm.specs.declared.line.Line.TheVariants as lines
-use Rattle.ft_asm.specs.Lines.{Form, operand_word, instr_form, form_words, code_words, placed}
+use Rattle.ft_asm.specs.Operands.{Form, operand_word, form_words}
+use Rattle.ft_asm.specs.InstrForms.{instr_form}
+use Rattle.ft_asm.specs.Lines.{code_words, placed}
 use Rattle.ft_asm.specs.Listings.{pend_line, type_lines, part_lines, rows_in, code_of, begins_at, parts_of}
 use Rattle.ft_asm.specs.Reads.{spaced, line_text, text_of}
 use Rattle.ft_asm.specs.Pieces.{cell_text, node_text, reg_text, pend_text, type_text, instr_text, row_text, part_of}

@@ -6,8 +6,9 @@ use Rattle.std.specs.Option.{option_map, option_and_then}
 use Rattle.std.specs.List.{AllByRecursion}
 use Rattle.std.proofs.lemmas.Option.{option_and_then_some}
 use Rattle.ft_isa.proofs.Branches.{of_map, chosen}
-use Rattle.ft_asm.specs.Lines.{Operand, AReg, AColour, AByte, AnIndex, AWord, ABasic, AName, operand_word, Form, form}
-use Rattle.ft_asm.specs.Lines.{form_words, IsAnyWord}
+use Rattle.ft_asm.specs.Operands.{Operand, AReg, AColour, AByte, AnIndex, AWord, ABasic, AName, operand_word, Form}
+use Rattle.ft_asm.specs.Operands.{form, form_words}
+use Rattle.ft_asm.specs.Words.{IsAnyWord}
 use Rattle.ft_asm.specs.Forms.{Kind, OneReg, OneColour, OneByte, OneIndex, OneWord, OneBasic, OneName, Value, value_in}
 use Rattle.ft_asm.specs.Forms.{taken, FitsOperand, FitsOperands, Taking, made_in, Row, row_in, among}
 use Rattle.ft_asm.proofs.FieldLaws.{number_field, colour_field, reg_field, basic_field}
@@ -15,7 +16,7 @@ use Rattle.ft_asm.proofs.Texts.{AreWords}
 
 -- OPERANDS
 
--- the operand that is a value of a kind, and back
+-- the operand of a value of a kind, and the kind and the value of an operand
 abbrev pub operand_of : (k : Kind) → Value k → Operand
 operand_of OneReg r = AReg r
 operand_of OneColour c = AColour c
@@ -135,7 +136,7 @@ row_at [] w other = other
 row_at (r ∷ rs) w other = if bytes_eq w r.first then r else row_at rs w other
 
 module _ {A : Type 0} (form_of : A → Form) (Also : A → Type 0) where
-  -- a row makes what has its first word and its operands, and of which this is true
+  -- what a row makes is written with its first word and its operands, and this holds of it
   abbrev pub IsRight : Row A → Type 0
   IsRight r = (vs : Values r.kinds) → (form_of (with_values r.kinds r.made vs) ≡ form r.first (operands_of r.kinds vs))
       × Also (with_values r.kinds r.made vs)
@@ -158,7 +159,7 @@ module _ {A : Type 0} (form_of : A → Form) (Also : A → Type 0) where
         also = subst Also made.is own.1;
       }
 
-  -- what holds of what each row reads, and of what is read otherwise
+  -- what holds of everything that a row reads and of the other result holds of what the rows give
   pub among_sound : {B : Type 0} (P : List ℕ → B → Type 0) (read : Row A → Option B) →
       ((r : Row A) → IsRight r → (b : B) → read r ≡ Some b → P r.first b) → (rs : List (Row A)) →
       AllByRecursion IsRight rs → (w : List ℕ) (other : Option B) → ((b : B) → other ≡ Some b → P w b) →

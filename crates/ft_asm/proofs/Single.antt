@@ -36,7 +36,7 @@ apart (x ∷ xs) [] cs bs a b e = second xs (ap (λ z. z ∷ xs) (cons_parts x b
 apart (x ∷ xs) (y ∷ ys) cs bs a b e = let parts = cons_parts x y (xs ++ a ∷ cs) (ys ++ b ∷ bs) e in
     apart_on x y xs ys a b parts.0 (apart xs ys cs bs a b parts.1)
 
--- the front of what begins a text begins it
+-- a prefix of lines that begin a text begins it too
 begin_front : (xs ys : List (List ℕ)) → Begin (xs ++ ys) → Begin xs
 begin_front xs ys b = record {
   whole = b.whole;
@@ -46,7 +46,7 @@ begin_front xs ys b = record {
   so_far = b.so_far ∙ append_assoc xs ys b.rest;
 }
 
--- so does the front of a longer one
+-- the same, with the prefix given by an equation
 begin_prefix : (texts xs ys : List (List ℕ)) → texts ≡ xs ++ ys → Begin texts → Begin xs
 begin_prefix texts xs ys e b = begin_front xs ys (subst Begin e b)
 
@@ -113,7 +113,7 @@ one_first text n m f g = elim (apart f.before g.before f.after g.after f.line g.
 one_number : (text : List ℕ) (n m : ℕ) → First text n → First text m → n ≡ m
 one_number text n m f g = f.here ∙ ap (λ ls. suc (length ls)) (one_first text n m f g).0 ∙ sym g.here
 
--- and none if all lines begin a text
+-- there is no first line at fault if all lines begin a text
 no_first : (text : List ℕ) (n : ℕ) → First text n → ¬ (Begin (lines_of text))
 no_first text n f b = f.none (begin_prefix (lines_of text) (f.before ++ f.line ∷ []) f.after (f.split
     ∙ sym (append_assoc f.before (f.line ∷ []) f.after)) b)
@@ -127,7 +127,7 @@ reading_begins text o r = record {
   so_far = sym (append-nil (lines_of text));
 }
 
--- a line of no form is of none
+-- the first line at fault does not both have a form and have none
 text_or_order : (text : List ℕ) (n m : ℕ) → IsTextFault text n → IsOrderFault text m → ⊥
 unfolding of_order of_text
 text_or_order text n m h i =

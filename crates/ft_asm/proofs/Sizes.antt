@@ -1,6 +1,5 @@
 -- A text has at least as many bytes as its tables have rows and its names have bytes. So what it says can be counted,
--- and
--- its numbers fit.
+-- and its numbers fit.
 use Rattle.std.proofs.Common.{◌≡◌, ℕ, suc, ◌+◌, ◌^◌, ◌<◌, ◌≤◌, ◌==◌, Bool, true, false, List, [], ◌∷◌, ◌++◌, length}
 use Rattle.std.proofs.Common.{map, decimal, refl, ap, sym, ◌∙◌, subst, arith}
 use Rattle.std.specs.Prelude.{if◌then◌else◌}
@@ -15,14 +14,19 @@ use Rattle.ft_types.specs.declared.object.Object.{Object}
 use Rattle.ft_types.specs.declared.object.Cell.{Cell}
 use Rattle.ft_types.specs.declared.object.CodeType.{CodeType}
 use Rattle.ft_types.specs.Objects.{name_of, regs_of, queue_of}
-use Rattle.ft_format.specs.Fits.{Is32, FitsCell, FitsNode, FitsReg, FitsPair, FitsType, FitsBlock, FitsInstr, HasCounts}
+use Rattle.ft_format.specs.Codes.{Is32}
+use Rattle.ft_format.specs.Fits.{FitsCell, FitsReg, FitsPair, FitsType, FitsBlock, HasCounts}
+use Rattle.ft_format.specs.NodeRecords.{FitsNode}
+use Rattle.ft_format.specs.InstrRecords.{FitsInstr}
 use Rattle.ft_format.specs.Fits.{Fits}
 use Rattle.ft_text.specs.Lines.{with_byte, lines_of}
 use Rattle.ft_asm.specs.declared.line.Code.{Code}
 use Rattle.ft_asm.specs.declared.line.Line.{Line}
 use Rattle.ft_asm.specs.declared.line.Line.TheVariants as lines
 use Rattle.ft_asm.specs.Words.{is_blank, pieces_of, with_bytes, words_of, is_said, said_in}
-use Rattle.ft_asm.specs.Lines.{instr_form, form_words, code_words, line_words, placed, FitsCode, FitsLine, IsForm}
+use Rattle.ft_asm.specs.InstrForms.{instr_form}
+use Rattle.ft_asm.specs.Operands.{form_words}
+use Rattle.ft_asm.specs.Lines.{code_words, line_words, placed, FitsCode, FitsLine, IsForm}
 use Rattle.ft_asm.specs.Listings.{Part, Listing, pend_line, type_lines, part_lines, listing_lines, rows_of, codes_of}
 use Rattle.ft_asm.specs.Listings.{instrs_from, blocks_from, object_of}
 use Rattle.ft_asm.specs.Reads.{Reads}

@@ -26,13 +26,17 @@ use Rattle.ft_asm.specs.declared.line.Code.{Code}
 use Rattle.ft_asm.specs.declared.line.Line.{Line}
 use Rattle.ft_asm.specs.declared.line.Line.TheVariants as lines
 use Rattle.ft_asm.specs.Words.{is_blank, is_comment, pieces_of, with_word, with_bytes, words_of, is_said, with_said}
-use Rattle.ft_asm.specs.Words.{said_in}
-use Rattle.ft_asm.specs.Lines.{reg_word, colour_word, base_word, refs_word, line_words, AReg, AColour}
-use Rattle.ft_asm.specs.Lines.{AByte, AnIndex, AWord, ABasic, AName, Operand, operand_word, Form, form_words, line_form}
-use Rattle.ft_asm.specs.Lines.{shape_form, instr_form, FitsRows, FitsCode, FitsLine, is_part, HasParts, IsAnyWord}
+use Rattle.ft_asm.specs.Words.{said_in, is_part, HasParts, IsAnyWord}
+use Rattle.ft_asm.specs.Operands.{reg_word, colour_word, base_word, refs_word, AReg, AColour, AByte, AnIndex, AWord}
+use Rattle.ft_asm.specs.Operands.{ABasic, AName, Operand, operand_word, Form, form_words}
+use Rattle.ft_asm.specs.Lines.{line_words, line_form, FitsRows, FitsCode, FitsLine}
+use Rattle.ft_asm.specs.NodeForms.{shape_form}
+use Rattle.ft_asm.specs.InstrForms.{instr_form}
 use Rattle.ft_asm.specs.Lines.{IsForm}
 use Rattle.ft_asm.specs.Forms.{FitsOperand, FitsOperands}
-use Rattle.ft_format.specs.Fits.{Is32, FitsBase, FitsShape, FitsInstr}
+use Rattle.ft_format.specs.Codes.{Is32, FitsBase}
+use Rattle.ft_format.specs.NodeRecords.{FitsShape}
+use Rattle.ft_format.specs.InstrRecords.{FitsInstr}
 use Rattle.ft_asm.specs.Reads.{spaced, line_text}
 
 -- PARTS OF WORDS

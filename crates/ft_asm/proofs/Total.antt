@@ -7,7 +7,7 @@ use Rattle.ft_text.specs.Lines.{lines_of}
 use Rattle.ft_asm.specs.declared.line.Line.{Line}
 use Rattle.ft_asm.specs.Words.{words_of, is_said}
 use Rattle.ft_asm.specs.Listings.{object_of}
-use Rattle.ft_asm.specs.Forms.{line_in}
+use Rattle.ft_asm.specs.LineForms.{line_in}
 use Rattle.ft_asm.specs.Drafts.{Draft, Start, InType, InBlock, Done, next}
 use Rattle.ft_format.specs.declared.object_error.ObjectError.{ObjectError}
 use Rattle.ft_asm.specs.Reads.{Reads, Answer, Is, TooLong, Text, Order, Broken, rule_broken, Applies}

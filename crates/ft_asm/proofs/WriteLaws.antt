@@ -5,7 +5,7 @@ use Rattle.std.specs.List.{flat_map}
 use Rattle.std.proofs.lemmas.List.{drop_all}
 use Rattle.ft_isa.specs.declared.basic.Base.{Base}
 use Rattle.ft_isa.proofs.Lists.{drop_there}
-use Rattle.ft_asm.specs.Lines.{refs_word, base_word}
+use Rattle.ft_asm.specs.Operands.{refs_word, base_word}
 
 refs_step : (n m : ℕ) (base : Base) → n ≡ suc m → refs_word n base ≡ codes "ref:" ++ refs_word m base
 refs_step n m base e = ap (λ k. refs_word k base) e

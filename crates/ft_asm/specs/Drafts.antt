@@ -11,7 +11,7 @@ use Rattle.ft_asm.specs.declared.line.Line.{Line}
 use Rattle.ft_asm.specs.declared.line.Line.TheVariants as lines
 use Rattle.ft_asm.specs.Listings.{Part, Listing, type_lines, part_lines, listing_lines}
 
--- what the lines so far say, by where they stopped
+-- what the lines so far say, by the part of the text that they end in
 pub data Draft : Type 0 where
   -- before the first code type: cells and nodes
   Start : List Cell → List Node → Draft

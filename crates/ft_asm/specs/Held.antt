@@ -47,24 +47,24 @@ Holds t (InType cs ns ts u) = (t.place ≡ places.InType u.ints u.memory) × Are
 Holds t (InBlock cs ns ts ps p) = (t.place ≡ places.InBlock) × HasNoRows t × IsTables t cs ns ts (ps ++ p ∷ [])
 Holds t (Done l) = (t.place ≡ places.Done l.entry) × HasNoRows t × IsTables t l.cells l.nodes l.types l.parts
 
--- the tables after one more line, or that this line is not allowed there
+-- the tables hold what the lines say after one more, or that line is not allowed there
 abbrev pub Adds : Bool → tables.Draft → Draft → Line → Type 0
 Adds true t d line = (e : Draft) × (next d line ≡ Some e) × Holds t e
 Adds false t d line = next d line ≡ None
 
--- the listing that ends here, but for its entry block
+-- the listing that ends here, except for its entry block
 abbrev pub shut : Draft → Option Listing
 shut (Start cs ns) = Some (record { cells = cs; nodes = ns; types = []; parts = []; entry = 0 })
 shut (InType cs ns ts u) = Some (record { cells = cs; nodes = ns; types = ts ++ u ∷ []; parts = []; entry = 0 })
 shut (InBlock cs ns ts ps p) = Some (record { cells = cs; nodes = ns; types = ts; parts = ps ++ p ∷ []; entry = 0 })
 shut (Done l) = None
 
--- the tables after the last code type was ended, or that the draft is done
+-- the tables are those of the listing that ends here, or the draft is done
 abbrev pub Closes : Bool → tables.Draft → Draft → Type 0
 Closes true t d = (l : Listing) × (shut d ≡ Some l) × HasNoRows t × IsTables t l.cells l.nodes l.types l.parts
 Closes false t d = shut d ≡ None
 
--- the rows of this instruction were put at the end, and this is the instruction with them
+-- the rows of this instruction were appended, and this is the instruction that refers to them
 pub record PutsCode (t u : tables.Draft) (code : Code) (i : Instr) : Type 0 where
   pub place : u.place ≡ t.place
   pub rows_kept : HasNoRows t → HasNoRows u

@@ -1,9 +1,13 @@
 pub mod Words
+pub mod Operands
+pub mod Forms
+pub mod NodeForms
+pub mod InstrForms
 pub mod Lines
 pub mod Listings
 pub mod Reads
 pub mod Refusals
-pub mod Forms
+pub mod LineForms
 pub mod Drafts
 pub mod Said
 pub mod Held

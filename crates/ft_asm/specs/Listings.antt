@@ -51,11 +51,11 @@ listing_lines l = map lines.Cell l.cells ++ (map lines.Node l.nodes ++ (flat_map
 abbrev pub rows_of : Code → List ℕ
 rows_of code = code.rows
 
--- the instruction that a line says, after this many substitution rows
+-- the instruction that a line gives, after this many substitution rows
 abbrev pub instr_at : ℕ → Code → Instr
 instr_at first code = placed first (first + length code.rows) code.instr
 
--- the instructions that lines say, after this many substitution rows
+-- the instructions that lines give, after this many substitution rows
 abbrev pub instrs_from : ℕ → List Code → List Instr
 instrs_from first [] = []
 instrs_from first (code ∷ codes) = instr_at first code ∷ instrs_from (first + length (rows_of code)) codes

@@ -13,7 +13,8 @@ use Rattle.ft_isa.specs.declared.reg.Reg.{Reg}
 use Rattle.ft_asm.specs.declared.line.Line.{Line}
 use Rattle.ft_asm.specs.declared.line.Line.TheVariants as lines
 use Rattle.ft_asm.specs.Words.{words_of, is_said, said_in}
-use Rattle.ft_asm.specs.Lines.{line_words, reg_word, colour_word, IsForm}
+use Rattle.ft_asm.specs.Lines.{line_words, IsForm}
+use Rattle.ft_asm.specs.Operands.{reg_word, colour_word}
 use Rattle.ft_asm.specs.Listings.{Listing, listing_lines, object_of, listing_of}
 
 -- the meaningful lines of a text spell this listing, line by line

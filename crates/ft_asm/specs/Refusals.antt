@@ -1,4 +1,4 @@
--- How what the assembler returns relates to the outcomes of texts.
+-- How the assembler's results relate to the outcomes of texts.
 use Rattle.std.specs.Prelude.{◌≡◌, List, ℕ, Result, Ok, Err}
 use Rattle.std.specs.declared.vec.Vec.{Vec}
 use Rattle.std.specs.declared.alloc.Global.{Global}
@@ -42,7 +42,7 @@ pub record IsSpelled (bytes : List ℕ) (answer : Answer) : Type 0 where
   pub is : Is object ≡ answer
   pub spelled : Spells bytes Second object
 
--- the bytes returned are those of this outcome, or the refusal is, unless memory ran out
+-- the bytes or the refusal returned are those of this outcome, unless memory ran out
 abbrev pub GivesBytes : Result (Vec ℕ Global) AsmError → Answer → Type 0
 GivesBytes (Ok bytes) answer = IsSpelled bytes.items answer
 GivesBytes (Err error) answer = IsError error answer

@@ -3,7 +3,7 @@ use Rattle.std.specs.Prelude.{◌≡◌, ℕ, true, false, List, Some, None}
 use Rattle.ft_asm.specs.declared.forms.Said.{Said}
 use Rattle.ft_asm.specs.declared.forms.Said.TheVariants.{Nothing, Line, Bad}
 use Rattle.ft_asm.specs.Words.{is_said}
-use Rattle.ft_asm.specs.Forms.{line_in}
+use Rattle.ft_asm.specs.LineForms.{line_in}
 
 -- what was read is what these words say
 abbrev pub Says : List (List ℕ) → Said → Type 0

@@ -5,11 +5,11 @@ use Rattle.ft_asm.specs.declared.assembly.Turn.TheVariants.{On, Bad, Stuck}
 use Rattle.ft_asm.specs.declared.draft.Draft as tables
 use Rattle.ft_asm.specs.declared.line.Line.{Line}
 use Rattle.ft_asm.specs.Words.{words_of, is_said}
-use Rattle.ft_asm.specs.Forms.{line_in}
+use Rattle.ft_asm.specs.LineForms.{line_in}
 use Rattle.ft_asm.specs.Drafts.{Draft, next}
 use Rattle.ft_asm.specs.Held.{Holds}
 
--- where a line leads: nowhere else, if it says nothing, or to the next draft
+-- the draft after a line: the same if the line says nothing, else the next one
 abbrev pub Leads : Draft → List ℕ → Draft → Type 0
 Leads d line e = ((is_said (words_of line) ≡ false) × (d ≡ e)) ⊎ ((l : Line) × (is_said (words_of line) ≡ true) × (line_in (words_of line) ≡ Some l) × (next d l ≡ Some e))
 

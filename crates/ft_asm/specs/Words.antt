@@ -1,17 +1,28 @@
 -- The words of a line.
-use Rattle.std.specs.Prelude.{ℕ, Bool, false, ◌==◌, ◌||◌, not, if◌then◌else◌, List, [], ◌∷◌}
+use Rattle.std.specs.Prelude.{◌≡◌, ℕ, ◌<◌, Bool, true, false, ◌==◌, ◌&&◌, ◌||◌, not, if◌then◌else◌, List, [], ◌∷◌, length}
+use Rattle.std.specs.List.{AllByRecursion}
 use Rattle.ft_text.specs.Lines.{with_byte}
 
 -- a space or a tab
 abbrev pub is_blank : ℕ → Bool
 is_blank byte = (byte == 32) || (byte == 9)
 
+-- whether bytes make a word: there are some, and none of them is a blank or a line feed
+abbrev pub is_part : ℕ → Bool
+is_part byte = not (is_blank byte) && not (byte == 10)
+
+abbrev pub HasParts : List ℕ → Type 0
+HasParts word = AllByRecursion (λ byte. is_part byte ≡ true) word
+
+abbrev pub IsAnyWord : List ℕ → Type 0
+IsAnyWord word = (0 < length word) × HasParts word
+
 -- the pieces of a line between blanks
 abbrev pub pieces_of : List ℕ → List (List ℕ)
 pieces_of [] = [] ∷ []
 pieces_of (byte ∷ bytes) = if is_blank byte then [] ∷ pieces_of bytes else with_byte byte (pieces_of bytes)
 
--- a word, if it has a byte, before other words
+-- a word and those after it; it is left out if it has no byte
 abbrev pub with_word : List ℕ → List (List ℕ) → List (List ℕ)
 with_word [] words = words
 with_word (byte ∷ bytes) words = (byte ∷ bytes) ∷ words
@@ -35,11 +46,11 @@ abbrev pub is_said : List (List ℕ) → Bool
 is_said [] = false
 is_said (word ∷ words) = not (is_comment word)
 
--- words before others, if they say something
+-- the words of a line and of those after it; they are left out if they say nothing
 abbrev pub with_said : List (List ℕ) → List (List (List ℕ)) → List (List (List ℕ))
 with_said words lines = if is_said words then words ∷ lines else lines
 
--- the words of the meaningful ones of these lines
+-- the words of each line that says something
 abbrev pub said_in : List (List ℕ) → List (List (List ℕ))
 said_in [] = []
 said_in (line ∷ lines) = with_said (words_of line) (said_in lines)

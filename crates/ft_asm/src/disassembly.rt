@@ -10,8 +10,9 @@ ghost use Rattle.ft_asm.specs.Listings.{code_of, begins_at, parts_of};
 ghost use Rattle.ft_asm.specs.Reads.{Reads, text_of};
 ghost use Rattle.ft_asm.specs.Pieces.{cell_text, node_text, reg_text, pend_text, type_text, instr_text, part_text, part_of};
 
-use crate::instructions::put_code;
-use crate::writing::{put_block, put_cell, put_entry, put_node, put_pend, put_reg_row, put_type};
+use crate::code_lines::put_code;
+use crate::node_forms::put_node;
+use crate::writing::{put_block, put_cell, put_entry, put_pend, put_reg_row, put_type};
 use ft_isa::NoMemory;
 use ft_types::Program;
 use std::alloc::Global;

@@ -204,7 +204,7 @@ impl Draft {
         Ok(true)
     }
 
-    /// The instruction that a line says, whose rows are appended.
+    /// Appends the rows of a line's instruction, and returns the instruction with their places.
     fn placed(&mut self, code: Code) -> Result<Instr, NoMemory>
         ensures { IfOk result (PutsCode self.old self.new code) }
     {

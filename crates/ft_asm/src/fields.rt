@@ -8,14 +8,14 @@ use crate::line::Line;
 use crate::words::next_word;
 use ft_isa::{Base, Basic, Colour, Reg, read_number};
 
-/// The number of a number text.
+/// The number that a number text spells.
 fn number_of(word: &[u8]) -> Option<u64>
     ensures { result ≡ number_of word.now }
 {
     read_number(word)
 }
 
-/// The number of a word, of 8 bits.
+/// The 8-bit number that a word spells.
 #[tactic(auto, unfolding(crate::specs::Forms::below))]
 fn byte_of(word: &[u8]) -> Option<u8>
     ensures { result ≡ below (2 ^ 8) word.now }
@@ -30,7 +30,7 @@ fn byte_of(word: &[u8]) -> Option<u8>
     }
 }
 
-/// The number of a word, of 16 bits.
+/// The 16-bit number that a word spells.
 #[tactic(auto, unfolding(crate::specs::Forms::below))]
 fn half_of(word: &[u8]) -> Option<u16>
     ensures { result ≡ below (2 ^ 16) word.now }
@@ -45,7 +45,7 @@ fn half_of(word: &[u8]) -> Option<u16>
     }
 }
 
-/// The number of a word, of 32 bits.
+/// The 32-bit number that a word spells.
 #[tactic(auto, unfolding(crate::specs::Forms::below))]
 pub(crate) fn index_of(word: &[u8]) -> Option<u32>
     ensures { result ≡ below (2 ^ 32) word.now }
@@ -60,7 +60,7 @@ pub(crate) fn index_of(word: &[u8]) -> Option<u32>
     }
 }
 
-/// The number of a word, of 64 bits.
+/// The 64-bit number that a word spells.
 #[tactic(auto, unfolding(crate::specs::Forms::below))]
 fn word_of(word: &[u8]) -> Option<u64>
     ensures { result ≡ below (2 ^ 64) word.now }

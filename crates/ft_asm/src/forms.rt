@@ -1,10 +1,10 @@
 //! Lines by their first words.
 ghost use Rattle.std.specs.Prelude.{◌≡◌, IfOk};
 ghost use Rattle.ft_asm.specs.Words.{words_of};
-ghost use Rattle.ft_asm.specs.Forms.{all_in, cell_row, type_row, reg_row, pend_row, block_row, entry_row, line_with};
+ghost use Rattle.ft_asm.specs.LineForms.{all_in, cell_row, type_row, reg_row, pend_row, block_row, entry_row, line_with};
 ghost use Rattle.ft_asm.specs.Said.{Says};
 
-use crate::code_forms::code_of;
+use crate::code_lines::code_of;
 use crate::fields::{
     end, is_same, take_basic, take_byte, take_colour, take_index, take_reg, take_word,
 };

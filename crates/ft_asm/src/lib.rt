@@ -2,18 +2,19 @@
 //!
 //! The crate promises that `assemble` returns the one object that a text spells, or refuses the text
 //! exactly, and that `disassemble` writes the text of an object, which spells that object and no other.
-//! `specs/Words.antt`, `specs/Lines.antt` and `specs/Listings.antt` say what lines mean, `specs/Reads.antt`
-//! which text spells which object and why a text is refused.
+//! `specs/Words.antt`, `specs/Lines.antt` and `specs/Listings.antt` say what lines mean, `NodeForms` and
+//! `InstrForms` those of nodes and instructions, `specs/Reads.antt` which text spells which object and why a
+//! text is refused.
 #![tactic(auto)]
 
 mod asm_error;
 mod assembly;
-mod code_forms;
+mod code_lines;
 mod disassembly;
 mod draft;
 mod fields;
 mod forms;
-mod instructions;
+mod instr_forms;
 mod laws;
 mod line;
 mod node_forms;

@@ -3,7 +3,7 @@ use ft_isa::Instr;
 use ft_static::Node;
 use ft_types::{Cell, RegType, Table};
 
-/// An instruction as a line says it. The rows of its substitution are nodes and stand beside it, so `first`
+/// An instruction as a line says it. The rows of its substitution are nodes, kept beside it, so `first`
 /// and `past` of its own substitution are 0.
 #[derive(Drop)]
 pub struct Code {

@@ -1,12 +1,17 @@
-//! The lines of nodes, after their first word.
-ghost use Rattle.std.specs.Prelude.{◌≡◌, option_map};
+//! The lines of nodes: read after their first word, and written.
+ghost use Rattle.std.specs.Prelude.{◌≡◌, [], ◌∷◌, ◌++◌, decimal, option_map, OnOk};
 ghost use Rattle.ft_asm.specs.Words.{words_of};
-ghost use Rattle.ft_asm.specs.Forms.{row_in, word_row, var_row, op_shape_row, sel_row, memory_row, upd_row, rem_row, op_shape_in, shape_in, node_in};
+ghost use Rattle.ft_asm.specs.Operands.{form_words};
+ghost use Rattle.ft_asm.specs.Forms.{row_in};
+ghost use Rattle.ft_asm.specs.NodeForms.{shape_form, word_row, var_row, op_shape_row, sel_row, memory_row, upd_row, rem_row, op_shape_in, shape_in, node_in};
+ghost use Rattle.ft_asm.specs.Reads.{line_text, spaced};
+ghost use Rattle.ft_asm.specs.declared.line.Line.TheVariants as lines;
 
 use crate::fields::{end, is_same, take_byte, take_index, take_word};
 use crate::line::Line;
 use crate::words::next_word;
-use ft_isa::Op;
+use crate::writing::{put, put_number, put_op};
+use ft_isa::{NoMemory, Op};
 use ft_static::{Node, Shape};
 
 /// A word node, and the text after its words.
@@ -105,4 +110,60 @@ pub(crate) fn node_of(text: &[u8]) -> Option<Line>
     let (word, text) = next_word(text)?;
     let (shape, text) = shape_of(word, text)?;
     end(text, Line::Node(Node { scope, shape }))
+}
+
+/// Appends two numbers, with a space between them.
+fn put_pair(out: &mut Vec<u8>, a: u32, b: u32) -> Result<(), NoMemory>
+    ensures { OnOk result (out.new.items ≡ out.old.items ++ spaced (decimal a ∷ decimal b ∷ [])) }
+{
+    put_number(out, u64::from(a))?;
+    put(out, b" ")?;
+    put_number(out, u64::from(b))
+}
+
+/// Appends the words of a node after its scope.
+fn put_shape(out: &mut Vec<u8>, shape: Shape) -> Result<(), NoMemory>
+    ensures { OnOk result (out.new.items ≡ out.old.items ++ spaced (form_words (shape_form shape))) }
+{
+    match shape {
+        Shape::Word(word) => {
+            put(out, b"word ")?;
+            put_number(out, word)
+        }
+        Shape::Var(i) => {
+            put(out, b"var ")?;
+            put_number(out, u64::from(i))
+        }
+        Shape::Op { op, a, b } => {
+            put_op(out, op)?;
+            put(out, b" ")?;
+            put_pair(out, a, b)
+        }
+        Shape::Sel { memory, at } => {
+            put(out, b"sel ")?;
+            put_pair(out, memory, at)
+        }
+        Shape::Memory => put(out, b"memory"),
+        Shape::Upd { memory, at, value } => {
+            put(out, b"upd ")?;
+            put_pair(out, memory, at)?;
+            put(out, b" ")?;
+            put_number(out, u64::from(value))
+        }
+        Shape::Rem { a, length } => {
+            put(out, b"rem ")?;
+            put_pair(out, a, length)
+        }
+    }
+}
+
+/// The line of a node.
+pub(crate) fn put_node(out: &mut Vec<u8>, node: Node) -> Result<(), NoMemory>
+    ensures { OnOk result (out.new.items ≡ out.old.items ++ line_text (lines.Node node)) }
+{
+    put(out, b"node ")?;
+    put_number(out, u64::from(node.scope))?;
+    put(out, b" ")?;
+    put_shape(out, node.shape)?;
+    put(out, b"\n")
 }

@@ -1,12 +1,11 @@
-//! Lines, written.
-ghost use Rattle.std.specs.Prelude.{◌≡◌, [], ◌∷◌, ◌++◌, decimal, OnOk};
+//! Lines, written: all but those of nodes and instructions.
+ghost use Rattle.std.specs.Prelude.{◌≡◌, ◌++◌, decimal, OnOk};
 ghost use Rattle.ft_isa.specs.Operations.{op_word};
-ghost use Rattle.ft_asm.specs.Lines.{reg_word, colour_word, basic_word, base_word, shape_form, form_words};
-ghost use Rattle.ft_asm.specs.Reads.{line_text, spaced, cell_line, reg_head};
+ghost use Rattle.ft_asm.specs.Operands.{reg_word, colour_word, basic_word, base_word};
+ghost use Rattle.ft_asm.specs.Reads.{line_text, cell_line, reg_head};
 ghost use Rattle.ft_asm.specs.declared.line.Line.TheVariants as lines;
 
 use ft_isa::{Base, Basic, Colour, NoMemory, Op, Reg};
-use ft_static::{Node, Shape};
 use ft_types::RegType;
 use itoa::Buffer;
 
@@ -89,62 +88,6 @@ pub(crate) fn put_cell(
     put_basic(out, basic)?;
     put(out, b" ")?;
     put_number(out, init)?;
-    put(out, b"\n")
-}
-
-/// Appends two numbers, with a space between them.
-fn put_pair(out: &mut Vec<u8>, a: u32, b: u32) -> Result<(), NoMemory>
-    ensures { OnOk result (out.new.items ≡ out.old.items ++ spaced (decimal a ∷ decimal b ∷ [])) }
-{
-    put_number(out, u64::from(a))?;
-    put(out, b" ")?;
-    put_number(out, u64::from(b))
-}
-
-/// The words of a node after its scope.
-fn put_shape(out: &mut Vec<u8>, shape: Shape) -> Result<(), NoMemory>
-    ensures { OnOk result (out.new.items ≡ out.old.items ++ spaced (form_words (shape_form shape))) }
-{
-    match shape {
-        Shape::Word(word) => {
-            put(out, b"word ")?;
-            put_number(out, word)
-        }
-        Shape::Var(i) => {
-            put(out, b"var ")?;
-            put_number(out, u64::from(i))
-        }
-        Shape::Op { op, a, b } => {
-            put_op(out, op)?;
-            put(out, b" ")?;
-            put_pair(out, a, b)
-        }
-        Shape::Sel { memory, at } => {
-            put(out, b"sel ")?;
-            put_pair(out, memory, at)
-        }
-        Shape::Memory => put(out, b"memory"),
-        Shape::Upd { memory, at, value } => {
-            put(out, b"upd ")?;
-            put_pair(out, memory, at)?;
-            put(out, b" ")?;
-            put_number(out, u64::from(value))
-        }
-        Shape::Rem { a, length } => {
-            put(out, b"rem ")?;
-            put_pair(out, a, length)
-        }
-    }
-}
-
-/// The line of a node.
-pub(crate) fn put_node(out: &mut Vec<u8>, node: Node) -> Result<(), NoMemory>
-    ensures { OnOk result (out.new.items ≡ out.old.items ++ line_text (lines.Node node)) }
-{
-    put(out, b"node ")?;
-    put_number(out, u64::from(node.scope))?;
-    put(out, b" ")?;
-    put_shape(out, node.shape)?;
     put(out, b"\n")
 }
 

@@ -1,4 +1,4 @@
--- Steps beside the outputs of another run.
+-- Steps compared with the outputs of another run.
 use Rattle.std.proofs.Common.{◌≡◌, ℕ, ◌+◌, ◌-◌, ◌^◌, ◌<◌, ◌≤◌, List, [], ◌∷◌, ◌++◌, length, take, Bool, true, false, ap}
 use Rattle.std.proofs.Common.{sym, subst, ◌∙◌, append_assoc, arith, refl}
 use Rattle.ft_isa.specs.declared.plan.Wild.{Wild}

@@ -47,7 +47,7 @@ unmet_next o x w n s next first unmet e m lt =
     subst (λ k. next ≤ k) (sym is) (first m.kept.0 (subst (λ k. s < k) is (unmet e m lt)) (let le : e ≤ n =
     omega (arith, lt) in subst (λ k. k ≤ n) is le))
 
--- and none there, if it is tested
+-- there is no meeting there either, if it is tested
 pub unmet_there : (o : Object) (x : Strike) (w : List Wild) (n m : ℕ) → ((e : ℕ) → Meets o x w e → e < n → m ≤ e) →
     (m < n → ¬ (Meets o x w m)) → (e : ℕ) → Meets o x w e → e < n → m < e
 unmet_there o x w n m unmet apart e h lt =

@@ -23,7 +23,7 @@ pub lines_long : (xs : List Strike) (vs : List Verdict) → length vs ≡ length
     ≡ length xs
 lines_long xs vs e = length-map (zip xs vs) (λ p. verdict_line p.0 p.1) ∙ length-zip xs vs ∙ (omega arith)
 
--- it is between those before it and those after it
+-- the line of fault number i is between those before it and those after it
 pub line_there : (xs : List Strike) (vs : List Verdict) (i : ℕ) (x : Strike) (v d : Verdict) → i < length xs → length vs
     ≡ length xs → x ≡ get_or xs i x → v ≡ get_or vs i d
     → verdict_lines xs vs ≡ take i (verdict_lines xs vs) ++ verdict_line x v ∷ drop (suc i) (verdict_lines xs vs)

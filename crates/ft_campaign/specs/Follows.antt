@@ -1,4 +1,4 @@
--- Steps of a run beside the outputs of another: private to the crate.
+-- Steps of a run, compared with the outputs of another: private to the crate.
 use Rattle.std.specs.Prelude.{◌≡◌, ℕ, ◌≤◌, ◌<◌, Bool, true, false, List, [], ◌++◌, length, take}
 use Rattle.std.proofs.Common.{sym}
 use Rattle.std.proofs.lemmas.List.{append-nil}
@@ -31,7 +31,7 @@ WentSo On o s w whole old new number done = (done ≡ number) × Continues whole
 WentSo Stopped o s w whole old new number done = (0 < done) × Continues whole old new (span o done s w).outputs × (¬ ((span o done s w).state.status ≡ Running))
 WentSo Apart o s w whole old new number done = (0 < done) × (¬ (IsPrefix (take old whole ++ (span o done s w).outputs) whole))
 
--- some steps were taken beside the outputs of another run, the first `old` of which had been passed
+-- some steps were taken and compared with the outputs of another run, of which the first `old` had been passed
 pub record Follows (o : Object) (s : State) (w : List Wild) (s' : State) (w' : List Wild) (whole : List Output) (old new number : ℕ) (t : Followed) : Type 0 where
   pub few : t.done ≤ number
   pub state_is : s' ≡ (span o t.done s w).state

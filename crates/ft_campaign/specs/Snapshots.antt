@@ -1,4 +1,4 @@
--- What a campaign keeps of the run without a fault, and what one fault may cost: private but for the cost.
+-- What a campaign keeps of the run without a fault, and what one fault may cost: private except for the cost.
 use Rattle.std.specs.Prelude.{◌≡◌, ℕ, ◌+◌, ◌-◌, ◌*◌, ◌/◌, ◌<◌, ◌≤◌, List, ◌++◌, length, slice_get, take, None, Some, false, true}
 use Rattle.ft_isa.specs.declared.plan.Strike.{Strike}
 use Rattle.ft_isa.specs.declared.plan.Wild.{Wild}
@@ -31,12 +31,12 @@ abbrev pub first : Strike → ℕ
 first x = 1024 * (x.step / 1024)
 
 -- a bound on what a fault costs in steps: any number if it strikes nothing; else the steps from its snapshot to any
--- end, so to the first
+-- end, so also to the first
 pub data IsCost (o : Object) (w : List Wild) (n : ℕ) (x : Strike) (c : ℕ) : Type 0 where
   idle : is_struck o (Some x) w n ≡ false → IsCost o w n x c
   upto : (e : ℕ) → IsEnd o x w n e → c ≡ e - first x → IsCost o w n x c
 
--- where two runs that meet after m steps are after n
+-- after n steps, two runs that met after m steps have equal states, and equal outputs since then
 pub record HasMet (o : Object) (x : Strike) (w : List Wild) (m n : ℕ) : Type 0 where
   pub rest : List Output
   pub struck : outputs_after o (Some x) w n ≡ outputs_after o (Some x) w m ++ rest
@@ -89,8 +89,8 @@ pub record IsAtMeeting (o : Object) (x : Strike) (w : List Wild) (n at m count :
   pub running : status_after o None w m ≡ Running
   pub count_is : count ≡ length (outputs_after o None w m)
 
--- a machine is in the struck run after s steps, past the strike, with outputs that are a prefix of the other's, and the
--- runs have not met up to there
+-- a machine is in the struck run's state after s steps, past the strike, with outputs that are a prefix of the other's,
+-- and the runs have not met up to there
 pub record IsRacing (o : Object) (x : Strike) (w : List Wild) (n s : ℕ) (machine : State) (left : List Wild) (at : ℕ) : Type 0 where
   pub state : machine ≡ struck_before (Some x) s (state_after o (Some x) w s)
   pub wild : left ≡ wild_after o (Some x) w s
@@ -112,7 +112,7 @@ pub record AreSnapshots (o : Object) (w : List Wild) (k : ℕ) (snapshots : List
   pub row : k ≤ 1024 * length snapshots
   pub snapshots_are : (j : ℕ) (s : Snapshot) → slice_get snapshots j ≡ Some s → IsSnapshot o w (1024 * j) s
 
--- the bytes of the first k steps
+-- the length of the queue before each of the first k steps
 pub record AreLengths (o : Object) (w : List Wild) (k : ℕ) (lengths : List ℕ) : Type 0 where
   pub long : length lengths ≡ k
   pub queues : (i b : ℕ) → slice_get lengths i ≡ Some b → (status_after o None w i ≡ Running) × (b ≡ length (state_after o None w i).queue)

@@ -7,7 +7,7 @@ use Rattle.ft_campaign.specs.declared.totals.Totals.{Totals}
 use Rattle.ft_campaign.specs.declared.verdict.Verdict.{Verdict}
 use Rattle.ft_campaign.specs.declared.verdict.Verdict.TheVariants.{Idle, Masked, Detected, Corrupt}
 
--- which verdict it is
+-- whether a verdict is the named one
 abbrev pub is_masked : Verdict → Bool
 is_masked Masked = true
 is_masked _ = false
@@ -24,7 +24,7 @@ abbrev pub is_corrupt : Verdict → Bool
 is_corrupt Corrupt = true
 is_corrupt _ = false
 
--- how many there are of each
+-- how many verdicts there are of each kind
 abbrev pub totals_of : List Verdict → Totals
 totals_of vs = record {
   masked = count_by is_masked vs;

@@ -8,7 +8,7 @@ pub enum CampaignEnd {
     Finished(Totals),
     /// The number of faults times the number of steps is above 1,000,000,000.
     TooMuch {
-        /// This product.
+        /// The product.
         product: u64,
     },
     /// A line could not be written.

@@ -123,7 +123,7 @@ impl<'w> KeptRun<'w> {
         is_noticed_later(self.outputs.as_slice(), from, at)
     }
 
-    /// The verdict on a struck run that met this one, with the first `at` outputs, when this one had `count`.
+    /// The verdict on a struck run that met this one: it then had the first `at` outputs, and this one had `count`.
     pub(crate) fn verdict_at_meeting(&self, at: usize, count: usize) -> Verdict
         requires at { at ≤ length self.now.outputs.items }
         requires count { count ≤ length self.now.outputs.items }

@@ -1,4 +1,4 @@
-//! Steps of a struck run beside the outputs of the run without a fault.
+//! Steps of a struck run, compared with the outputs of the run without a fault.
 ghost use Rattle.std.specs.Prelude.{◌≡◌, ◌≤◌, ◌<◌, ◌+◌, ◌^◌, ◌++◌, ◌∷◌, [], ℕ, length, take, true};
 ghost use Rattle.ft_semantics.specs.Agrees.{IsPrefix};
 ghost use Rattle.ft_types.specs.Spellable.{IsSpellable};
@@ -48,7 +48,7 @@ fn is_next(whole: &[Output], at: &mut usize, output: Output) -> bool
     }
 }
 
-/// The outputs of the run without a fault, the first ones of which the struck run has put. It does not go on after an
+/// The outputs of the run without a fault, and how many of them the struck run has put. It does not go on after an
 /// output that is not the next of them.
 #[derive(Drop)]
 pub(crate) struct Expected<'a> {

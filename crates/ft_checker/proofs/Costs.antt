@@ -1,4 +1,4 @@
--- How many steps a check takes at the most.
+-- How many steps a check takes at most.
 use Rattle.std.proofs.Common.{ℕ, suc, zero, ◌≡◌, ◌+◌, ◌*◌, ◌≤◌, List, [], ◌∷◌, ◌++◌, length, take, slice_get, Option}
 use Rattle.std.proofs.Common.{Some, refl, sym, ap, ◌∙◌, subst, arith}
 use Rattle.std.specs.Option.{option_map, unwrap_or}
@@ -28,11 +28,11 @@ trees_within o n u l m =
     let c : 210 * (N * (1 + most_updates o)) ≡ 210 * N * (1 + most_updates o) = omega arith in
     omega (arith, a, b, c)
 
--- those of a block's start
+-- the cost of a block's start
 pub start_within : (o : Object) (s t : ℕ) → t ≤ s + 81 * tree_cost o 0 → t ≤ s + visit_cost o
 start_within o s t h = let a = trees_within o 81 0 (omega arith) (omega arith) in omega (arith, h, a)
 
--- those of a row
+-- the cost of a row
 pub rule_within : (o : Object) (k : Context) (i : Instr) → updates k.memory ≤ length o.nodes + length o.instrs →
     length k.queue ≤ 8 → rule_cost o k i ≤ transfers i * visit_cost o + walk_cost o
 unfolding walk_cost
@@ -50,7 +50,7 @@ unfolding instrs_cost
 cost_push o [] i = omega arith
 cost_push o (j ∷ is) i = let h = cost_push o is i in omega (arith, h)
 
--- the same of the first ones
+-- the same for the first ones
 pub cost_more : (o : Object) (is : List Instr) (k : ℕ) (i : Instr) → slice_get is k ≡ Some i →
     instrs_cost o (take (k + 1) is) ≡ instrs_cost o (take k is) + (transfers i * visit_cost o + walk_cost o)
 cost_more o is k i e =
@@ -76,7 +76,7 @@ cost_rises o (i ∷ is) zero (suc l) h = omega arith
 cost_rises o (i ∷ is) (suc k) zero h = absurd (omega arith)
 cost_rises o (i ∷ is) (suc k) (suc l) h = let r = cost_rises o is k l (omega arith) in omega (arith, r)
 
--- those of the first ones are within those of all
+-- the cost of the first instructions is within that of all
 pub cost_all : (o : Object) (is : List Instr) (k : ℕ) → instrs_cost o (take k is) ≤ instrs_cost o is
 unfolding instrs_cost
 cost_all o [] zero = omega arith
@@ -84,7 +84,7 @@ cost_all o [] (suc k) = omega arith
 cost_all o (i ∷ is) zero = omega arith
 cost_all o (i ∷ is) (suc k) = let r = cost_all o is k in omega (arith, r)
 
--- those of instructions by their number
+-- the cost of instructions by their number
 cost_counted : (o : Object) (is : List Instr) → instrs_cost o is
     ≡ transfer_count is * visit_cost o + length is * walk_cost o
 unfolding instrs_cost
@@ -96,7 +96,7 @@ cost_counted o (i ∷ is) =
     let b : suc (length is) * walk_cost o ≡ walk_cost o + length is * walk_cost o = omega arith in
     omega (arith, h, a, b)
 
--- those of all blocks and instructions are the bound
+-- the costs of all blocks and instructions add up to the bound
 pub cost_whole : (o : Object) → length o.blocks * visit_cost o + instrs_cost o o.instrs ≡ check_cost o
 unfolding visit_cost walk_cost
 cost_whole o =

@@ -29,7 +29,8 @@ use Rattle.ft_types.specs.Objects.{block_instrs}
 use Rattle.ft_typing.specs.Premise.{Premise}
 use Rattle.ft_typing.specs.declared.why.Why.TheVariants.{BlockEnd}
 use Rattle.ft_types.specs.Spellable.{AreBlocks, IsSpellable}
-use Rattle.ft_typing.specs.TypingRow.{Outcome, Goes, Ends, Fails, row}
+use Rattle.ft_typing.specs.TypingRow.{row}
+use Rattle.ft_typing.specs.RowWords.{Outcome, Goes, Ends, Fails}
 use Rattle.ft_contexts.proofs.Lists.{range_there}
 
 -- after a row that goes on
@@ -230,7 +231,7 @@ start_kept o fs gs s k h =
       count = omega (arith, m, c);
     }
 
--- so does the last one, if there is one
+-- the last start, if there is one, stays one if the list of forms grows
 pub last_kept : (o : Object) (fs gs : List Normal) (x : Option Start) → Keeps fs gs → IfSome x (IsStart o fs) →
     IfSome x (IsStart o gs)
 last_kept o fs gs None k h = tt

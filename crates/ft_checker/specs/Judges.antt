@@ -21,7 +21,7 @@ IsRefusalOf x (CellType k) = x ≡ Some (refusals.CellType k)
 IsRefusalOf x (Refused b i why) = x ≡ Some (refusals.Refused b i why)
 IsRefusalOf x NoMemory = Unit {0}
 
--- what a result says: nothing is refused, or this is
+-- what a result says: that nothing is refused, or which refusal it is
 abbrev pub Judges : {A : Type 0} → Option Refusal → Result A CheckError → Type 0
 Judges x (Ok a) = x ≡ None
 Judges x (Err e) = IsRefusalOf x e

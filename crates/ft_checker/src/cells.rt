@@ -8,7 +8,7 @@ use crate::error::CheckError;
 use ft_rules::has_type;
 use ft_types::Program;
 
-/// Ok if each cell's initial word has the cell's basic type; otherwise the lowest cell without that.
+/// Ok if each cell's initial word has the cell's basic type; otherwise the lowest cell whose word does not.
 pub fn check_cells<P: Program>(program: &P) -> Result<(), CheckError>
     requires { IsSpellable (P.object program.now) }
     ensures { Judges (first_refusal (cell_refusal (P.object program.now)) 0 (P.object program.now).cells) result }

@@ -54,7 +54,7 @@ fn base_number(base: Base) -> u32 {
     }
 }
 
-/// The place of a substitution's rows, as one word. The node for its memory is noted beside it.
+/// The place of a substitution's rows, as one word. The node for its memory is noted separately.
 fn rows_of(subst: Subst) -> u64 {
     joined(subst.first, subst.past)
 }

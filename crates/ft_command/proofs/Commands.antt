@@ -9,7 +9,7 @@ use Rattle.ft_command.specs.Commands.{name_of, allowed_of, turns_up_to, request_
 use Rattle.ft_command.specs.Commands.{Trials, Campaigns, Surveys, Compiles, Executes, Means, Debugs, Demonstrates}
 use Rattle.ft_command.specs.Commands.{Upgrades, Assembles, Disassembles, AreCommand, Asks, Schedules, Recovers, Links}
 
--- the command that a name is of, by its letters
+-- the command with this name, by its letters
 verb_by : Word → Verb
 verb_by w =
     if slice_index w 0 == 108 then verb.Link
@@ -76,7 +76,7 @@ asked_for words options v operand given other split only h =
     sym (ap (λ u. request_of u h.operand h.given) verbs ∙ ap (λ x. request_of v x h.given) (seconds _ _ _ _ _ _ same)
     ∙ ap (request_of v operand) given_is) ∙ h.request_is
 
--- no list of faults asks for the line on usage
+-- no list of faults asks for the usage line
 no_usage_of : (f : Word → Request) (x : Option Word) → ((w : Word) → Some (f w) ≡ Some Usage → ⊥) → option_map f x
     ≡ Some Usage → ⊥
 no_usage_of f None h e = absurd (cc)
@@ -87,7 +87,7 @@ no_usage_of_number : (x : Option ℕ) → option_map Demonstrates x ≡ Some Usa
 no_usage_of_number None e = absurd (cc)
 no_usage_of_number (Some n) e = absurd (cc)
 
--- no command asks for the line on usage
+-- no command asks for the usage line
 no_usage : (v : Verb) (operand : Word) (given : Given) → request_of v operand given ≡ Some Usage → ⊥
 no_usage verb.Check operand given e = absurd (cc)
 no_usage verb.Run operand given e = absurd (cc)
@@ -126,7 +126,7 @@ asks words (Disassembles object) h = h
 asks words (Schedules object) h = h
 asks words (Links map) h = h
 
--- what words ask for but usage, they are a command for
+-- words that are a command are one for whatever they ask for
 pub by_command : (words : List Word) (request other : Request) → AreCommand words request → Asks words other →
     AreCommand words other
 by_command words request Usage asked usage = absurd (usage request asked)

@@ -1,4 +1,4 @@
--- What the words ask for, without where its parts are in memory.
+-- What the words ask for, apart from where its parts are in memory.
 use Rattle.std.specs.Prelude.{Option}
 use Rattle.std.specs.Option.{option_map}
 use Rattle.ft_command.specs.declared.options.Options.{Options}

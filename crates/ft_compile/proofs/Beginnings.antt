@@ -16,14 +16,15 @@ use Rattle.ft_types.proofs.Maps.{get-insert}
 use Rattle.ft_lower.specs.Well.{known_first}
 use Rattle.ft_dup.specs.Images.{green, blue}
 use Rattle.ft_dup.proofs.Pairs.{blue_number}
-use Rattle.ft_compile.specs.Emitted.{first_pairs, scope_of_block, green_row, blue_row}
+use Rattle.ft_compile.specs.Emitted.{green_row, blue_row}
+use Rattle.ft_compile.specs.Noted.{first_pairs, scope_of_block}
 use Rattle.ft_compile.proofs.Walked.{first_pair}
 use Rattle.ft_compile.proofs.Forms.{green_number}
 use Rattle.ft_compile.proofs.KnownPairs.{green_is_not_blue, blue_is_not_green, IsGood}
 use Rattle.ft_compile.proofs.BlockTypes.{HasTypes, AreRows, type_rows}
 use Rattle.ft_compile.proofs.PremiseRows.{ty}
 
--- what a register has after rows that say the same of it
+-- what a register has after rows that say the same about it
 row_later : (o : Object) (m : TypedRegisters) (xs : List RegType) (r : ℕ) (t : Typed) → finite.get m r ≡ Some t →
     ((n : ℕ) (x : RegType) → slice_get xs n ≡ Some x → r ≡ x.reg.number → typed_row o x ≡ t) →
     finite.get (registers_after o m xs) r ≡ Some t
@@ -59,7 +60,7 @@ green_there a (suc n) zero rest lt = let z : a ≡ a + 0 = omega arith in ap (λ
 green_there a (suc n) (suc i) rest lt = let z : a + 1 + i ≡ a + suc i = omega arith in
     green_there (a + 1) n i rest (omega (arith, lt)) ∙ ap (λ j. Some (green_row j)) z
 
--- and the blue one
+-- a blue row of a variable is where it should be
 blue_there : (a n i : ℕ) → i < n → slice_get (map blue_row (range_with_len a n)) i ≡ Some (blue_row (a + i))
 blue_there a zero i lt = absurd (omega (arith, lt))
 blue_there a (suc n) zero lt = let z : a ≡ a + 0 = omega arith in ap (λ j. Some (blue_row j)) z
@@ -86,7 +87,7 @@ module _ (o : Object) (vars : ℕ) (T : HasTypes o vars) where
   abbrev all_rows : List RegType
   all_rows = map green_row (range_with_len 0 vars) ++ map blue_row (range_with_len 0 vars)
 
-  -- the rows say one thing of each register
+  -- the rows say one thing about the green register of each variable
   green_only : (q : ℕ) → q < vars → (n : ℕ) (x : RegType) → slice_get all_rows n ≡ Some x → (green q).number
       ≡ x.reg.number → typed_row o x ≡ ty Green int (integer_form_of o (1 + q))
   green_only q lt n x e f = go (row_at vars all_rows n x (type_rows vars) e)
@@ -104,7 +105,7 @@ module _ (o : Object) (vars : ℕ) (T : HasTypes o vars) where
       go (i, li, inr g) = absurd (green_is_not_blue i q (omega (arith, few, li)) (omega (arith, few, lt)) (f
           ∙ ap (λ (z : RegType). z.reg.number) g))
 
-  -- and the blue ones
+  -- the rows say one thing about the blue register of each variable
   blue_only : (q : ℕ) → q < vars → (n : ℕ) (x : RegType) → slice_get all_rows n ≡ Some x → (blue q).number
       ≡ x.reg.number → typed_row o x ≡ ty Blue int (integer_form_of o (1 + q))
   blue_only q lt n x e f = go (row_at vars all_rows n x (type_rows vars) e)

@@ -9,8 +9,7 @@ use Rattle.std.proofs.lemmas.List.{length-map, length-take-le, get_or-take, get_
 use Rattle.ft_isa.specs.declared.colour.Colour.TheVariants.{Green, Blue}
 use Rattle.ft_isa.specs.declared.instr.Subst.{Subst}
 use Rattle.ft_static.specs.declared.node.Shape.TheVariants as shape
-use Rattle.ft_static.specs.Form.{Updates, nought}
-use Rattle.ft_static.specs.FormOrder.{same_polynomial, same_updates}
+use Rattle.ft_static.specs.Form.{Updates, nought, same_polynomial, same_updates}
 use Rattle.ft_static.specs.NodeRules.{MayName, AreNodes}
 use Rattle.ft_static.proofs.Under.{get_or-map}
 use Rattle.ft_static.proofs.Equal.{equal_updates, same_itself}
@@ -21,10 +20,11 @@ use Rattle.ft_typing.specs.Context.{Context, typed, rows_of, replacement, intege
 use Rattle.ft_typing.specs.Context.{integer_form_after, memory_form_after, FormPair}
 use Rattle.ft_isa.specs.BasicTypes.{int}
 use Rattle.ft_typing.specs.TypedWord.{is_seen_as, same_basic}
-use Rattle.ft_typing.specs.TypingRow.{Outcome, same_colour, need, is_like, are_like, is_queue_like, is_annotated, leads}
+use Rattle.ft_typing.specs.RowWords.{Outcome, same_colour, need, is_like, are_like, is_queue_like, is_annotated, leads}
 use Rattle.ft_lower.specs.Well.{Known, KeepsVariables}
 use Rattle.ft_dup.specs.Images.{green, blue}
-use Rattle.ft_compile.specs.Emitted.{node, variable_node, at_first, green_row, blue_row}
+use Rattle.ft_compile.specs.Emitted.{variable_node, at_first, green_row, blue_row}
+use Rattle.ft_compile.specs.Noted.{node}
 use Rattle.ft_compile.proofs.Lists.{Starts, get_starts}
 use Rattle.ft_compile.proofs.Named.{IsNamed}
 use Rattle.ft_compile.proofs.Walked.{variable_there}
@@ -57,7 +57,7 @@ blue_rows : (n a k : ℕ) → a + k ≤ n → AreRows n (map blue_row (range_wit
 blue_rows n a zero h = tt
 blue_rows n a (suc k) h = ((a, omega (arith, h), inr refl), blue_rows n (a + 1) k (omega (arith, h)))
 
--- and the green ones before them
+-- green rows of variables before rows of variables are rows of variables, too
 green_rows : (n a k : ℕ) (rest : List RegType) → a + k ≤ n → AreRows n rest →
     AreRows n (map green_row (range_with_len a k) ++ rest)
 green_rows n a zero rest h r = r
@@ -88,17 +88,17 @@ module _ (o : Object) (vars : ℕ) (T : HasTypes o vars) (scope : ℕ) (pairs : 
       ≡ Some (ty Green int (integer_form_of o (slice_index pairs q))))
       × (typed c (blue q).number ≡ Some (ty Blue int (integer_form_of o (slice_index pairs q))))
 
-  -- the forms that are put are those of the variables' nodes
+  -- the forms that are substituted are those of the variables' nodes
   put_rows : PutsThese → (replacement o u).integers ≡ map (integer_form_of o) (take vars pairs)
   unfolding replacement
   put_rows P = ap (map (integer_form_of o)) P.rows
 
-  -- and that of the memory's
+  -- the form that is substituted for the memory is that of its node
   put_memory : PutsThese → (replacement o u).memory ≡ memory_form_of o memory
   unfolding replacement
   put_memory P = ap (memory_form_of o) P.memory_is
 
-  -- the target's variable is what is put for it
+  -- the target's variable is what is substituted for it
   put_variable : PutsThese → (q : ℕ) → q < vars → integer_form_after o (replacement o u) (1 + q)
       ≡ integer_form_of o (slice_index pairs q)
   put_variable P q lt =
@@ -131,7 +131,7 @@ module _ (o : Object) (vars : ℕ) (T : HasTypes o vars) (scope : ℕ) (pairs : 
       (ap (λ t. is_like o (replacement o u) t (blue_row q)) (h q lt).1 ∙ ap (same_polynomial y) (put_variable P q lt)
       ∙ same_itself y)
 
-  -- so are all
+  -- the registers of all rows are as the rows require
   rows_like : PutsThese → (c : Context) (xs : List RegType) → HasVariables c → AreRows vars xs →
       are_like o (replacement o u) c xs ≡ true
   rows_like P c [] h r = refl
@@ -143,7 +143,7 @@ module _ (o : Object) (vars : ℕ) (T : HasTypes o vars) (scope : ℕ) (pairs : 
   unfolding is_queue_like
   queue_like q e = rw (e, T.queue) refl
 
-  -- the memory is what is put for it
+  -- the memory is what is substituted for it
   memory_like : PutsThese → (m : Updates) → m ≡ memory_form_of o memory →
       same_updates m (memory_form_after o (replacement o u) (memory_of o 1)) ≡ true
   memory_like P m e =

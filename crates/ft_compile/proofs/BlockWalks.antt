@@ -30,7 +30,8 @@ use Rattle.ft_lower.specs.Well.{IsWell}
 use Rattle.ft_dup.specs.Images.{green, blue, loads, stores, start_of}
 use Rattle.ft_dup.proofs.Pairs.{learned, forgotten, greens_differ, blues_differ}
 use Rattle.ft_compile.specs.Cells.{AreCells}
-use Rattle.ft_compile.specs.Emitted.{Noted, jump_subst, step_noted, begun, scope_of_block, green_row, blue_row}
+use Rattle.ft_compile.specs.Emitted.{green_row, blue_row}
+use Rattle.ft_compile.specs.Noted.{Noted, jump_subst, step_noted, begun, scope_of_block}
 use Rattle.ft_compile.specs.Emitted.{entry_type, variables_type, cell_from, at_first, emitted, IsEmitted}
 use Rattle.ft_compile.proofs.Walked.{block_noted, RowsAreFine, well_rows}
 use Rattle.ft_compile.proofs.Coded.{coded_step, row_coded, rows_coded}
@@ -94,7 +95,7 @@ unentered_learn k e p lt h = record {
   ];
 }
 
--- nor if its registers are written once more
+-- known pairs stay unentered if the registers of a pair get anything but a code address
 unentered_again : (k : Known) (e : Entered) (p : ℕ) → AreUnentered k e → AreUnentered k (two p None e)
 unentered_again k e p h = record {
   below = h.below;
@@ -104,7 +105,7 @@ unentered_again k e p h = record {
       (out_stays e (green p).number (blue q).number (h.blue_out q known));
 }
 
--- nor is any other pair, whatever a pair gets
+-- another pair is not entered either, whatever a pair gets
 unentered_forget : (k : Known) (e : Entered) (p : ℕ) (v : Option ℕ) → p < 32 → AreUnentered k e →
     AreUnentered (forget p k) (two p v e)
 unentered_forget k e p v lt h = record {
@@ -130,7 +131,7 @@ entered_green : (e : Entered) (p : ℕ) (v : Option ℕ) → p < 32 → finite.g
 entered_green e p v lt = other_stays (entered_with (green p).number v e) (blue p).number (green p).number v
     (green_is_not_blue p p lt lt) ∙ taken_out e (green p).number v
 
--- and the blue one
+-- the blue register of a pair that got a code address
 entered_blue : (e : Entered) (p : ℕ) (v : Option ℕ) → finite.get (two p v e) (blue p).number ≡ v
 entered_blue e p v = taken_out (entered_with (green p).number v e) (blue p).number v
 
@@ -185,7 +186,7 @@ module _ (o : Object) (vars : ℕ) (rows_are : reg_rows o 1 ≡ map green_row (r
       (out_stays e (green p).number (blue p).number b))
       (next (two p None e) (unentered_again k e p h) (suc (suc n)))
 
-  -- and stores to them
+  -- stores to the addresses in both registers of a pair are passed
   stores_walk : (k : Known) (p q : ℕ) (rest : List Instr) → k q ≡ true → WalksOn k rest → (e : Entered) →
       AreUnentered k e → finite.get e (green p).number ≡ None → finite.get e (blue p).number ≡ None → (n : ℕ) →
       code_walk o e n (stores p q ++ rest) ≡ None
@@ -294,7 +295,7 @@ plain_cells : (xs : List (List ℕ × ℕ)) → All HasPlainCell (map cell_from 
 plain_cells [] = All-nil HasPlainCell
 plain_cells (x ∷ xs) = All-cons HasPlainCell (cell_from x) (map cell_from xs) refl (plain_cells xs)
 
--- so are the rows of variables
+-- the rows of variables are plain
 plain_rows : (vars : ℕ) (xs : List RegType) → AreRows vars xs → All HasPlainRow xs
 plain_rows vars [] r = All-nil HasPlainRow
 plain_rows vars (x ∷ xs) r = All-cons HasPlainRow x xs (here r.0.2) (plain_rows vars xs r.1)
@@ -323,7 +324,7 @@ module _ (names : List (List ℕ)) (inits : List ℕ) (vars : ℕ) (bs : Blocks)
       (begun w) x f.0.well f.0.pairs finite.empty (unentered_first vars b F) 0)
   rows_walk b w (x ∷ xs) f (suc j) r e = rows_walk (suc b) (block_noted vars b w x) xs f.1 j r e
 
-  -- so are those of each block
+  -- the instructions of each block are passed
   blocks_walked : (b : ℕ) → b < length o.blocks → code_walk o finite.empty 0 (block_instrs o b) ≡ None
   blocks_walked b lt =
       let here : b < length bs = let c = block_count names inits vars bs C F W in omega (arith, lt) in
@@ -346,12 +347,12 @@ module _ (names : List (List ℕ)) (inits : List ℕ) (vars : ℕ) (bs : Blocks)
         walked = blocks_walked;
       }
 
--- so is the object of a flow of a program, over its cells
+-- the object of a flow of a program, over its cells, is a module
 pub module_of_flow : (p : Program) (o : Object) → AreCells p.names p.inits → IsEmitted p o → IsModule o.cells o
 module_of_flow p o C h = subst (λ (x : Object). IsModule x.cells x) (sym h.object)
     (module_of_blocks p.names p.inits p.vars h.flow C h.few h.well)
 
--- and that of a text's program
+-- the object of a text's program is a module
 pub compiled_module : (text : List ℕ) (p : Program) (o : Object) → IsProgramOf text p → IsEmitted p o →
     IsModule o.cells o
 compiled_module text p o h e = module_of_flow p o (program_cells text p h) e

@@ -12,7 +12,7 @@ use Rattle.ft_lower.specs.declared.step3.Step3.TheVariants.{Put, Copy, Op, Load,
 use Rattle.ft_lower.specs.Flow.{Blocks}
 use Rattle.ft_lower.specs.Size.{size, row_size, blocks_size}
 use Rattle.ft_dup.specs.Images.{image, row_images, blocks_images, starts_from}
-use Rattle.ft_compile.specs.Emitted.{Noted, jump_subst, step_noted, row_noted, begun, scope_of_block, blocks_noted}
+use Rattle.ft_compile.specs.Noted.{Noted, jump_subst, step_noted, row_noted, begun, scope_of_block, blocks_noted}
 use Rattle.ft_compile.specs.Emitted.{with_subst, placed}
 use Rattle.ft_compile.proofs.Walked.{block_noted}
 
@@ -48,7 +48,7 @@ module _ (vars : ℕ) (start : ℕ → ℕ) where
   row_added scope w [] = []
   row_added scope w (i ∷ is) = step_added w i ++ row_added scope (step_noted vars scope w i) is
 
-  -- those of blocks
+  -- the substitutions that blocks add
   abbrev pub rows_coded : ℕ → Noted → Blocks → List (List Instr)
   rows_coded b w [] = []
   rows_coded b w (x ∷ xs) = row_coded (scope_of_block vars b) (begun w) x ∷ rows_coded (suc b) (block_noted vars b w x)
@@ -80,7 +80,7 @@ module _ (vars : ℕ) (start : ℕ → ℕ) where
   added_step scope w (Go spare to) = refl
   added_step scope w Stop = sym (append-nil w.substs)
 
-  -- after a row, those of its steps
+  -- what is noted after a row has the substitutions of its steps at the end
   added_row : (scope : ℕ) (w : Noted) (is : List Step3) → (row_noted vars scope w is).substs ≡ w.substs
       ++ row_added scope w is
   added_row scope w [] = sym (append-nil w.substs)
@@ -89,7 +89,7 @@ module _ (vars : ℕ) (start : ℕ → ℕ) where
       added_row scope v is ∙ ap (λ l. l ++ row_added scope v is) (added_step scope w i)
       ∙ append_assoc w.substs (step_added w i) (row_added scope v is)
 
-  -- after blocks, those of their rows
+  -- what is noted after blocks has the substitutions of their rows at the end
   pub added_blocks : (b : ℕ) (w : Noted) (xs : Blocks) → (blocks_noted vars b w xs).substs ≡ w.substs
       ++ blocks_added b w xs
   added_blocks b w [] = sym (append-nil w.substs)
@@ -140,7 +140,7 @@ module _ (vars : ℕ) (start : ℕ → ℕ) where
 
   -- LENGTHS
 
-  -- substitutions leave a step as many instructions as it becomes
+  -- with its substitution, a step is as many instructions as its size says
   step_length : (u : Subst) (i : Step3) → length (coded_step start u i) ≡ size i
   step_length u (Put p v) = refl
   step_length u (Copy p q) = refl
@@ -153,7 +153,7 @@ module _ (vars : ℕ) (start : ℕ → ℕ) where
   step_length u (Go spare to) = refl
   step_length u Stop = refl
 
-  -- so they leave a row
+  -- with their substitutions, the steps of a row are as many instructions as their sizes say
   row_length : (scope : ℕ) (w : Noted) (is : List Step3) → length (row_coded scope w is) ≡ row_size is
   row_length scope w [] = refl
   row_length scope w (i ∷ is) =
@@ -162,7 +162,7 @@ module _ (vars : ℕ) (start : ℕ → ℕ) where
       ∙ ap (λ n. n + length (row_coded scope v is)) (step_length (jump_subst vars w) i)
       ∙ ap (λ n. size i + n) (row_length scope v is)
 
-  -- and all blocks
+  -- with their substitutions, all blocks are as many instructions as their sizes say
   pub joined_length : (b : ℕ) (w : Noted) (xs : Blocks) → length (joined (rows_coded b w xs)) ≡ blocks_size xs
   joined_length b w [] = refl
   joined_length b w (x ∷ xs) =

@@ -18,8 +18,9 @@ use Rattle.ft_lower.specs.Flow.{Blocks}
 use Rattle.ft_lower.specs.Size.{size, row_size, blocks_size}
 use Rattle.ft_lower.specs.Well.{IsBlock}
 use Rattle.ft_dup.specs.Images.{starts_from, start_of}
-use Rattle.ft_compile.specs.Emitted.{Noted, node, pair_node, with_node, with_address_nodes, with_jump, step_noted}
-use Rattle.ft_compile.specs.Emitted.{row_noted, begun, scope_of_block, blocks_noted, block_from, blocks_at}
+use Rattle.ft_compile.specs.Noted.{Noted, node, pair_node, with_node, with_address_nodes, with_jump, step_noted}
+use Rattle.ft_compile.specs.Noted.{row_noted, begun, scope_of_block, blocks_noted}
+use Rattle.ft_compile.specs.Emitted.{block_from, blocks_at}
 use Rattle.ft_compile.proofs.Walked.{block_noted, RowsAreFine}
 
 -- NODES AND ROWS
@@ -43,7 +44,7 @@ address_length scope begin many q w =
     let c = length_pushed w2.nodes (node scope (shape.Op Add (length w.nodes) (length w.nodes + 1))) in
     omega arith
 
--- each instruction gives a node at most
+-- each instruction gives at most one node
 pub nodes_step : (vars scope : ℕ) (w : Noted) (i : Step3) →
     length (step_noted vars scope w i).nodes ≤ length w.nodes + size i
 nodes_step vars scope w (Put p v) = pushes_one w.nodes _ 2 (omega arith)
@@ -67,7 +68,7 @@ nodes_step vars scope w (Exit q spare to) = omega arith
 nodes_step vars scope w (Go spare to) = omega arith
 nodes_step vars scope w Stop = omega arith
 
--- so does each instruction of a row
+-- each instruction of a row gives at most one node
 pub nodes_row : (vars scope : ℕ) (w : Noted) (is : List Step3) →
     length (row_noted vars scope w is).nodes ≤ length w.nodes + row_size is
 nodes_row vars scope w [] = omega arith
@@ -77,7 +78,7 @@ nodes_row vars scope w (i ∷ is) = omega (
   nodes_row vars scope (step_noted vars scope w i) is,
 )
 
--- and of all blocks
+-- each instruction of all blocks gives at most one node
 pub nodes_blocks : (vars b : ℕ) (w : Noted) (xs : Blocks) →
     length (blocks_noted vars b w xs).nodes ≤ length w.nodes + blocks_size xs
 nodes_blocks vars b w [] = omega arith
@@ -106,7 +107,7 @@ rows_step vars scope w (Exit q spare to) few = rows_jump vars w few
 rows_step vars scope w (Go spare to) few = rows_jump vars w few
 rows_step vars scope w Stop few = omega arith
 
--- and a row
+-- a row gives at most eight rows for each of its instructions
 pub rows_row : (vars scope : ℕ) (w : Noted) (is : List Step3) → vars ≤ 32 →
     length (row_noted vars scope w is).rows ≤ length w.rows + 8 * row_size is
 rows_row vars scope w [] few = omega arith
@@ -116,7 +117,7 @@ rows_row vars scope w (i ∷ is) few = omega (
   rows_row vars scope (step_noted vars scope w i) is few,
 )
 
--- and all blocks
+-- blocks give at most eight rows for each of their instructions
 pub rows_blocks : (vars b : ℕ) (w : Noted) (xs : Blocks) → vars ≤ 32 →
     length (blocks_noted vars b w xs).rows ≤ length w.rows + 8 * blocks_size xs
 rows_blocks vars b w [] few = omega arith
@@ -209,7 +210,7 @@ find_later (t ∷ ss) k s e = by (code_address s == code_address t) refl k e (λ
     by false f (suc j) e rec = ap (λ b. cond b (Some (block_from t))
         (find (λ (b : Block). code_address s == code_address b.start) (map block_from ss))) f ∙ rec j e
 
--- so it is among all blocks
+-- so a later block is found among all blocks
 pub find_block : (x : List Step3) (xs : Blocks) (b : ℕ) → 0 < row_size x → b < length xs →
     let s = start_of (x ∷ xs) (suc b) in find (λ (c : Block). code_address s == code_address c.start)
     (blocks_at (starts_from 0 (x ∷ xs))) ≡ Some (block_from s)

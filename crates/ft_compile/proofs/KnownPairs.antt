@@ -26,7 +26,7 @@ pub green_is_not_blue : (p q : ℕ) → p < 32 → q < 32 → (green q).number �
 green_is_not_blue p q lp lq e = let f = sym (green_number q (omega arith)) ∙ e ∙ blue_number p lp in
     (let g : q ≡ 32 + p = f in omega arith)
 
--- nor the other way round
+-- a blue register is not a green one
 pub blue_is_not_green : (p q : ℕ) → p < 32 → q < 32 → (blue q).number ≢ (green p).number
 blue_is_not_green p q lp lq e = green_is_not_blue q p lq lp (sym e)
 
@@ -36,7 +36,7 @@ pub both_green : (p : ℕ) (b : Basic) (x : Polynomial) (c : Context) → p < 32
 both_green p b x c lt = typed_other (with_type (green p).number (ty Green b x) c) (blue p).number (ty Blue b x)
     (green p).number (green_is_not_blue p p lt lt) ∙ typed_same c (green p).number (ty Green b x)
 
--- and its blue one
+-- the blue register of the pair that was set
 pub both_blue : (p : ℕ) (b : Basic) (x : Polynomial) (c : Context) → typed (both p b x c) (blue p).number
     ≡ Some (ty Blue b x)
 both_blue p b x c = typed_same (with_type (green p).number (ty Green b x) c) (blue p).number (ty Blue b x)
@@ -48,7 +48,7 @@ other_green p q b x c lp lq ne = typed_other (with_type (green p).number (ty Gre
     (green q).number (green_is_not_blue p q lp lq)
     ∙ typed_other c (green p).number (ty Green b x) (green q).number (greens_differ p q lp lq ne)
 
--- and its blue one
+-- the blue register of another pair
 pub other_blue : (p q : ℕ) (b : Basic) (x : Polynomial) (c : Context) → p < 32 → q < 32 → q ≢ p →
     typed (both p b x c) (blue q).number ≡ typed c (blue q).number
 other_blue p q b x c lp lq ne = typed_other (with_type (green p).number (ty Green b x) c) (blue p).number (ty Blue b x)
@@ -77,7 +77,7 @@ Others o k pairs p c = (q : ℕ) → q ≢ p → k q ≡ true →
     (typed c (green q).number ≡ Some (ty Green int (integer_form_of o (slice_index pairs q))))
     × (typed c (blue q).number ≡ Some (ty Blue int (integer_form_of o (slice_index pairs q)))) × (q < 32)
 
--- it holds of all known pairs
+-- the same holds of all known pairs
 pub others_of : (o : Object) (scope : ℕ) (k : Known) (pairs : List ℕ) (memory p : ℕ) (c : Context) →
     IsGood o scope k pairs memory c → Others o k pairs p c
 others_of o scope k pairs memory p c G q ne h = (G.green_pair q h, G.blue_pair q h, G.small q h)

@@ -18,8 +18,9 @@ use Rattle.ft_typing.specs.Accepted.{Applies, last_row, next_row}
 use Rattle.ft_typing.specs.Context.{d_zero, d_code, d_conditional, Context, typed, with_type, integer_form_of}
 use Rattle.ft_isa.specs.BasicTypes.{code, int, ref}
 use Rattle.ft_typing.specs.TypedWord.{has_type, run_type}
-use Rattle.ft_typing.specs.TypingRow.{Goes, Ends, same_colour, need, for_typed, for_code_over, for_zero, for_target}
-use Rattle.ft_typing.specs.TypingRow.{for_conditional, is_empty, leads, row}
+use Rattle.ft_typing.specs.RowWords.{Goes, Ends, same_colour, need, for_typed, for_code_over, for_zero, for_target}
+use Rattle.ft_typing.specs.RowWords.{for_conditional, is_empty, leads}
+use Rattle.ft_typing.specs.TypingRow.{row}
 use Rattle.ft_scope.specs.declared.slot.Slot.TheVariants.{Run}
 use Rattle.ft_scope.specs.Size.{RunFits}
 use Rattle.ft_lower.specs.declared.step3.Step3.{Step3}
@@ -28,7 +29,7 @@ use Rattle.ft_lower.specs.Size.{pairs_of}
 use Rattle.ft_lower.specs.Well.{Known, forget, known_after, is_last, IsBlock, KeepsVariables, IsTarget, StepFits}
 use Rattle.ft_lower.specs.Well.{ReadsKnown, RowIsWell}
 use Rattle.ft_dup.specs.Images.{green, blue}
-use Rattle.ft_compile.specs.Emitted.{Noted, with_jump, jump_subst, step_noted, row_noted}
+use Rattle.ft_compile.specs.Noted.{Noted, with_jump, jump_subst, step_noted, row_noted}
 use Rattle.ft_compile.proofs.Lists.{Starts, starts_trans}
 use Rattle.ft_compile.proofs.Named.{IsNamed, IsLawful, step_lawful}
 use Rattle.ft_compile.proofs.Walked.{row_grows}
@@ -47,7 +48,7 @@ branch_green_row : (o : Object) (c : Context) (rz rd : Reg) (z a : Polynomial) �
 unfolding need for_typed for_code_over for_zero same_colour
 branch_green_row o c rz rd z a hz hd d = rw (hz, hd, d) refl
 
--- that of a blue one after it
+-- the row of a blue branch after it
 branch_blue_row : (o : Object) (c : Context) (rz rd : Reg) (u : Subst) (z a : Polynomial) → typed c rz.number
     ≡ Some (ty Blue int z) → typed c rd.number ≡ Some (ty Blue (code 1) a) →
     leads o u 1 (record c { d = d_conditional z 1 a }) (Goes (record c { d = d_zero }))
@@ -62,7 +63,7 @@ jump_green_row : (o : Object) (c : Context) (rd : Reg) (a : Polynomial) → type
 unfolding need for_typed for_code_over for_zero same_colour
 jump_green_row o c rd a hd d = rw (hd, d) refl
 
--- that of a blue one after it
+-- the row of a blue jump after it
 jump_blue_row : (o : Object) (c : Context) (rd : Reg) (u : Subst) (a : Polynomial) → typed c rd.number
     ≡ Some (ty Blue (code 1) a) → leads o u 1 (record c { d = d_code 1 a }) Ends ≡ Ends →
     row o (record c { d = d_code 1 a }) (instr.JmpB rd u) ≡ Ends

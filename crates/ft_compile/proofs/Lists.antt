@@ -12,7 +12,7 @@ Starts {X} xs ys = (rest : List X) × (xs ++ rest ≡ ys)
 pub starts_refl : {X : Type 0} (xs : List X) → Starts xs xs
 starts_refl xs = ([], append-nil xs)
 
--- what begins a beginning begins the whole
+-- a prefix of a prefix is a prefix of the whole
 pub starts_trans : {X : Type 0} (xs ys zs : List X) → Starts xs ys → Starts ys zs → Starts xs zs
 starts_trans xs ys zs p q = (p.0 ++ q.0, sym (append_assoc xs p.0 q.0) ∙ ap (λ l. l ++ q.0) p.1 ∙ q.1)
 
@@ -25,15 +25,15 @@ pub get_starts : {X : Type 0} (xs ys : List X) (k : ℕ) (x : X) → Starts xs y
     ≡ Some x
 get_starts xs ys k x p e = subst (λ l. slice_get l k ≡ Some x) p.1 (there_front xs p.0 k x e)
 
--- what begins with one more begins
+-- a list is a prefix if it is one with one more element
 pub starts_less : {X : Type 0} (xs ys : List X) (x : X) → Starts (xs ++ x ∷ []) ys → Starts xs ys
 starts_less xs ys x s = starts_trans xs (xs ++ x ∷ []) ys (x ∷ [], refl) s
 
--- what begins a list begins it with one more
+-- a prefix of a list is one of the list with one more element
 pub starts_more : {X : Type 0} (xs ys : List X) (y : X) → Starts xs ys → Starts xs (ys ++ y ∷ [])
 starts_more xs ys y s = starts_trans xs ys (ys ++ y ∷ []) s (y ∷ [], refl)
 
--- one more is the last
+-- an element added at the end is the last
 pub get_last : {X : Type 0} (xs : List X) (x : X) → slice_get (xs ++ x ∷ []) (length xs) ≡ Some x
 get_last [] x = refl
 get_last (y ∷ ys) x = get_last ys x

@@ -47,7 +47,7 @@ cost_if_most true x = omega arith
 cost_if_most false None = omega arith
 cost_if_most false (Some s) = omega (arith, size_most s)
 
--- so do k steps k times
+-- k steps cost at most eight times k machine steps
 cost_most : (bs : Blocks) (k : ℕ) (f : FlowState) → cost bs k f ≤ 8 * k
 cost_most bs zero f = omega arith
 cost_most bs (suc k) f = omega (arith, cost_if_most f.done (flow.step_at bs f.place), cost_most bs k (flow_step bs f))
@@ -58,11 +58,11 @@ cost_most bs (suc k) f = omega (arith, cost_if_most f.done (flow.step_at bs f.pl
 stopped_done : (x : Status) → x ≡ Done → HasStopped x
 stopped_done x e = subst HasStopped (sym e) tt
 
--- so has one that is detected
+-- a machine that has detected a fault has stopped
 stopped_detected : (x : Status) → x ≡ Detected → HasStopped x
 stopped_detected x e = subst HasStopped (sym e) tt
 
--- no status is two
+-- no status is both done and detected
 done_undetected : (x : Status) → x ≡ Done → x ≡ Detected → ⊥
 done_undetected x p q = cc
 

@@ -16,8 +16,8 @@ use Rattle.ft_lower.specs.declared.step3.Step3.TheVariants.{Put, Copy, Op, Load,
 use Rattle.ft_lower.specs.Size.{pairs_of}
 use Rattle.ft_lower.specs.Well.{Known, learn, forget, known_after, StepFits, ReadsKnown}
 use Rattle.ft_dup.proofs.Pairs.{learned, forgotten}
-use Rattle.ft_compile.specs.Emitted.{Noted, node, pair_node, with_node, with_pair_node, with_memory_node}
-use Rattle.ft_compile.specs.Emitted.{with_address_nodes, step_noted}
+use Rattle.ft_compile.specs.Noted.{Noted, node, pair_node, with_node, with_pair_node, with_memory_node}
+use Rattle.ft_compile.specs.Noted.{with_address_nodes, step_noted}
 use Rattle.ft_compile.proofs.Lists.{Starts, starts_less, get_newest}
 
 module _ (F : List Node) where

@@ -15,17 +15,17 @@ use Rattle.ft_compile.specs.Cells.{AreCells}
 letters_same : (b : ℕ) → is_letter b ≡ spell.is_letter b
 letters_same b = ap (λ x. x || (b == 95)) (or_comm (nat_le 97 b && nat_le b 122) (nat_le 65 b && nat_le b 90))
 
--- so are the bytes of names
+-- the bytes of names are the same in sources and objects
 bytes_same : (b : ℕ) → is_cell_byte b ≡ spell.is_name_byte b
 bytes_same b = ap (λ x. x || is_digit b || spell.is_bracket b) (letters_same b)
 
--- so are lists of them
+-- lists of such bytes are the same
 all_same : (bs : List ℕ) → list_all is_cell_byte bs ≡ list_all spell.is_name_byte bs
 all_same [] = refl
 all_same (b ∷ bs) = ap (λ x. x && list_all is_cell_byte bs) (bytes_same b)
     ∙ ap (λ x. spell.is_name_byte b && x) (all_same bs)
 
--- and names
+-- names are the same
 names_same : (t : List ℕ) → is_cell_text t ≡ spell.is_name t
 names_same [] = refl
 names_same (b ∷ bs) = ap (λ x. x && list_all is_cell_byte bs) (letters_same b)
@@ -42,6 +42,6 @@ proper_cells p proper = record {
   words = proper.words;
 }
 
--- so are those of a text's program
+-- the cells of a text's program are lawful in objects
 pub program_cells : (text : List ℕ) (p : Program) → IsProgramOf text p → AreCells p.names p.inits
 program_cells text p h = proper_cells p (program_is_proper text p h)

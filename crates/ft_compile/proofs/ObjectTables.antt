@@ -35,7 +35,7 @@ names_of_cells [] inits e = refl
 names_of_cells (n ∷ ns) [] e = absurd (omega (arith, e))
 names_of_cells (n ∷ ns) (w ∷ ws) e = ap (λ l. n ∷ l) (names_of_cells ns ws (omega (arith, e)))
 
--- and the initial words
+-- the cells have the initial words
 pub words_of_cells : (names : List (List ℕ)) (inits : List ℕ) → length names ≡ length inits →
     map init_of_cell (map cell_from (zip names inits)) ≡ inits
 words_of_cells [] [] e = refl
@@ -43,7 +43,7 @@ words_of_cells [] (w ∷ ws) e = absurd (omega (arith, e))
 words_of_cells (n ∷ ns) [] e = absurd (omega (arith, e))
 words_of_cells (n ∷ ns) (w ∷ ws) e = ap (λ l. w ∷ l) (words_of_cells ns ws (omega (arith, e)))
 
--- and are as many
+-- there are as many cells as initial words
 pub many_cells : (names : List (List ℕ)) (inits : List ℕ) → length names ≡ length inits →
     length (map cell_from (zip names inits)) ≡ length inits
 many_cells [] [] e = refl
@@ -72,7 +72,7 @@ lawful_cells (n ∷ ns) (w ∷ ws) h k =
     })
     (lawful_cells ns ws (All-tail IsCellName n ns h) (All-tail IsWord w ws k))
 
--- so does the cell at a place
+-- the cell at a place has the type `int`
 pub cell_is_int : (xs : List (List ℕ × ℕ)) (k : ℕ) (c : Cell) → slice_get (map cell_from xs) k ≡ Some c → c.basic ≡ int
 cell_is_int [] k c e = cc
 cell_is_int (x ∷ xs) zero c e = let f : cell_from x ≡ c = cc in sym (ap basic_of f)
@@ -97,7 +97,7 @@ bare_subst (instr.BzB rz rd t) [] = refl
 bare_subst (instr.BzB rz rd t) (u ∷ us) = refl
 bare_subst i us = refl
 
--- nor do all of them
+-- all substitutions in place change nothing else
 pub bare_placed : (us : List Subst) (is : List Instr) → map bare (placed us is) ≡ map bare is
 bare_placed us [] = refl
 bare_placed us (i ∷ is) = ap (λ x. x ∷ map bare (placed (substs_left i us) is)) (bare_subst i us)

@@ -30,7 +30,8 @@ use Rattle.ft_dup.specs.Doubles.{words_of}
 use Rattle.ft_dup.proofs.WellFormedBlocks.{starts_length}
 use Rattle.ft_dup.specs.Images.{starts, start_of, doubled}
 use Rattle.ft_compile.specs.Cells.{AreCells}
-use Rattle.ft_compile.specs.Emitted.{Noted, placed, begun, scope_of_block, blocks_noted, at_first, noted, emitted}
+use Rattle.ft_compile.specs.Emitted.{placed, at_first, noted, emitted}
+use Rattle.ft_compile.specs.Noted.{Noted, begun, scope_of_block, blocks_noted, node}
 use Rattle.ft_compile.specs.Laws.{IsEmission, EmittedObjectsAreAccepted}
 use Rattle.ft_compile.proofs.Lists.{Starts, starts_refl, starts_trans, get_starts}
 use Rattle.ft_compile.proofs.Walked.{block_noted, block_grows, blocks_grow, RowsAreFine, well_rows, chain_covers}
@@ -44,7 +45,7 @@ use Rattle.ft_compile.proofs.Spelled.{blocks_in_order, blocks_begin, blocks_type
 use Rattle.ft_compile.proofs.Leading.{row_applies}
 use Rattle.ft_compile.proofs.Beginnings.{type_of_block, begins_good}
 use Rattle.std.proofs.lemmas.List.FromFn.{length-map-range_with_len}
-use Rattle.ft_compile.specs.Emitted.{node, variable_node}
+use Rattle.ft_compile.specs.Emitted.{variable_node}
 use Rattle.ft_compile.proofs.BlockTypes.{HasTypes}
 use Rattle.ft_compile.proofs.ObjectTables.{names_of_cells, words_of_cells, many_cells, int_cells, lawful_cells}
 use Rattle.ft_compile.proofs.ObjectTables.{cell_is_int, cell_there, bare_placed, code_type_is, first_type, first_there}
@@ -131,11 +132,11 @@ module _ (names : List (List ℕ)) (inits : List ℕ) (vars : ℕ) (bs : Blocks)
   names_are : map name_of o.cells ≡ names
   names_are = names_of_cells names inits C.as_many
 
-  -- and the initial words
+  -- its cells have the initial words
   words_are : words_of o ≡ inits
   words_are = words_of_cells names inits C.as_many
 
-  -- and are as many
+  -- it has as many cells as initial words
   cell_count : length o.cells ≡ length inits
   cell_count = many_cells names inits C.as_many
 

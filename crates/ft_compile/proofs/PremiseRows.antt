@@ -14,8 +14,9 @@ use Rattle.ft_types.specs.declared.object.Object.{Object}
 use Rattle.ft_typing.specs.Context.{Typed, Context, typed, with_type}
 use Rattle.ft_isa.specs.BasicTypes.{int, ref}
 use Rattle.ft_typing.specs.TypedWord.{has_type, is_seen_as, same_basic, run_type}
-use Rattle.ft_typing.specs.TypingRow.{Goes, same_colour, need, for_typed, for_ref_over, for_oldest, for_run}
-use Rattle.ft_typing.specs.TypingRow.{pending_memory, run_form, row}
+use Rattle.ft_typing.specs.RowWords.{Goes, same_colour, need, for_typed, for_ref_over, for_oldest, for_run}
+use Rattle.ft_typing.specs.RowWords.{pending_memory, run_form}
+use Rattle.ft_typing.specs.TypingRow.{row}
 use Rattle.ft_types.proofs.Maps.{get-insert}
 use Rattle.ft_typing.proofs.TypedWords.{same_colours}
 

@@ -22,7 +22,8 @@ use Rattle.ft_lower.specs.Size.{row_size, blocks_size}
 use Rattle.ft_lower.specs.Well.{Known, known_after, StepFits, RowIsWell}
 use Rattle.ft_dup.specs.Images.{green, blue, starts_from}
 use Rattle.ft_dup.proofs.Pairs.{blue_number}
-use Rattle.ft_compile.specs.Emitted.{Noted, node, jump_subst, step_noted, begun, scope_of_block, variable_node}
+use Rattle.ft_compile.specs.Emitted.{variable_node}
+use Rattle.ft_compile.specs.Noted.{Noted, node, jump_subst, step_noted, begun, scope_of_block}
 use Rattle.ft_compile.specs.Emitted.{at_first, green_row, blue_row, entry_type, variables_type, block_from, blocks_at}
 use Rattle.ft_compile.proofs.Lists.{Starts, starts_length, get_starts}
 use Rattle.ft_compile.proofs.Named.{address_is_word}
@@ -75,7 +76,7 @@ module _ (vars : ℕ) (start : ℕ → ℕ) (cells blocks : ℕ) (small : cells 
   instrs_step u (Go spare to) fits = ((words to, code_one_is_basic), ((words to, code_one_is_basic), (tt, (tt, tt))))
   instrs_step u Stop fits = (tt, tt)
 
-  -- those of a row
+  -- the instructions of a row obey the rules
   instrs_row : (scope : ℕ) (k : Known) (w : Noted) (is : List Step3) → RowIsWell vars cells blocks k is →
       All (IsInstr 2 cells) (row_coded vars start scope w is)
   instrs_row scope k w [] h = All-nil (IsInstr 2 cells)
@@ -85,7 +86,7 @@ module _ (vars : ℕ) (start : ℕ → ℕ) (cells blocks : ℕ) (small : cells 
       (All-from_recursion (IsInstr 2 cells) here (instrs_step (jump_subst vars w) i h.0))
       (instrs_row scope (known_after i k) (step_noted vars scope w i) is h.2)
 
-  -- those of all blocks
+  -- the instructions of all blocks obey the rules
   pub instrs_blocks : (b : ℕ) (w : Noted) (xs : Blocks) → RowsAreFine vars cells blocks b xs →
       All (IsInstr 2 cells) (joined vars start (rows_coded vars start b w xs))
   instrs_blocks b w [] h = All-nil (IsInstr 2 cells)
@@ -112,7 +113,7 @@ module _ (vars : ℕ) (start : ℕ → ℕ) where
   substs_step w (Go spare to) rest = refl
   substs_step w Stop rest = refl
 
-  -- those of a row
+  -- the instructions of a row carry the substitutions that it adds
   substs_row : (scope : ℕ) (w : Noted) (is : List Step3) (rest : List Instr) →
       substs_of (row_coded vars start scope w is ++ rest) ≡ row_added vars start scope w is ++ substs_of rest
   substs_row scope w [] rest = refl
@@ -141,7 +142,7 @@ blue_rising least a (suc n) h k =
     let e = blue_number a (omega arith) in
     (omega arith, blue_rising (suc (blue a).number) (a + 1) n (omega arith) (omega arith))
 
--- and of the green ones before them
+-- the registers of the green rows and of the blue rows after them increase
 green_rising : (least a n m : ℕ) → least ≤ a → a + n ≤ 32 → m ≤ 32 →
     AreRising least (map green_row (range_with_len a n) ++ map blue_row (range_with_len 0 m))
 green_rising least a zero m h k l = blue_rising least 0 m (omega arith) (omega arith)
@@ -215,7 +216,7 @@ module _ (nodes : List Node) (vars : ℕ) (few : vars ≤ 32) (s : Starts (at_fi
     ),
   )
 
--- they have few register rows
+-- the two code types have few register rows
 pub reg_rows_few : (vars : ℕ) → vars ≤ 32 → reg_row_count (entry_type ∷ variables_type vars ∷ []) ≤ 262144
 reg_rows_few vars few =
     let l = length-append (map green_row (range_with_len 0 vars)) (map blue_row (range_with_len 0 vars)) in
@@ -223,7 +224,7 @@ reg_rows_few vars few =
     let n = length-map-range_with_len blue_row 0 vars in
     omega arith
 
--- and few queue rows
+-- the two code types have few queue rows
 pub queue_rows_few : (vars : ℕ) → queue_row_count (entry_type ∷ variables_type vars ∷ []) ≤ 32768
 queue_rows_few vars = omega arith
 

@@ -15,8 +15,9 @@ use Rattle.ft_lower.specs.declared.step3.Step3.{Step3}
 use Rattle.ft_lower.specs.declared.step3.Step3.TheVariants.{Put, Copy, Op, Load, Store, LoadAt, StoreAt, Exit, Go, Stop}
 use Rattle.ft_lower.specs.Flow.{Blocks}
 use Rattle.ft_lower.specs.Size.{row_size, blocks_size}
-use Rattle.ft_compile.specs.Emitted.{Noted, step_noted, row_noted, begun, block_from, blocks_at, scope_of_block}
-use Rattle.ft_compile.specs.Emitted.{blocks_noted, at_first, green_row, blue_row, variable_node}
+use Rattle.ft_compile.specs.Emitted.{block_from, blocks_at}
+use Rattle.ft_compile.specs.Noted.{Noted, step_noted, row_noted, begun, scope_of_block, blocks_noted}
+use Rattle.ft_compile.specs.Emitted.{at_first, green_row, blue_row, variable_node}
 use Rattle.ft_compile.specs.Viewed.{HasRoom}
 use Rattle.ft_compile.proofs.Counted.{nodes_step, rows_step, nodes_row, rows_row}
 
@@ -47,7 +48,7 @@ pairs_step vars scope w (Exit q spare to) = refl
 pairs_step vars scope w (Go spare to) = refl
 pairs_step vars scope w Stop = refl
 
--- and over a row
+-- each pair keeps a node over a row
 pairs_row : (vars scope : ℕ) (w : Noted) (is : List Step3) → length (row_noted vars scope w is).pairs ≡ length w.pairs
 pairs_row vars scope w [] = refl
 pairs_row vars scope w (i ∷ is) = pairs_row vars scope (step_noted vars scope w i) is ∙ pairs_step vars scope w i
@@ -89,7 +90,7 @@ green_more new regs old i reg expr e f g h =
     ∙ ap (λ x. old ++ (map green_row (range_with_len 0 i) ++ x ∷ [])) row
     ∙ ap (λ l. old ++ l) (sym (map-range_with_len_more green_row 0 i i z))
 
--- and in blue
+-- one more blue row of a variable
 pub blue_more : (new regs old : List RegType) (i : ℕ) (reg : Reg) (expr : ℕ) → new ≡ regs
     ++ record { reg = reg; colour = Blue; basic = int; expr = expr } ∷ [] → regs ≡ old
     ++ map blue_row (range_with_len 0 i) → reg ≡ blue i → expr ≡ 1 + i → new ≡ old

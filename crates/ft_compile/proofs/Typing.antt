@@ -17,7 +17,8 @@ use Rattle.ft_typing.specs.Context.{Context, with_type, integer_form_of, memory_
 use Rattle.ft_isa.specs.BasicTypes.{int, ref}
 use Rattle.ft_isa.proofs.Lists.{length_pushed}
 use Rattle.ft_typing.specs.TypedWord.{has_type, run_type}
-use Rattle.ft_typing.specs.TypingRow.{Goes, run_form, row}
+use Rattle.ft_typing.specs.TypingRow.{row}
+use Rattle.ft_typing.specs.RowWords.{Goes, run_form}
 use Rattle.ft_scope.specs.declared.slot.Slot.TheVariants.{Run}
 use Rattle.ft_scope.specs.Size.{RunFits}
 use Rattle.ft_lower.specs.declared.step3.Step3.{Step3}
@@ -25,8 +26,8 @@ use Rattle.ft_lower.specs.declared.step3.Step3.TheVariants.{Put, Copy, Op, Load,
 use Rattle.ft_lower.specs.Size.{pairs_of}
 use Rattle.ft_lower.specs.Well.{Known, learn, forget, known_after, StepFits, ReadsKnown}
 use Rattle.ft_dup.specs.Images.{green, blue, loads, stores}
-use Rattle.ft_compile.specs.Emitted.{Noted, node, pair_node, with_node, with_pair_node, with_memory_node}
-use Rattle.ft_compile.specs.Emitted.{with_address_nodes, step_noted}
+use Rattle.ft_compile.specs.Noted.{Noted, node, pair_node, with_node, with_pair_node, with_memory_node}
+use Rattle.ft_compile.specs.Noted.{with_address_nodes, step_noted}
 use Rattle.ft_compile.proofs.Lists.{Starts, starts_less, get_newest}
 use Rattle.ft_compile.proofs.Coded.{coded_step}
 use Rattle.ft_compile.proofs.Forms.{word_form, operation_form, rem_form, sel_form, upd_form}

@@ -22,8 +22,8 @@ use Rattle.ft_lower.specs.declared.step3.Step3.TheVariants.{Put, Copy, Op, Load,
 use Rattle.ft_lower.specs.Flow.{Blocks, block_of}
 use Rattle.ft_lower.specs.Size.{pairs_of, PairsBelow}
 use Rattle.ft_lower.specs.Well.{Known, known_after, known_first, KeepsVariables, ReadsKnown, IsBlock, RowIsWell, IsWell}
-use Rattle.ft_compile.specs.Emitted.{Noted, node, pair_node, with_node, with_address_nodes, with_jump, jump_subst}
-use Rattle.ft_compile.specs.Emitted.{step_noted, row_noted, first_pairs, begun, scope_of_block, blocks_noted}
+use Rattle.ft_compile.specs.Noted.{Noted, node, pair_node, with_node, with_address_nodes, with_jump, jump_subst}
+use Rattle.ft_compile.specs.Noted.{step_noted, row_noted, first_pairs, begun, scope_of_block, blocks_noted}
 use Rattle.ft_compile.specs.Emitted.{variable_node, at_first}
 use Rattle.ft_compile.proofs.Lists.{Starts, starts_refl, starts_trans, starts_more, starts_length, get_starts}
 use Rattle.ft_compile.proofs.Named.{AreFine, IsNamed, IsLawful, step_lawful}
@@ -39,7 +39,7 @@ pub record Grows (w v : Noted) : Type 0 where
 pub grows_refl : (w : Noted) → Grows w w
 grows_refl w = record { nodes = starts_refl w.nodes; rows = starts_refl w.rows }
 
--- and to what it grows to
+-- growth is transitive
 pub grows_trans : (u v w : Noted) → Grows u v → Grows v w → Grows u w
 grows_trans u v w p q = record {
   nodes = starts_trans u.nodes v.nodes w.nodes p.nodes q.nodes;
@@ -81,7 +81,7 @@ step_grows vars scope w (Exit q spare to) = record { nodes = starts_refl w.nodes
 step_grows vars scope w (Go spare to) = record { nodes = starts_refl w.nodes; rows = (take vars w.pairs, refl) }
 step_grows vars scope w Stop = grows_refl w
 
--- so does a row
+-- a row adds at the ends
 pub row_grows : (vars scope : ℕ) (w : Noted) (is : List Step3) → Grows w (row_noted vars scope w is)
 row_grows vars scope w [] = grows_refl w
 row_grows vars scope w (i ∷ is) = grows_trans w (step_noted vars scope w i) _ (step_grows vars scope w i)
@@ -91,12 +91,12 @@ row_grows vars scope w (i ∷ is) = grows_trans w (step_noted vars scope w i) _ 
 abbrev pub block_noted : ℕ → ℕ → Noted → List Step3 → Noted
 block_noted vars b w x = row_noted vars (scope_of_block vars b) (begun w) x
 
--- so does a block
+-- a block adds at the ends
 pub block_grows : (vars b : ℕ) (w : Noted) (x : List Step3) → Grows w (block_noted vars b w x)
 block_grows vars b w x = let g = row_grows vars (scope_of_block vars b) (begun w) x in
     record { nodes = g.nodes; rows = g.rows }
 
--- so do blocks
+-- blocks add at the ends
 pub blocks_grow : (vars b : ℕ) (w : Noted) (xs : Blocks) → Grows w (blocks_noted vars b w xs)
 blocks_grow vars b w [] = grows_refl w
 blocks_grow vars b w (x ∷ xs) = grows_trans w (block_noted vars b w x) _ (block_grows vars b w x)

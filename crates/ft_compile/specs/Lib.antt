@@ -1,5 +1,6 @@
 pub mod StandsFor
 pub mod Cells
+pub mod Noted
 pub mod Emitted
 pub mod Viewed
 pub mod Laws

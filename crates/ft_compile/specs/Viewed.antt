@@ -1,7 +1,7 @@
 -- What the code keeps along the steps, as plain data: private to the code.
 use Rattle.std.specs.Prelude.{ℕ, ◌+◌, ◌*◌, ◌≤◌, ◌≡◌, length}
 use Rattle.ft_compile.specs.declared.notes.Notes.{Notes}
-use Rattle.ft_compile.specs.Emitted.{Noted}
+use Rattle.ft_compile.specs.Noted.{Noted}
 
 -- what is noted so far
 abbrev pub noted_of : Notes → Noted

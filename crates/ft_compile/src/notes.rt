@@ -2,7 +2,8 @@
 ghost use Rattle.std.specs.Prelude.{◌≡◌, ◌≤◌, ◌<◌, ◌+◌, ◌*◌, length, IfOk, OnOk, [], map};
 ghost use Rattle.std.specs.List.{All};
 ghost use Rattle.ft_lower.specs.Size.{pairs_of, size};
-ghost use Rattle.ft_compile.specs.Emitted.{at_first, begun, with_jump, with_memory_node, with_node, with_pair_node};
+ghost use Rattle.ft_compile.specs.Emitted.{at_first};
+ghost use Rattle.ft_compile.specs.Noted.{begun, with_jump, with_memory_node, with_node, with_pair_node};
 ghost use Rattle.ft_compile.specs.Viewed.{HasRoom, noted_of};
 
 use ft_isa::Subst;

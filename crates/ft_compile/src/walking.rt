@@ -3,7 +3,8 @@ ghost use Rattle.std.specs.Prelude.{◌≡◌, ◌≤◌, ◌<◌, ◌+◌, ℕ,
 ghost use Rattle.std.specs.List.{All};
 ghost use Rattle.ft_lower.specs.Flow.{blocks_of};
 ghost use Rattle.ft_lower.specs.Size.{PairsBelow, blocks_size, pairs_of, row_size, size};
-ghost use Rattle.ft_compile.specs.Emitted.{noted, row_noted, step_noted, with_address_nodes};
+ghost use Rattle.ft_compile.specs.Emitted.{noted};
+ghost use Rattle.ft_compile.specs.Noted.{row_noted, step_noted, with_address_nodes};
 ghost use Rattle.ft_compile.specs.Viewed.{HasRoom, noted_of};
 
 use crate::notes::Notes;

@@ -1,4 +1,4 @@
--- How many steps forms take at the most.
+-- How many steps forms take at most.
 use Rattle.std.proofs.Common.{ℕ, suc, ◌≡◌, ◌+◌, ◌*◌, ◌<◌, ◌≤◌, List, [], ◌∷◌, length, Option, ap, arith}
 use Rattle.std.specs.Option.{option_map, unwrap_or}
 use Rattle.std.proofs.Math.Nat.{mul-le-mul_left, mul-le-mul_right}
@@ -44,7 +44,7 @@ rows_few least [] h l = omega arith
 rows_few least (r ∷ rs) h l = let b = r.reg.in_range in let k = rows_few (suc r.reg.number) rs h.1 (omega arith) in
     let m = h.0 in omega arith
 
--- so are those of a code type
+-- the register rows of a code type are at most 64
 pub few_reg_rows : (o : Object) (t : ℕ) → IsSpellable o → t < length o.types → length (reg_rows o t) ≤ 64
 few_reg_rows o t h l =
     let x = type_there o t l in
@@ -52,7 +52,7 @@ few_reg_rows o t h l =
     let rows : reg_rows o t ≡ x.0.regs = ap (λ (y : Option CodeType). unwrap_or (option_map regs_of y) []) x.1 in
     rw rows (let w = rows_few 0 x.0.regs k.rising (omega arith) in omega (arith, w))
 
--- and its queue rows are at most 8
+-- the queue rows of a code type are at most 8
 pub few_queue_rows : (o : Object) (t : ℕ) → IsSpellable o → t < length o.types → length (queue_rows o t) ≤ 8
 few_queue_rows o t h l =
     let x = type_there o t l in
@@ -65,7 +65,7 @@ pub own_steps : (o : Object) (fs : List Normal) (n : ℕ) (v : Variables) (s t :
     t ≤ s + tree_cost o (updates (updates_held fs v.memory)) → t ≤ s + tree_cost o 0
 own_steps o fs n v s t own h = let z = updates_found fs v.memory unchanged own.memory in rw z at h
 
--- the steps of a tree after what is put for variables, in a longer list of forms
+-- the steps of a tree after a substitution for the variables, in a longer list of forms
 pub put_steps : (o : Object) (fs gs : List Normal) (v : Variables) (s t : ℕ) → Keeps fs gs → HoldsVariables fs v →
     t ≤ s + tree_cost o (updates (updates_held gs v.memory)) → t ≤ s + tree_cost o (updates (updates_held fs v.memory))
 put_steps o fs gs v s t k w h = let z = memory_stays fs gs v.memory k w.memory in rw z at h

@@ -33,7 +33,7 @@ updates_found fs f u h = ap (λ (x : Option Normal). updates_of (unwrap_or x (in
 pub integer_stays : (fs gs : List Normal) (f : Form) → Keeps fs gs → IsInteger fs f → polynomial gs f ≡ polynomial fs f
 integer_stays fs gs f k h = k.polynomials_stay f h
 
--- and an integer's
+-- an integer's form stays an integer's
 pub integer_kept : (fs gs : List Normal) (f : Form) → Keeps fs gs → IsInteger fs f → IsInteger gs f
 integer_kept fs gs f k h = k.integers_stay f h
 
@@ -42,7 +42,7 @@ pub memory_stays : (fs gs : List Normal) (f : Form) → Keeps fs gs → IsMemory
     ≡ updates_held fs f
 memory_stays fs gs f k h = k.updates_stay f h
 
--- and a memory's
+-- a memory's form stays a memory's
 pub memory_kept : (fs gs : List Normal) (f : Form) → Keeps fs gs → IsMemory fs f → IsMemory gs f
 memory_kept fs gs f k h = k.memories_stay f h
 
@@ -58,7 +58,7 @@ keeps_itself fs = record {
 
 -- VARIABLES
 
--- no form is held wrong
+-- each form in an empty list is an integer's
 pub none_held : (fs : List Normal) (xs : List Form) → xs ≡ [] → AreIntegers fs xs
 none_held fs [] e i f h = cc
 none_held fs (x ∷ xs) e i f h = cc
@@ -70,7 +70,7 @@ variables_kept fs gs v k h = record {
   memory = memory_kept fs gs v.memory k h.memory;
 }
 
--- what is put for variables stays
+-- what is substituted for variables stays
 pub replacement_stays : (fs gs : List Normal) (v : Variables) → Keeps fs gs → HoldsVariables fs v → replacement_in gs v
     ≡ replacement_in fs v
 replacement_stays fs gs v k h =
@@ -86,7 +86,7 @@ own_kept fs gs n v k h = record {
   memory = k.forms_stay v.memory _ h.memory;
 }
 
--- and they are held
+-- the forms of the variables themselves are held
 pub own_held : (fs : List Normal) (n : ℕ) (v : Variables) → AreOwn fs n v → HoldsVariables fs v
 own_held fs n v h = record {
   integers = λ i f e. integer_from fs f _ (h.integers i f e);
@@ -98,7 +98,7 @@ pub under_kept : (o : Object) (fs gs : List Normal) (v : Variables) (m : Memo) �
     RemembersUnder o fs v m → RemembersUnder o gs v m
 under_kept o fs gs v m k h r = remembers_kept o.nodes fs gs v.integers v.memory m k h.integers h.memory r
 
--- so does what is held of the variables themselves
+-- what is held of the variables themselves stays right
 pub owned_kept : (o : Object) (fs gs : List Normal) (v : OwnVariables) → Keeps fs gs → HoldsOwn o fs v → HoldsOwn o gs v
 owned_kept o fs gs v k h = record {
   own = own_kept fs gs 128 v.variables k h.own;

@@ -26,7 +26,7 @@ pub all_turn : {X : Type 0} (p : X → Bool) (xs ys : List X) (x : X) → xs ≡
     ≡ list_all p ys
 all_turn p xs ys x e h = rw (e, h) refl
 
--- and if it doesn't
+-- a test of all from a place, if the first does not pass
 pub all_stop : {X : Type 0} (p : X → Bool) (xs ys : List X) (x : X) → xs ≡ x ∷ ys → p x ≡ false → list_all p xs ≡ false
 all_stop p xs ys x e h = rw (e, h) refl
 

@@ -1,13 +1,12 @@
--- The forms of nodes, after what is put for variables and with the variables as they are.
+-- The forms of nodes, after a substitution for the variables and with the variables as they are.
 use Rattle.std.proofs.Common.{◌≡◌, ℕ, zero, suc, ◌<◌, true, false, List, [], ◌∷◌, length, slice_get, slice_index_or}
 use Rattle.std.proofs.Common.{Some, refl, ap, subst, arith}
 use Rattle.ft_static.specs.Expression.{HasVariablesBelow}
 use Rattle.ft_static.specs.Form.{Form as Normal, integer_form, memory_form, variable_atom, unchanged, Polynomial}
 use Rattle.ft_static.specs.Form.{nought}
-use Rattle.ft_static.specs.FormUnder.{form_under}
 use Rattle.ft_static.specs.NodeRules.{AreNodes}
 use Rattle.ft_static.specs.NodeTree.{tree_at, trees, integer_at, memory_at}
-use Rattle.ft_static.specs.NormalForm.{alone}
+use Rattle.ft_static.specs.NormalForm.{alone, form_under}
 use Rattle.ft_static.proofs.NodeTrees.{tree_fits}
 use Rattle.ft_static.proofs.Under.{norm_under_itself}
 use Rattle.ft_norm.specs.declared.form.Form.{Form}
@@ -20,13 +19,13 @@ use Rattle.ft_contexts.specs.declared.variables.Variables.{Variables}
 use Rattle.ft_contexts.specs.Contexts.{replacement_in, AreOwn}
 use Rattle.ft_contexts.proofs.Kept.{polynomial_found, updates_found}
 
--- the form of an integer's node after what is put for variables
+-- the form of an integer's node after a substitution for the variables
 pub integer_under : (o : Object) (x : Replacement) (scope n : ℕ) → AreNodes o.nodes → IsNodeIn o.nodes scope false n →
     form_under x.integers x.memory (tree_at o.nodes n) ≡ integer_form (integer_form_after o x n)
 unfolding integer_form_after
 integer_under o x scope n h k = ap (form_under x.integers x.memory) (integer_in o.nodes scope n h k)
 
--- that of a memory's node
+-- the form of a memory's node after a substitution for the variables
 pub memory_under : (o : Object) (x : Replacement) (scope n : ℕ) → AreNodes o.nodes → IsNodeIn o.nodes scope true n →
     form_under x.integers x.memory (tree_at o.nodes n) ≡ memory_form (memory_form_after o x n)
 unfolding memory_form_after
@@ -53,7 +52,7 @@ own_integer o fs ints v n h own k =
     polynomial_in fs v.integers i (alone (variable_atom i)) (omega (arith, k.scope_within)) (own.integers i))).0
     (integer_at (trees o.nodes) n) w)
 
--- so has a memory's
+-- with the variables as they are, a memory's node has its own form
 pub own_memory : (o : Object) (fs : List Normal) (ints : ℕ) (v : Variables) (n : ℕ) → AreNodes o.nodes →
     AreOwn fs ints v → IsNodeIn o.nodes (length v.integers) true n → memory_form_after o (replacement_in fs v) n
     ≡ memory_form_of o n

@@ -38,7 +38,7 @@ get_known : (x : Option Typed) (m : TypedRegisters) (n : ℕ) → finite.get m n
 get_known None m n h = h
 get_known (Some t) m n h = get_same m n t
 
--- and of another
+-- what is known of another register
 get_unchanged : (x : Option Typed) (m : TypedRegisters) (n q : ℕ) → q ≢ n → finite.get (with_known n x m) q
     ≡ finite.get m q
 get_unchanged None m n q h = refl

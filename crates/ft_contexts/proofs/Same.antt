@@ -1,7 +1,7 @@
 -- Equal forms are the same in the order of forms.
 use Rattle.std.proofs.Common.{◌≡◌, ◌↔◌, Bool, true, false, List, Some, refl, ap, sym, ◌∙◌, IsTrue}
-use Rattle.ft_static.specs.Form.{Form as Normal, integer_form, memory_form, Polynomial, Updates}
-use Rattle.ft_static.specs.FormOrder.{same_polynomial, same_updates}
+use Rattle.ft_static.specs.Form.{Form as Normal, integer_form, memory_form, Polynomial, Updates, same_polynomial}
+use Rattle.ft_static.specs.Form.{same_updates}
 use Rattle.ft_static.proofs.Equal.{equal_polynomials, equal_updates}
 use Rattle.ft_norm.specs.declared.form.Form.{Form}
 use Rattle.ft_norm.specs.Held.{held, polynomial, updates_held, IsInteger, IsMemory}
@@ -24,7 +24,7 @@ held_integers fs a b h k =
           ∙ k.found in cc),
     )
 
--- and two memories if their updates are
+-- two memories that are held are held as the same exactly when their updates are
 pub held_memories : (fs : List Normal) (a b : Form) → IsMemory fs a → IsMemory fs b →
     (same_updates (updates_held fs a) (updates_held fs b) ≡ true) ↔ (held fs a ≡ held fs b)
 held_memories fs a b h k =

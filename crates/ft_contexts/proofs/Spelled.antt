@@ -34,7 +34,7 @@ reg_row_spelled o t j r h l e =
     let found : slice_get x.0.regs j ≡ Some r = subst (λ rs. slice_get rs j ≡ Some r) rows e in
     rw ints (all_there (IsRegRow (length o.types) o.nodes x.0.ints) x.0.regs j r k.regs found)
 
--- so are the queue rows
+-- the queue rows of a code type obey the rules
 pub queue_row_spelled : (o : Object) (t j : ℕ) (q : ℕ × ℕ) → IsSpellable o → t < length o.types →
     slice_get (queue_rows o t) j ≡ Some q → IsQueueRow o.nodes (ints_of o t) q
 queue_row_spelled o t j q h l e =
@@ -45,7 +45,7 @@ queue_row_spelled o t j q h l e =
     let found : slice_get x.0.queue j ≡ Some q = subst (λ rs. slice_get rs j ≡ Some q) rows e in
     rw ints (all_there (IsQueueRow o.nodes x.0.ints) x.0.queue j q k.queue found)
 
--- and the memory
+-- the memory of a code type obeys the rules
 pub memory_spelled : (o : Object) (t : ℕ) → IsSpellable o → t < length o.types →
     IsNodeIn o.nodes (ints_of o t) true (memory_of o t)
 memory_spelled o t h l =
@@ -81,7 +81,7 @@ covered nodes rows first (j ∷ is) (suc k) i u h e s =
     let r = cover_rest nodes rows first (subst_of j) (substs_of is) h in
     covered nodes rows r.0 is k i u r.1 e s
 
--- so is the substitution of an instruction
+-- the substitution of an instruction obeys the rules
 pub subst_spelled : (o : Object) (k : ℕ) (i : Instr) (u : Subst) → IsSpellable o → slice_get o.instrs k ≡ Some i →
     subst_of i ≡ Some u → IsSubst o.nodes (length o.substs) u.first u
 subst_spelled o k i u h e s = covered o.nodes (length o.substs) 0 o.instrs k i u h.covered e s

@@ -6,8 +6,7 @@ use Rattle.std.specs.FinMap as finite
 use Rattle.std.proofs.Math.ListN.{set, replicate}
 use Rattle.std.proofs.lemmas.List.{length-map, drop_all}
 use Rattle.ft_isa.proofs.Lists.{drop_next, there_mapped}
-use Rattle.ft_static.specs.Form.{Form as Normal, integer_form, Updates}
-use Rattle.ft_static.specs.FormOrder.{same_polynomial}
+use Rattle.ft_static.specs.Form.{Form as Normal, integer_form, Updates, same_polynomial}
 use Rattle.ft_static.specs.NormalForm.{norm_upd}
 use Rattle.ft_norm.specs.declared.form.Form.{Form}
 use Rattle.ft_norm.specs.Held.{held, polynomial, Keeps}
@@ -19,7 +18,7 @@ use Rattle.ft_types.specs.Objects.{reg_rows, queue_rows, ints_of, memory_of, reg
 use Rattle.ft_types.specs.Objects.{memory_of_type, type_head_of}
 use Rattle.ft_typing.specs.Context.{Typed, TypedRegisters, FormPair, Replacement, typed_row, registers_after}
 use Rattle.ft_typing.specs.Context.{integer_form_of, integer_form_after}
-use Rattle.ft_typing.specs.TypingRow.{pending_memory, same_colour, is_like, is_queue_like}
+use Rattle.ft_typing.specs.RowWords.{pending_memory, same_colour, is_like, is_queue_like}
 use Rattle.ft_typing.specs.TypedWord.{is_seen_as}
 use Rattle.ft_contexts.specs.declared.register.RegForm.{RegForm}
 use Rattle.ft_contexts.specs.Contexts.{typed_in, pair_in, registers_in, HoldsRegisters}

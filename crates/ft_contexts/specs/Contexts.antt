@@ -63,13 +63,13 @@ variable_count c = c.ints
 abbrev pub pending_count : Context → ℕ
 pending_count c = length c.queue
 
--- what is put for variables
+-- what is substituted for variables
 abbrev pub replacement_in : List Normal → Variables → Replacement
 replacement_in fs v = record { integers = polynomials fs v.integers; memory = updates_held fs v.memory }
 
 -- WHAT AN INTERNER HOLDS
 
--- the forms of these variables are held, in their sorts
+-- the forms of these variables are held, each of the right sort
 pub record HoldsVariables (fs : List Normal) (v : Variables) : Type 0 where
   pub integers : AreIntegers fs v.integers
   pub memory : IsMemory fs v.memory
@@ -103,7 +103,7 @@ HoldsRegisters fs xs = (r : ℕ) (x : RegForm) → slice_get xs r ≡ Some (Some
 abbrev pub HoldsQueue : List Normal → List (Form × Form) → Type 0
 HoldsQueue fs q = (i : ℕ) (p : Form × Form) → slice_get q i ≡ Some p → IsInteger fs p.0 × IsInteger fs p.1
 
--- every form of a context is held, in its right sort
+-- every form of a context is held, and is of the right sort
 pub record HoldsForms (fs : List Normal) (c : Context) : Type 0 where
   pub registers : HoldsRegisters fs c.registers
   pub d : HoldsD fs c.d

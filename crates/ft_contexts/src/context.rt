@@ -5,7 +5,7 @@ ghost use Rattle.ft_static.specs.Form.{Form as Normal, memory_form, updates};
 ghost use Rattle.ft_norm.specs.Held.{IsInteger, IsMemory, Keeps, held, updates_held};
 ghost use Rattle.ft_typing.specs.Context.{start_context, typed, with_type};
 ghost use Rattle.ft_types.specs.Spellable.{IsBase, IsSpellable};
-ghost use Rattle.ft_typing.specs.TypingRow.{seen_memory};
+ghost use Rattle.ft_typing.specs.RowWords.{seen_memory};
 ghost use Rattle.ft_contexts.specs.Costs.{tree_cost};
 
 use crate::destination::StateD;

@@ -1,6 +1,6 @@
 //! Comparisons of forms.
 ghost use Rattle.std.specs.Prelude.{◌≡◌};
-ghost use Rattle.ft_static.specs.FormOrder.{same_polynomial, same_updates};
+ghost use Rattle.ft_static.specs.Form.{same_polynomial, same_updates};
 ghost use Rattle.ft_norm.specs.Held.{IsInteger, IsMemory, polynomial, updates_held};
 
 use ft_norm::{Form, Interner};

@@ -1,14 +1,13 @@
 //! What a target requires: whether what holds here is as its code type says, after a substitution.
 ghost use Rattle.std.specs.Prelude.{◌≡◌, ◌+◌, ◌*◌, ◌<◌, ◌≤◌, ◌&&◌, IfOk, length, nat_le};
 ghost use Rattle.std.specs.List.{list_all};
-ghost use Rattle.ft_static.specs.Form.{updates};
-ghost use Rattle.ft_static.specs.FormOrder.{same_polynomial};
+ghost use Rattle.ft_static.specs.Form.{updates, same_polynomial};
 ghost use Rattle.ft_norm.specs.Held.{IsInteger, Keeps, polynomial, updates_held};
 ghost use Rattle.ft_typing.specs.Context.{integer_form_after, rows_of};
 ghost use Rattle.ft_types.specs.Objects.{scope_of};
 ghost use Rattle.ft_types.specs.Spellable.{IsQueueRow, IsSpellable, IsSubst};
 ghost use Rattle.ft_typing.specs.TypedWord.{is_seen_as};
-ghost use Rattle.ft_typing.specs.TypingRow.{same_colour};
+ghost use Rattle.ft_typing.specs.RowWords.{same_colour};
 ghost use Rattle.ft_contexts.specs.Contexts.{HoldsVariables, RemembersUnder, replacement_in};
 ghost use Rattle.ft_contexts.specs.Costs.{tree_cost};
 
@@ -83,16 +82,16 @@ fn pair_is_like<P: Program, L: Ledger>(
 
 impl Context {
     ghost use Rattle.std.specs.Prelude.{◌==◌};
-    ghost use Rattle.ft_static.specs.FormOrder.{same_updates};
+    ghost use Rattle.ft_static.specs.Form.{same_updates};
     ghost use Rattle.ft_typing.specs.Context.{memory_form_after, typed};
     ghost use Rattle.ft_types.specs.Objects.{ints_of, memory_of, queue_rows, reg_rows};
     ghost use Rattle.ft_types.specs.Spellable.{IsRegRow};
-    ghost use Rattle.ft_typing.specs.TypingRow.{are_like, is_annotated, is_like, is_queue_like};
+    ghost use Rattle.ft_typing.specs.RowWords.{are_like, is_annotated, is_like, is_queue_like};
     ghost use Rattle.ft_contexts.specs.Contexts.{HoldsForms, context_in, variable_count};
 
     /// Whether a substitution has a row for each variable of code type `t`, and stays within the scope
     /// of the block's own variables.
-    #[tactic(auto, unfolding(ft_typing::specs::TypingRow::is_annotated))]
+    #[tactic(auto, unfolding(ft_typing::specs::RowWords::is_annotated))]
     pub fn is_annotated<P: Program>(&self, program: &P, subst: Subst, t: u32) -> bool
         requires spellable { IsSpellable (P.object program.now) }
         requires there { t < length (P.object program.now).types }
@@ -106,7 +105,7 @@ impl Context {
     }
 
     /// Whether a register is as a row of the target requires.
-    #[tactic(auto, unfolding(ft_typing::specs::TypingRow::is_like))]
+    #[tactic(auto, unfolding(ft_typing::specs::RowWords::is_like))]
     fn register_is_like<P: Program, L: Ledger>(
         &self,
         put: &Variables,

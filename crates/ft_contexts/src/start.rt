@@ -17,7 +17,7 @@ use ft_types::Program;
 use std::alloc::Global;
 use std::sync::ledger::Ledger;
 
-/// The maximum pairs of a static queue.
+/// The maximum number of pairs of a static queue.
 pub const QUEUE_ROOM: usize = 8;
 
 /// What code type `t` says about the registers, by their number.

@@ -15,7 +15,7 @@ use std::alloc::Global;
 use std::sync::ledger::Ledger;
 
 /// What the blocks of an object share: their variables, and room for what a transfer substitutes for the variables of
-/// its target, with the forms of the nodes that were made under it.
+/// its target, with the forms that were made of nodes under it.
 #[derive(Drop)]
 pub struct Shared {
     pub own: OwnVariables,
@@ -27,7 +27,7 @@ impl Shared {
     ghost use Rattle.ft_types.specs.declared.object.Object.{Object};
     ghost use Rattle.ft_contexts.specs.Contexts.{HoldsOwn, HoldsVariables, RemembersUnder, replacement_in};
 
-    /// No node is made yet, and nothing is substituted for variables.
+    /// No form of a node has been made yet, and nothing is substituted for variables.
     pub fn new(alloc: Global, forms: &mut Interner) -> Result<Shared, NoMemory>
         ensures kept { Keeps forms.old forms.new }
         ensures own { (o : Object) → IfOk result (λ s. HoldsOwn o forms.new s.own) }

@@ -13,7 +13,7 @@ use ft_types::Program;
 use std::alloc::Global;
 use std::sync::ledger::Ledger;
 
-/// The maximum integer variables of a code type.
+/// The maximum number of integer variables of a code type.
 const MOST_INTS: u8 = 128;
 
 /// A form for each integer variable in turn, and one for the memory variable.
@@ -76,7 +76,7 @@ impl Variables {
     }
 }
 
-/// The maximum variables of a code type, each substituted for itself, and the forms of the nodes that were made so far
+/// As many variables as a code type may have, each substituted for itself, and the forms that were made of nodes so far
 /// with the variables as they are. They serve all blocks of an object.
 #[derive(Drop)]
 pub struct OwnVariables {
@@ -88,7 +88,7 @@ impl OwnVariables {
     ghost use Rattle.ft_types.specs.declared.object.Object.{Object};
     ghost use Rattle.ft_contexts.specs.Contexts.{HoldsOwn};
 
-    /// No node is made yet.
+    /// No form of a node has been made yet.
     pub fn new(alloc: Global, forms: &mut Interner) -> Result<OwnVariables, NoMemory>
         ensures kept { Keeps forms.old forms.new }
         ensures own { (o : Object) → IfOk result (HoldsOwn o forms.new) }

@@ -18,7 +18,7 @@ use Rattle.ft_debug.specs.declared.debugger.Debugger.{Debugger}
 use Rattle.ft_debug.specs.Kept.{HasMomentCells, IsFull}
 use Rattle.ft_debug.specs.Sessions.{Session, Shown, Reply, shown, present, further, step_lines, never, is_at_break}
 
--- the moment of what is shown
+-- what is shown at a position, as a moment
 abbrev pub moment_of : ℕ → Shown → Moment
 moment_of p now = record { machine = now.state; wild = now.wild; position = p }
 
@@ -56,7 +56,7 @@ pub record Holds (o : Object) (w : List Wild) (s : Session) (d : Debugger) : Typ
 abbrev pub IsReplied : Object → List Wild → Reply → Debugger → Result (Unit {0}) Failed → SinkLog → SinkLog → Type 0
 IsReplied o w r e result old new = OnOk result (Holds o w r.session e) × Puts (end_of_puts result) r.lines old new
 
--- the same for whatever session was held
+-- the same, whatever session was held
 abbrev pub Does : (List Wild → Session → Reply) → Object → Debugger → Debugger → Result (Unit {0}) Failed → SinkLog
     → SinkLog → Type 0
 Does go o d e result old new = (w : List Wild) (s : Session) → Holds o w s d → IsReplied o w (go w s) e result old new

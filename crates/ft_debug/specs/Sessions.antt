@@ -36,7 +36,7 @@ pub record Session : Type 0 where
   pub strikes : List Strike
   pub breaks : List ℕ
 
--- before the first line
+-- the session before the first line
 abbrev pub first_session : Session
 first_session = record { position = 0; low = 0; strikes = []; breaks = [] }
 
@@ -163,7 +163,7 @@ says text s = record { session = s; lines = text ∷ [] }
 abbrev pub after_lines : List (List ℕ) → Reply → Reply
 after_lines before r = record { session = r.session; lines = before ++ r.lines }
 
--- the session one step further: the low-water mark is at least 4,096 below the position
+-- the session one step further: the low-water mark rises to 4,096 below the new position, if it was lower
 abbrev pub further : Session → Session
 further s = record s { position = s.position + 1; low = max s.low (s.position + 1 - 4096) }
 
@@ -171,7 +171,7 @@ further s = record s { position = s.position + 1; low = max s.low (s.position + 
 abbrev pub step_lines : Object → Shown → List (List ℕ)
 step_lines o now = map (line_at o) (option_to_list (step o now.state now.wild).output)
 
--- a running machine takes a step, and then the rest is done; a stopped one stays
+-- a running machine takes a step, and then `more` is done; a stopped one stays
 abbrev pub takes_step : Object → List Wild → (Session → Reply) → Session → Reply
 takes_step o w more s = if is_running (present o w s).state.status then after_lines (step_lines o (present o w s)) (more (further s)) else stays s
 
@@ -180,7 +180,7 @@ unfoldable pub walks : Object → List Wild → (State → Bool) → ℕ → Ses
 walks o w halts zero s = stays s
 walks o w halts (suc n) s = if halts (present o w s).state then stays s else takes_step o w (walks o w halts n) s
 
--- no state is one to halt at
+-- the machine is to halt at no state
 abbrev pub never : State → Bool
 never s = false
 
@@ -197,7 +197,7 @@ abbrev pub goes : Object → List Wild → ℕ → Session → Reply
 goes o w zero s = stays s
 goes o w (suc n) s = takes_step o w (walks o w (is_at_break s.breaks) n) s
 
--- then the position is put
+-- a reply, after which the position is put
 abbrev pub reports : Object → List Wild → Reply → Reply
 reports o w r = record { session = r.session; lines = r.lines ++ at_line r.session.position (present o w r.session).state ∷ [] }
 
@@ -221,7 +221,7 @@ zaps o w site value s = if is_there (present o w s).state site then says (codes 
 abbrev pub break_address : Object → ℕ → ℕ → Option ℕ
 break_address o b i = if nat_lt b (length o.blocks) && nat_lt (block_start o b + i) (block_end o b) then Some (code_address (block_start o b + i)) else None
 
--- one more breakpoint
+-- the session with one more breakpoint
 abbrev pub with_break : ℕ → Session → Session
 with_break a s = record s { breaks = s.breaks ++ a ∷ [] }
 

@@ -1,4 +1,4 @@
-//! The debugger: what a session is at, and what it keeps.
+//! The debugger: where a session is, and what it keeps.
 ghost use Rattle.std.specs.Prelude.{◌≡◌, ◌≤◌, ◌<◌, ◌+◌, ◌^◌, ℕ, List, ◌∷◌, [], length, IfOk, IfSome};
 ghost use Rattle.ft_edge.specs.Lines.{Puts, end_of_puts};
 ghost use Rattle.ft_isa.specs.declared.plan.Wild.{Wild as Answer};

@@ -19,7 +19,7 @@ use Rattle.ft_isa.specs.BasicTypes.{int, ref}
 use Rattle.ft_typing.specs.TypedWord.{HasType, has_type, is_seen_as, same_basic, cell_of}
 use Rattle.ft_typing.specs.Context.{Typed, Context, typed, with_type, d_zero, start_context, registers_after}
 use Rattle.ft_typing.specs.Context.{memory_form_of}
-use Rattle.ft_typing.specs.TypingRow.{same_colour, need, for_typed, for_ref_over, for_zero, for_oldest, is_empty}
+use Rattle.ft_typing.specs.RowWords.{same_colour, need, for_typed, for_ref_over, for_zero, for_oldest, is_empty}
 use Rattle.ft_typing.specs.Accepted.{Applies, IsAccepted, last_row, next_row}
 use Rattle.ft_types.proofs.Maps.{get-insert}
 use Rattle.ft_demo.specs.Sample.{opening, turn, turns_from, sample_object}

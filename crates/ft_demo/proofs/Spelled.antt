@@ -48,7 +48,7 @@ turns_fit (suc n) i h =
     let turn_number = small i (omega (arith, h)) in
     (three, (turn_number, (three, (turn_number, (tt, (tt, turns_fit n (suc i) (omega (arith, h))))))))
 
--- so are those of the opening
+-- the words of the opening are words
 opening_fits : (is : List Instr) → AllByRecursion (IsInstr 1 1) is → All (IsInstr 1 1) (opening ++ is)
 opening_fits is more =
     let out = small 1048576 (omega arith) in
@@ -62,7 +62,7 @@ node_is_lawful : (n : ℕ) (x : Node) → slice_get (one_node) n ≡ Some x → 
 node_is_lawful zero x e = subst (IsNode one_node 0) (same_Some _ _ e) (record { scope = omega arith; shape = tt })
 node_is_lawful (suc n) x e = absurd cc
 
--- it obeys every rule of its tables
+-- the object obeys every rule of its tables
 pub sample_is_spellable : (o : Object) (n : ℕ) → o ≡ sample_object n → 1 ≤ n → n ≤ 10921 → IsSpellable o
 sample_is_spellable o n e some few = subst IsSpellable (sym e) (
     let many = turns_many n 1 in

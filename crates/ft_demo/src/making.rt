@@ -70,7 +70,7 @@ fn put_pair(code: &mut Vec<Instr>, first: Instr, second: Instr) -> Result<(), Al
     Ok(())
 }
 
-/// Adds moves of the address and of the value 0 to their registers.
+/// Appends moves of the address and of the value 0 into their registers.
 fn put_opening(code: &mut Vec<Instr>) -> Result<(), AllocError>
     ensures { OnOk result (code.new.items ≡ code.old.items ++ opening) }
 {

@@ -42,7 +42,7 @@ Below ps = All (λ q. q < 32) ps
 first_pair : (p : ℕ) (ps : List ℕ) → Below (p ∷ ps) → p < 32
 first_pair p ps h = All-head (λ q. q < 32) p ps h
 
--- and so is the second
+-- the second pair that a step names is below 32
 second_pair : (p q : ℕ) (ps : List ℕ) → Below (p ∷ q ∷ ps) → q < 32
 second_pair p q ps h = first_pair q ps (All-tail (λ q. q < 32) p (q ∷ ps) h)
 

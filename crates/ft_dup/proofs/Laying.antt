@@ -35,7 +35,7 @@ image_length start (Exit q s to) = refl
 image_length start (Go s to) = refl
 image_length start Stop = refl
 
--- and so have the images of a row
+-- the images of a row have as many instructions as the sizes of its steps say
 row_length : (start : ℕ → ℕ) (is : List Step3) → length (row_images start is) ≡ row_size is
 row_length start [] = refl
 row_length start (i ∷ is) = length-append (image start i) (row_images start is)

@@ -27,7 +27,7 @@ green_number p h =
     let l : p < 64 = omega arith in
     ap (λ (r : Option Reg). (unwrap_or r register_zero).number) (sym (some_reg p (nat_lt p 64) refl l (lt-ltb p 64 l)))
 
--- and the blue one 32 more
+-- the number of the blue register of a pair is 32 more
 pub blue_number : (p : ℕ) → p < 32 → (blue p).number ≡ 32 + p
 blue_number p h =
     let l : 32 + p < 64 = omega arith in
@@ -42,7 +42,7 @@ green_no_blue p q h k e = let f : p ≡ 32 + q = sym (green_number p h) ∙ e �
 pub greens_differ : (p q : ℕ) → p < 32 → q < 32 → q ≢ p → (green q).number ≢ (green p).number
 greens_differ p q h k ne e = ne (sym (green_number q k) ∙ e ∙ green_number p h)
 
--- and other blue ones
+-- other pairs have other blue registers
 pub blues_differ : (p q : ℕ) → p < 32 → q < 32 → q ≢ p → (blue q).number ≢ (blue p).number
 blues_differ p q h k ne e = ne (let f : 32 + q ≡ 32 + p = sym (blue_number q k) ∙ e ∙ blue_number p h in omega arith)
 
@@ -75,7 +75,7 @@ pub green_read : (m : Registers) (p : ℕ) (x y : Coloured) → p < 32 → held 
 green_read m p x y h = held_other (with_held m (green p).number x) (blue p).number y (green p).number
     (green_no_blue p p h h) ∙ held_same m (green p).number x
 
--- and what the blue one holds
+-- what the blue register of a written pair holds
 pub blue_read : (m : Registers) (p : ℕ) (x y : Coloured) → held (two_held m p x y) (blue p).number ≡ y
 blue_read m p x y = held_same (with_held m (green p).number x) (blue p).number y
 
@@ -99,7 +99,7 @@ pair_kept m ps qs p q x y lt ne e h =
           ∙ blue_left m p q x lt b ∙ h.blue ∙ ap (col Blue) (sym e);
     }
 
--- and so is the pair that got one word in both colours
+-- the pair that got one word in both colours is held after the write
 pair_put : (m : Registers) (qs : ℕ → ℕ) (p v : ℕ) → p < 32 → IsWord v → qs p ≡ v →
     Pair (two_held m p (col Green v) (col Blue v)) qs p
 pair_put m qs p v lt h e = record {
@@ -136,7 +136,7 @@ holds_learn k n f p v lt h old = λ q known.
           (other_pair p v f q ne) (old q ne (learned k p q ne known))
     ]
 
--- and forgotten if they get anything
+-- a pair is forgotten if its registers get anything; the other known pairs are still held
 pub holds_forget : (k : Known) (m : Registers) (f : FlowState) (p v : ℕ) (x y : Coloured) → p < 32 →
     PairsHeld k m f.pairs → PairsHeld (forget p k) (two_held m p x y) (with_pair p v f).pairs
 holds_forget k m f p v x y lt old = λ q known.

@@ -92,7 +92,7 @@ get_bare (x ∷ xs) (suc i) J h = get_bare xs i J h
 quiet_ran : (os : List Output) (s : State) (w : List Wild) → extended os (quiet s w) ≡ ran s w os
 quiet_ran os s w = ap (ran s w) (append-nil os)
 
--- a fetch and the instruction, which is known but for its claims
+-- a fetch and the instruction, which is known except for its claims
 pub two_any : (o : Object) (J : Instr) (i : ℕ) (m : Registers) (d : ℕ) (q : Pending) (c : Cells) (w : List Wild)
     (os : List Output) → slice_get (map bare o.instrs) i ≡ Some J → (I : Instr)
     × Leads o 2 (spot i m d q c w os) (extended os (execute J (fetched_state i m d q c I) w))
@@ -133,7 +133,7 @@ next_small i h = omega arith
 pub held_same : (m : Registers) (r : ℕ) (x : Coloured) → held (with_held m r x) r ≡ x
 held_same m r x = held-with_held m r x r ∙ ap (λ b. cond b x (held m r)) (eq-eqb r r refl)
 
--- and another one
+-- a register that was not written
 pub held_other : (m : Registers) (r : ℕ) (x : Coloured) (q : ℕ) → q ≢ r → held (with_held m r x) q ≡ held m q
 held_other m r x q ne = held-with_held m r x q ∙ ap (λ b. cond b x (held m q)) (ne_eqb q r ne)
 

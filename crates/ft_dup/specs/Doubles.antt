@@ -1,4 +1,4 @@
--- What carries the instructions of a flow, and what its run does.
+-- Which objects carry the instructions of a flow, and what their runs do.
 use Rattle.std.specs.Prelude.{◌≡◌, ℕ, zero, suc, ◌+◌, ◌*◌, ◌≤◌, Bool, true, false, cond, List, [], map, length, slice_get, Option, Some, None, All}
 use Rattle.ft_isa.specs.BasicTypes.{int}
 use Rattle.ft_isa.specs.Words.{IsWord, cell_address}
@@ -36,8 +36,8 @@ words_of o = map init_of_cell o.cells
 abbrev pub IsIntCell : Cell → Type 0
 IsIntCell c = c.basic ≡ int
 
--- an object carries blocks: its instructions are theirs but for claims and substitutions, its blocks begin where theirs
--- do, its entry is block 0, and it has this many cells, all of type `int`
+-- an object carries blocks: its instructions are theirs except for claims and substitutions, its blocks begin where
+-- theirs do, its entry is block 0, and it has this many cells, all of type `int`
 pub record Carries (o : Object) (cells : ℕ) (bs : Blocks) : Type 0 where
   pub instrs : map bare o.instrs ≡ map bare (doubled bs)
   pub blocks : map start_of_block o.blocks ≡ starts bs
@@ -71,7 +71,8 @@ pub record DoublesAt (o : Object) (vars : ℕ) (wild : List Wild) (bs : Blocks) 
   pub status : status_after o None wild n ≡ cond f.done Done Running
   pub holds : f.done ≡ false → Holds (known_at vars bs f.place) f.pairs (state_after o None wild n)
 
--- this holds for each k, and k is at most its cost while the flow is running
+-- for each k, the machine's run after the cost of k steps is the flow's after k steps; while the flow is running, k is
+-- at most that cost
 pub record Doubles (o : Object) (vars : ℕ) (bs : Blocks) (wild : List Wild) : Type 0 where
   pub after : (k : ℕ) → DoublesAt o vars wild bs (flow_run bs (words_of o) k) (cost bs k (flow_start (words_of o)))
   pub pace : (k : ℕ) → (flow_run bs (words_of o) k).done ≡ false → k ≤ cost bs k (flow_start (words_of o))

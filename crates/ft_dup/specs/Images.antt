@@ -41,15 +41,15 @@ blue_word w = record { colour = Blue; word = w }
 abbrev pub empty : Subst
 empty = record { first = 0; past = 0; memory = 0 }
 
--- green and blue moves of a word to the two registers of a pair
+-- green and blue moves of a word into the two registers of a pair
 abbrev pub moves : ℕ → ℕ → Basic → List Instr → List Instr
 moves p w b rest = instr.Mov (green p) (green_word w) b ∷ instr.Mov (blue p) (blue_word w) b ∷ rest
 
--- green and blue addresses of the array cell that the word of pair q selects, to the two registers of pair p
+-- green and blue `idx`: the address of the array cell that the word of pair q selects, into the registers of pair p
 abbrev pub indexes : ℕ → ℕ → ℕ → ℕ → List Instr → List Instr
 indexes p q first length rest = instr.Idx (green p) (green q) first length ∷ instr.Idx (blue p) (blue q) first length ∷ rest
 
--- green and blue loads from the addresses in both registers of a pair, to these registers
+-- green and blue loads from the addresses in both registers of a pair into these registers
 abbrev pub loads : ℕ → List Instr
 loads p = instr.Ld Green (green p) (green p) ∷ instr.Ld Blue (blue p) (blue p) ∷ []
 

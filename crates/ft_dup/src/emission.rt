@@ -43,7 +43,7 @@ fn in_blue(word: u64) -> Coloured
     }
 }
 
-/// Adds a green instruction and its blue one.
+/// Appends a green instruction and its blue one.
 fn put_pair(code: &mut Vec<Instr>, green: Instr, blue: Instr) -> Result<(), AllocError>
     ensures { OnOk result (code.new.items ≡ code.old.items ++ green ∷ blue ∷ []) }
 {
@@ -52,7 +52,7 @@ fn put_pair(code: &mut Vec<Instr>, green: Instr, blue: Instr) -> Result<(), Allo
     Ok(())
 }
 
-/// Adds moves of a word to both registers of a pair.
+/// Appends moves of a word into both registers of a pair.
 fn put_moves(code: &mut Vec<Instr>, pair: u8, word: u64, basic: Basic) -> Result<(), AllocError>
     requires { pair < 32 }
     ensures { OnOk result (code.new.items ≡ code.old.items ++ moves pair word basic []) }
@@ -73,7 +73,8 @@ fn put_moves(code: &mut Vec<Instr>, pair: u8, word: u64, basic: Basic) -> Result
     Ok(())
 }
 
-/// Adds the addresses of the array cell that the word of pair `q` selects, to both registers of pair `p`.
+/// Appends the instructions that put the address of the array cell that the word of pair `q` selects into both
+/// registers of pair `p`.
 fn put_indexes(
     code: &mut Vec<Instr>,
     p: u8,
@@ -103,7 +104,7 @@ fn put_indexes(
     Ok(())
 }
 
-/// Adds the copy of pair `q` to pair `p`.
+/// Appends a copy of pair `q` into pair `p`.
 fn put_copy(code: &mut Vec<Instr>, p: u8, q: u8) -> Result<(), AllocError>
     requires p { p < 32 }
     requires q { q < 32 }
@@ -127,7 +128,7 @@ fn put_copy(code: &mut Vec<Instr>, p: u8, q: u8) -> Result<(), AllocError>
     Ok(())
 }
 
-/// Adds an operation on the pairs `q` and `s`, to pair `p`.
+/// Appends an operation on the pairs `q` and `s`, with its result in pair `p`.
 fn put_operation(code: &mut Vec<Instr>, op: Op, p: u8, q: u8, s: u8) -> Result<(), AllocError>
     requires p { p < 32 }
     requires q { q < 32 }
@@ -152,7 +153,7 @@ fn put_operation(code: &mut Vec<Instr>, op: Op, p: u8, q: u8, s: u8) -> Result<(
     Ok(())
 }
 
-/// Adds loads from the addresses in both registers of a pair, to these registers.
+/// Appends loads from the addresses in both registers of a pair into these registers.
 fn put_loads(code: &mut Vec<Instr>, pair: u8) -> Result<(), AllocError>
     requires { pair < 32 }
     ensures { OnOk result (code.new.items ≡ code.old.items ++ loads pair) }
@@ -173,7 +174,7 @@ fn put_loads(code: &mut Vec<Instr>, pair: u8) -> Result<(), AllocError>
     Ok(())
 }
 
-/// Adds stores of pair `q` to the addresses in both registers of pair `at`.
+/// Appends stores of pair `q` to the addresses in both registers of pair `at`.
 fn put_stores(code: &mut Vec<Instr>, at: u8, q: u8) -> Result<(), AllocError>
     requires at { at < 32 }
     requires q { q < 32 }
@@ -195,7 +196,7 @@ fn put_stores(code: &mut Vec<Instr>, at: u8, q: u8) -> Result<(), AllocError>
     Ok(())
 }
 
-/// Adds the load of a cell to pair `p`.
+/// Appends a load of a cell into pair `p`.
 fn put_load(code: &mut Vec<Instr>, p: u8, cell: u32) -> Result<(), AllocError>
     requires { p < 32 }
     ensures { OnOk result (code.new.items ≡ code.old.items ++ image (λ b. 0) (Step3.Load p cell)) }
@@ -205,7 +206,7 @@ fn put_load(code: &mut Vec<Instr>, p: u8, cell: u32) -> Result<(), AllocError>
     Ok(())
 }
 
-/// Adds the store of pair `q` to a cell.
+/// Appends a store of pair `q` to a cell.
 fn put_store(code: &mut Vec<Instr>, cell: u32, q: u8, spare: u8) -> Result<(), AllocError>
     requires q { q < 32 }
     requires spare { spare < 32 }
@@ -216,7 +217,7 @@ fn put_store(code: &mut Vec<Instr>, cell: u32, q: u8, spare: u8) -> Result<(), A
     Ok(())
 }
 
-/// Adds the load of the array cell that pair `q` selects, to pair `p`.
+/// Appends a load of the array cell that pair `q` selects into pair `p`.
 fn put_load_at(
     code: &mut Vec<Instr>,
     p: u8,
@@ -233,7 +234,7 @@ fn put_load_at(
     Ok(())
 }
 
-/// Adds the store of pair `q` to the array cell that pair `i` selects.
+/// Appends a store of pair `q` to the array cell that pair `i` selects.
 fn put_store_at(
     code: &mut Vec<Instr>,
     first: u32,
@@ -252,7 +253,7 @@ fn put_store_at(
     Ok(())
 }
 
-/// Adds the branch to the block that begins at instruction `start`, taken if pair `q` holds 0.
+/// Appends the branch to the block that begins at instruction `start`, taken if pair `q` holds 0.
 fn put_exit(code: &mut Vec<Instr>, q: u8, spare: u8, start: u32) -> Result<(), AllocError>
     requires q { q < 32 }
     requires spare { spare < 32 }
@@ -274,7 +275,7 @@ fn put_exit(code: &mut Vec<Instr>, q: u8, spare: u8, start: u32) -> Result<(), A
     Ok(())
 }
 
-/// Adds the jump to the block that begins at instruction `start`.
+/// Appends the jump to the block that begins at instruction `start`.
 fn put_go(code: &mut Vec<Instr>, spare: u8, start: u32) -> Result<(), AllocError>
     requires { spare < 32 }
     ensures { OnOk result (code.new.items ≡ code.old.items ++ image (λ b. start) (Step3.Go spare 0)) }
@@ -293,7 +294,7 @@ fn put_go(code: &mut Vec<Instr>, spare: u8, start: u32) -> Result<(), AllocError
     Ok(())
 }
 
-/// Adds the instructions of a step, if `starts` has the place of each block's first instruction.
+/// Appends the instructions of a step, if `starts` has the place of each block's first instruction.
 pub(crate) fn put_step(
     code: &mut Vec<Instr>,
     starts: &[u32],

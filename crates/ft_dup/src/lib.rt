@@ -1,6 +1,6 @@
 //! Doubling: the instructions of a flow's steps, each in green and in blue.
 //!
-//! The crate promises that `duplicate` returns exactly the images of the flow's steps in order with the
+//! The crate promises that `duplicate` returns exactly the images of the flow's steps in order, and the
 //! blocks' starts, and that any object that carries a well formed flow's instructions runs as the flow
 //! does. Its definitions: `specs/Shape.antt` (which flows are doubled), `specs/Images.antt` (the
 //! instructions of a step), `specs/Doubles.antt` (what carries a flow and what its run does).
@@ -17,6 +17,3 @@ pub use doubled::Doubled;
 pub use laws::{fibonacci_program_is_doubled, well_flows_have_the_shape};
 pub use registers::{blue_register, green_register};
 pub use whole::duplicate;
-
-#[cfg(test)]
-mod tests;

@@ -19,7 +19,7 @@ calls_code =
 abbrev pub no_calls : Calls
 no_calls = record { failing = []; next = 0; failures = 0 }
 
--- one more, saturating at 2^64 - 1
+-- one more than a count, saturating at 2^64 - 1
 abbrev pub next_count : ℕ → ℕ
 next_count n = min (n + 1) (2 ^ 64 - 1)
 
@@ -31,14 +31,14 @@ is_to_fail calls = list_any (λ number. number == calls.next) calls.failing
 abbrev pub with_failing : Calls → ℕ → Calls
 with_failing calls number = record calls { failing = calls.failing ++ number ∷ [] }
 
--- after a call
+-- the calls after one more
 abbrev pub after_call : Calls → Calls
 after_call calls = record calls { next = next_count calls.next }
 
--- after one more failure was counted
+-- the calls after one more failure was counted
 abbrev pub after_failure : Calls → Calls
 after_failure calls = record calls { failures = next_count calls.failures }
 
--- after a call that failed
+-- the calls after one more that failed
 abbrev pub after_failed_call : Calls → Calls
 after_failed_call calls = after_failure (after_call calls)

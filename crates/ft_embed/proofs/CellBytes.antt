@@ -19,8 +19,10 @@ use Rattle.ft_format.specs.Versions.{magic}
 use Rattle.ft_format.specs.Layout.{bytes_of, written, spelled, header_layout, cell_layout, code_layout, type_layout}
 use Rattle.ft_format.specs.Layout.{reg_layout, pair_layout, subst_layout}
 use Rattle.ft_types.specs.NodeRows.{node_row}
-use Rattle.ft_format.specs.Rows.{base_code, base_type, cell_row, cell_rows, type_rows, reg_row, queue_row, block_row}
-use Rattle.ft_format.specs.Rows.{instr_row, subst_row, all_regs, all_queue, all_names, spelling}
+use Rattle.ft_format.specs.Codes.{base_code, base_type}
+use Rattle.ft_format.specs.Rows.{cell_row, cell_rows, type_rows, reg_row, queue_row, block_row, subst_row, all_regs}
+use Rattle.ft_format.specs.Rows.{all_queue, all_names, spelling}
+use Rattle.ft_format.specs.InstrRecords.{instr_row}
 use Rattle.ft_embed.specs.Cells.{begun_with, with_word, object_with_word}
 
 -- LISTS

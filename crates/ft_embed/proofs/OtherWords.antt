@@ -17,7 +17,7 @@ use Rattle.ft_isa.specs.declared.colour.Colour.TheVariants.{Green, Blue}
 use Rattle.ft_isa.specs.declared.instr.Subst.{Subst}
 use Rattle.ft_isa.specs.declared.instr.Instr.{Instr}
 use Rattle.ft_isa.specs.declared.instr.Instr.TheVariants.{Mov, St, JmpB, BzB, Idx}
-use Rattle.ft_static.specs.FormOrder.{same_polynomial, same_updates}
+use Rattle.ft_static.specs.Form.{same_polynomial, same_updates}
 use Rattle.ft_static.specs.NormalForm.{constant}
 use Rattle.ft_types.specs.declared.object.Object.{Object}
 use Rattle.ft_types.specs.declared.object.Cell.{Cell}
@@ -29,9 +29,10 @@ use Rattle.ft_typing.specs.Context.{Typed, TypedRegisters, d_zero, FormPair, Con
 use Rattle.ft_typing.specs.Context.{memory_form_of, Replacement, integer_form_after, memory_form_after, replacement}
 use Rattle.ft_typing.specs.Context.{typed_row, registers_after, queue_pair, start_context}
 use Rattle.ft_typing.specs.declared.why.Why.TheVariants as premise
-use Rattle.ft_typing.specs.TypingRow.{Outcome, Goes, Ends, need, for_typed, for_code_over, for_target, for_conditional}
-use Rattle.ft_typing.specs.TypingRow.{for_run, run_form, is_like, are_like, is_queue_like, is_annotated, leads, row}
-use Rattle.ft_typing.specs.TypingRow.{same_colour}
+use Rattle.ft_typing.specs.RowWords.{Outcome, Goes, Ends, need, for_typed, for_code_over, for_target, for_conditional}
+use Rattle.ft_typing.specs.RowWords.{for_run, run_form, is_like, are_like, is_queue_like, is_annotated, leads}
+use Rattle.ft_typing.specs.RowWords.{same_colour}
+use Rattle.ft_typing.specs.TypingRow.{row}
 use Rattle.ft_typing.specs.Accepted.{Applies, last_row, next_row, IsAccepted}
 use Rattle.ft_embed.specs.Cells.{begun_with, with_word, object_with_word}
 

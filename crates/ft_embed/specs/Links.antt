@@ -23,7 +23,7 @@ use Rattle.ft_embed.specs.Verdicts.{nothing, told_error, told_refusal}
 abbrev pub told_link : ℕ → ℕ → Refused
 told_link n x = record { part = 7; number = n; place = x; index = 0 }
 
--- the module of a refusal, 0 if it is of a line
+-- the module of a refusal, 0 if it is about a line
 abbrev pub module_of : LinkRefusal → ℕ
 module_of (Cells m) = m
 module_of (Rows m) = m
@@ -109,7 +109,7 @@ pub record IsAdded (given : List Module) (modules : List Object) (name : List �
   pub accepted : refusal o ≡ None
   pub unrefused : added_refusal modules o ≡ None
 
--- the files of further modules are added in turn, and these are then all
+-- the files of further modules are added in turn, and these are then all the modules
 abbrev pub AddsAll : List Module → List Object → List (List ℕ) → List Object → Type 0
 AddsAll given modules [] all = all ≡ modules
 AddsAll given modules (name ∷ names) all = (o : Object) × (IsAdded given modules name o × AddsAll given (modules ++ o ∷ []) names all)
@@ -129,7 +129,7 @@ pub data IsUnlinked (given : List Module) (text : List ℕ) (u : Unlinked) : Typ
       → (r : LinkRefusal) → refusal_of linkage modules ≡ Some r → u ≡ unlinked r → IsUnlinked given text u
 
 -- these bytes are the object that a map makes of the added modules, in version 2 of the format. It is accepted; it runs
--- as the modules do; with a fault it does so too, or is detected
+-- as the modules do; with a fault it still does, or is detected
 pub record IsLinkedAll (linkage : LinkMap) (modules : List Object) (bytes : List ℕ) : Type 0 where
   pub unrefused : refusal_of linkage modules ≡ None
   pub object : Object
@@ -168,7 +168,7 @@ pub record IsAddedTo (given : List Module) (modules : List Object) (name : List 
   pub is : IsAdded given modules name object
   pub added : modules' ≡ modules ++ object ∷ []
 
--- these modules of a map were added; however its remaining files end, all of its files end: private to the code
+-- these modules of a map were added, and its link ends as that of its remaining files does: private to the code
 pub record HasAdded (given : List Module) (linkage : LinkMap) (modules : List Object) (rest : List (List ℕ)) : Type 0 where
   pub count : length modules + length rest ≡ length linkage.files
   pub adds : (all : List Object) → AddsAll given modules rest all → AddsAll given [] linkage.files all

@@ -45,8 +45,8 @@ pub record Fills (o : Object) (s : State) (w : List Wild) (n : ℕ) (s' : State)
   pub count_is : count ≡ from + length (span o n s w).outputs
   pub before : (j : ℕ) → j < n → MayGoOn (span o j s w).state.status (from + length (span o j s w).outputs) (length old)
 
--- the run could take each of `taken` steps: before each it had not stopped and the array had room. So it took no step
--- after its end or after the array was full
+-- the run could take each of `taken` steps: before each it had not stopped and the array had room. So no step was taken
+-- after the end of the run or after the array was full
 abbrev pub GoesUntil : Object → Option Strike → List Wild → ℕ → ℕ → Type 0
 GoesUntil o strike w taken room = (n : ℕ) → n < taken →
     MayGoOn (status_after o strike w n) (length (outputs_after o strike w n)) room

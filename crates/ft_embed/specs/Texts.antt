@@ -1,4 +1,4 @@
--- What is returned over texts.
+-- What is returned for texts.
 use Rattle.std.specs.Prelude.{◌≡◌, ◌≢◌, ◌<◌, ℕ, List, length, take, slice_get, Option, Some}
 use Rattle.std.specs.Option.{option_map}
 use Rattle.ft_types.specs.Objects.{name_of}
@@ -29,8 +29,8 @@ use Rattle.ft_embed.specs.declared.refused.Refused.{Refused}
 abbrev pub told_source : SourceError → Refused
 told_source e = record { part = 5; number = source_number e; place = source_told e; index = 0 }
 
--- these bytes are an object in version 2 of the format that stands for the program that the text is; it is that of a
--- flow of the program, and a module that the linker accepts
+-- these bytes are an object in version 2 of the format that stands for the text's program; it is the object of a flow
+-- of the program, and a module that the linker accepts
 pub record IsCompiled (text bytes : List ℕ) : Type 0 where
   pub program : Program
   pub is : IsProgramOf text program

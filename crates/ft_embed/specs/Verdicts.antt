@@ -1,4 +1,4 @@
--- What is returned over the bytes of an object: a status, and why they are refused.
+-- What is returned for the bytes of an object: a status, and why they are refused.
 use Rattle.std.specs.Prelude.{◌≡◌, ℕ, List, Option, Some, None}
 use Rattle.ft_typing.specs.Accepted.{Refusal, EntryType, CellType, Refused as AtInstr, refusal, IsAccepted}
 use Rattle.ft_typing.specs.Premise.{number_of}

@@ -6,8 +6,8 @@ ghost use Rattle.ft_embed.specs.Verdicts.{nothing as nothing_told};
 use crate::refused::{Refused, nothing};
 use crate::verdict::Verdict;
 
-/// The result for bytes that are written: a status, the number of bytes that were written or do not fit, and why none
-/// are, if something is refused.
+/// The result of writing bytes: a status, the number of bytes that were written or do not fit, and why none were
+/// written, if something is refused.
 #[derive(Clone, Copy)]
 pub struct Written {
     pub status: u32,
@@ -57,7 +57,7 @@ pub(crate) fn none_written(status: u32) -> Written
     not_written(status, nothing())
 }
 
-/// Nothing is written of an object that is refused.
+/// Nothing is written for an object that is refused.
 pub(crate) fn none_accepted(verdict: Verdict) -> Written
     ensures { result ≡ record { status = verdict.status; made = 0; why = verdict.why } }
 {

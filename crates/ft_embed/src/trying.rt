@@ -29,7 +29,7 @@ const MOST_STEPS: u64 = 1_000_000;
 /// The maximum of the number of faults times the number of steps.
 const PRODUCT_LIMIT: u64 = 1_000_000_000;
 
-/// What is tried on an object: the text of a fault list, the answers to wild loads, and the maximum of steps.
+/// What is tried on an object: the text of a fault list, the answers to wild loads, and the maximum number of steps.
 #[derive(Clone, Copy)]
 pub(crate) struct Trial<'a> {
     pub(crate) list: &'a [u8],
@@ -45,7 +45,7 @@ pub struct TrialAnswer {
     pub why: Refused,
 }
 
-/// A campaign that was not made, or whose verdicts do not fit: this many faults need room.
+/// A campaign that did not run, or whose verdicts do not fit: this many faults need room.
 fn not_tried(status: u32, why: Refused, count: usize) -> TrialAnswer
     ensures status { result.status ≡ status }
     ensures why { result.why ≡ why }

@@ -1,4 +1,4 @@
-//! What is returned over the bytes of an object.
+//! What is returned for the bytes of an object.
 ghost use Rattle.std.specs.Prelude.{◌≡◌};
 ghost use Rattle.ft_embed.specs.Verdicts.{nothing as nothing_told};
 

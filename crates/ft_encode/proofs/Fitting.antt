@@ -15,12 +15,15 @@ use Rattle.ft_types.specs.NodeRows.{node_row}
 use Rattle.ft_format.specs.declared.version.Version.{Version}
 use Rattle.ft_format.specs.Versions.{version_of}
 use Rattle.ft_format.specs.Layout.{rows, cell_layout, code_layout, type_layout, reg_layout, pair_layout, subst_layout}
-use Rattle.ft_format.specs.Rows.{cell_rows, type_rows, reg_row, queue_row, block_row, instr_row, subst_row, all_regs}
+use Rattle.ft_format.specs.Rows.{cell_rows, type_rows, reg_row, queue_row, block_row, subst_row, all_regs}
+use Rattle.ft_format.specs.InstrRecords.{instr_row, instr_of, FitsInstr}
 use Rattle.ft_format.specs.Rows.{all_queue, all_names, spelling}
-use Rattle.ft_format.specs.Values.{cells_of, node_of, types_of, reg_type_of, pair_of, block_of, instr_of, subst_node_of}
+use Rattle.ft_format.specs.Values.{cells_of, types_of, reg_type_of, pair_of, block_of, subst_node_of}
+use Rattle.ft_format.specs.NodeRecords.{node_of, FitsNode}
 use Rattle.ft_format.specs.Broken.{cells_part, cells_read, nodes_read, regs_read, queue_read, types_read, blocks_read}
 use Rattle.ft_format.specs.Broken.{instrs_read, substs_read, tables_read, version_at, object_of}
-use Rattle.ft_format.specs.Fits.{Is32, FitsCell, FitsNode, FitsReg, FitsPair, FitsType, FitsBlock, FitsInstr, Fits}
+use Rattle.ft_format.specs.Codes.{Is32}
+use Rattle.ft_format.specs.Fits.{FitsCell, FitsReg, FitsPair, FitsType, FitsBlock, Fits}
 use Rattle.ft_format.proofs.Layouts.{Fit, AllFit}
 use Rattle.ft_format.proofs.Codes.{colour_small, basic_back, base_small, type_fits}
 use Rattle.ft_format.proofs.Versions.{magic_small, names_magic}
@@ -28,7 +31,7 @@ use Rattle.ft_format.proofs.Nodes.{shape_fit, shape_back}
 use Rattle.ft_format.proofs.Types.{types_back}
 use Rattle.ft_format.proofs.SpelledSections.{header_for}
 use Rattle.ft_format.proofs.SmallRows.{reg_back}
-use Rattle.ft_format.proofs.InstrsBack.{instr_fit, instr_back}
+use Rattle.ft_format.proofs.InstrsFine.{instr_fit, instr_back}
 use Rattle.ft_encode.proofs.Sections.{SectionsFit, Sections, sections_are}
 
 -- LISTS
@@ -165,7 +168,7 @@ fitting_read v o f =
     let s = sections_are (spelling v o) v o (sections_fit v o f) refl in
     ap (λ h. tables_read h (spelling v o)) s.header ∙ tables_back (spelling v o) v o f s
 
--- and so is the version
+-- the version is read again
 pub fitting_version : (v : Version) (o : Object) → Fits o → version_at (spelling v o) ≡ v
 fitting_version v o f =
     let s = sections_are (spelling v o) v o (sections_fit v o f) refl in

@@ -7,7 +7,8 @@ use Rattle.ft_types.specs.NodeRows.{node_row}
 use Rattle.ft_format.specs.declared.version.Version.{Version}
 use Rattle.ft_format.specs.Layout.{size, numbers, written, rows, spelled, header_layout, cell_layout, code_layout}
 use Rattle.ft_format.specs.Layout.{type_layout, reg_layout, pair_layout, subst_layout}
-use Rattle.ft_format.specs.Rows.{cell_rows, type_rows, reg_row, queue_row, block_row, instr_row, subst_row, all_regs}
+use Rattle.ft_format.specs.Rows.{cell_rows, type_rows, reg_row, queue_row, block_row, subst_row, all_regs}
+use Rattle.ft_format.specs.InstrRecords.{instr_row}
 use Rattle.ft_format.specs.Rows.{all_queue, all_names, header_row, spelling}
 use Rattle.ft_format.specs.Values.{header_of}
 use Rattle.ft_format.specs.Broken.{nodes_at, types_at, regs_at, queue_at, blocks_at, instrs_at, substs_at, names_at}

@@ -6,7 +6,8 @@ use Rattle.ft_types.specs.declared.object.Block.{Block}
 use Rattle.ft_types.specs.declared.object.RegType.{RegType}
 use Rattle.ft_types.specs.NodeRows.{node_row}
 use Rattle.ft_format.specs.Layout.{written, code_layout, reg_layout, pair_layout, subst_layout}
-use Rattle.ft_format.specs.Rows.{reg_row, queue_row, block_row, instr_row, subst_row}
+use Rattle.ft_format.specs.Rows.{reg_row, queue_row, block_row, subst_row}
+use Rattle.ft_format.specs.InstrRecords.{instr_row}
 
 -- the bytes of a node's record
 abbrev pub node_bytes : Node → List ℕ

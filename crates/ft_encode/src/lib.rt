@@ -1,4 +1,4 @@
-//! Objects as bytes, written.
+//! Objects, written as bytes.
 //!
 //! The crate promises that `spell` writes the version 2 layout of an object's tables, and that `encode`
 //! writes an object that obeys the format's rules, so that reading gives it back; every version 2 file is

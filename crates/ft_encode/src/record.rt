@@ -4,7 +4,8 @@ ghost use Rattle.std.specs.List.{flat_map};
 ghost use Rattle.ft_types.specs.NodeRows.{high_half, low_half, shape_row};
 ghost use Rattle.ft_format.specs.Layout.{written};
 ghost use Rattle.ft_format.specs.Fields.{code_numbers, node_numbers};
-ghost use Rattle.ft_format.specs.Rows.{colour_code, base_code, base_type, basic_number, instr_row};
+ghost use Rattle.ft_format.specs.Codes.{colour_code, base_code, base_type, basic_number};
+ghost use Rattle.ft_format.specs.InstrRecords.{instr_row};
 ghost use Rattle.ft_format.specs.Puts.{Puts};
 ghost use Rattle.ft_encode.specs.Written.{subst_bytes};
 

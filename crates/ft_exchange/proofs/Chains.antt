@@ -1,4 +1,4 @@
--- Runs of an object beside those of objects that come from it.
+-- Runs of an object compared with those of objects that come from it.
 use Rattle.std.proofs.Common.{◌≡◌, ◌≢◌, ⊎_elim, ℕ, zero, suc, ◌+◌, ◌*◌, ◌-◌, ◌≤◌, Bool, true, false, List, [], ◌++◌}
 use Rattle.std.proofs.Common.{length, drop, Option, Some, None, slice_get, refl, sym, ap, ◌∙◌, subst, arith, append-nil}
 use Rattle.std.proofs.Common.{length-take, length-drop}
@@ -21,7 +21,8 @@ use Rattle.ft_semantics.specs.Step.{Stepping, step, fetch}
 use Rattle.ft_semantics.proofs.Runs.{outputs_grow}
 use Rattle.ft_semantics.specs.Run.{Ran, run, state_after, wild_after, outputs_after, status_after}
 use Rattle.ft_typing.specs.Context.{Context}
-use Rattle.ft_typing.specs.TypingRow.{Outcome, Goes, row}
+use Rattle.ft_typing.specs.TypingRow.{row}
+use Rattle.ft_typing.specs.RowWords.{Outcome, Goes}
 use Rattle.ft_tolerance.specs.TypedState.{Place, instr_number, further, place_after, next_place, place, Fits}
 use Rattle.ft_tolerance.specs.TypedState.{context_of, context_after, context_at, IsPlace}
 use Rattle.ft_tolerance.proofs.Whole.{accepted_fits}

@@ -12,7 +12,8 @@ use Rattle.ft_isa.specs.declared.instr.Instr.{Instr}
 use Rattle.ft_isa.specs.declared.instr.Instr.TheVariants.{Ld, St}
 use Rattle.ft_types.specs.declared.object.Object.{Object}
 use Rattle.ft_typing.specs.Context.{Typed, Context, typed, with_type}
-use Rattle.ft_typing.specs.TypingRow.{Goes, pending_memory, seen_memory, row}
+use Rattle.ft_typing.specs.TypingRow.{row}
+use Rattle.ft_typing.specs.RowWords.{Goes, pending_memory, seen_memory}
 use Rattle.ft_types.proofs.Maps.{get-insert}
 use Rattle.ft_isa.specs.Instructions.{written}
 use Rattle.ft_exchange.specs.Exchange.{leaves_alone, has_room}

@@ -1,4 +1,4 @@
--- The run of an accepted object beside that of the object after one exchange.
+-- The run of an accepted object compared with that of the object after one exchange.
 use Rattle.std.proofs.Common.{◌≡◌, ◌≢◌, ⊎_elim, ℕ, zero, suc, ◌+◌, ◌<◌, ◌==◌, Bool, true, false, if◌then◌else◌, List}
 use Rattle.std.proofs.Common.{[], ◌∷◌, ◌++◌, length, Option, Some, None, refl, sym, ap, ◌∙◌, subst, arith, eq-eqb}
 use Rattle.std.proofs.Common.{append-nil, mod-eq_of_lt}
@@ -26,7 +26,7 @@ use Rattle.ft_semantics.specs.Step.{Stepping, quiet, detected, next, fetch, load
 use Rattle.ft_semantics.specs.Step.{execute, advance, step_at, step}
 use Rattle.ft_semantics.specs.Run.{Ran, extended, run, run-zero}
 use Rattle.ft_semantics.proofs.Runs.{HasStopped, stays_at}
-use Rattle.ft_typing.specs.TypingRow.{Outcome, Goes, Ends, Fails}
+use Rattle.ft_typing.specs.RowWords.{Outcome, Goes, Ends, Fails}
 use Rattle.ft_typing.specs.TypedWord.{block_at}
 use Rattle.ft_tolerance.specs.TypedState.{Place, entry_block, start_place, instr_number, further, arrived, place_after}
 use Rattle.ft_tolerance.specs.TypedState.{next_place, place, place-zero, Fits, IsPlace}
@@ -46,7 +46,7 @@ pub step_executes : (o : Object) (s : State) (w : List Wild) (i : Instr) → s.s
     step o s w ≡ execute i s w
 step_executes o s w i go e = ap (λ (x : Status). step_at o x s w) go ∙ ap (λ (x : Option Instr). advance o x s w) e
 
--- or fetches what is at its counters
+-- a running state with nothing fetched fetches what is at its counters
 pub step_fetches : (o : Object) (s : State) (w : List Wild) → s.status ≡ Running → s.fetched ≡ None → s.pc_green
     ≡ s.pc_blue → step o s w ≡ fetch (instr_at o s.pc_green) s w
 step_fetches o s w go e pc = ap (λ (x : Status). step_at o x s w) go ∙ ap (λ (x : Option Instr). advance o x s w) e
@@ -129,7 +129,7 @@ number_after o (BzB rz rd u) s p = number_if (word s rz == 0) p _ _ (number_arri
     (number_further _ p)
 number_after o i s p = number_further _ p
 
--- A MACHINE BESIDE ANOTHER
+-- TWO MACHINES
 
 abbrev pub ran : State → List Output → Ran
 ran s os = record { state = s; wild = []; outputs = os }

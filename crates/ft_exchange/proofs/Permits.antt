@@ -100,7 +100,7 @@ or_right_false false b e = not-true b e
 pub not_read : (i : Instr) (w : Option ℕ) (r : ℕ) → w ≡ Some r → leaves_alone i w ≡ true → reads i r ≡ false
 not_read i w r e h = or_left_false (reads i r) (is_register (written i) r) (subst (λ u. leaves_alone i u ≡ true) e h)
 
--- and doesn't write it
+-- an instruction that leaves a written register alone doesn't write it
 pub not_written : (i : Instr) (w : Option ℕ) (q r : ℕ) → w ≡ Some r → written i ≡ Some q → leaves_alone i w ≡ true →
     (q == r) ≡ false
 not_written i w q r e f h = subst (λ u. is_register u r

@@ -9,8 +9,9 @@ use Rattle.ft_isa.specs.Instructions.{is_fixed, is_green_store, is_blue_store}
 use Rattle.ft_isa.proofs.Lists.{length_pushed}
 use Rattle.ft_types.specs.declared.object.Object.{Object}
 use Rattle.ft_typing.specs.Context.{FormPair, Context}
-use Rattle.ft_typing.specs.TypingRow.{Outcome, Goes, Ends, Fails, is_empty, row}
-use Rattle.ft_typing.specs.TypingTable.{known, others, effect}
+use Rattle.ft_typing.specs.TypingRow.{row, effect}
+use Rattle.ft_typing.specs.RowWords.{Outcome, Goes, Ends, Fails, is_empty}
+use Rattle.ft_typing.specs.RowTests.{known, others}
 use Rattle.ft_typing.proofs.TypingRows.{Holds, row_holds}
 use Rattle.ft_exchange.specs.Exchange.{queue_after}
 

@@ -7,8 +7,7 @@ use Rattle.ft_isa.specs.declared.colour.Colour.{Colour}
 use Rattle.ft_isa.specs.declared.colour.Colour.TheVariants.{Green, Blue}
 use Rattle.ft_isa.specs.declared.basic.Base.{Base}
 use Rattle.ft_isa.specs.declared.instr.Instr.TheVariants.{St}
-use Rattle.ft_static.specs.Form.{Polynomial}
-use Rattle.ft_static.specs.FormOrder.{same_polynomial}
+use Rattle.ft_static.specs.Form.{Polynomial, same_polynomial}
 use Rattle.ft_static.specs.NormalForm.{norm_upd}
 use Rattle.ft_static.proofs.Equal.{equal_polynomials}
 use Rattle.ft_types.specs.declared.object.Object.{Object}
@@ -16,7 +15,8 @@ use Rattle.ft_typing.specs.TypedWord.{is_seen_as}
 use Rattle.ft_typing.specs.declared.why.Why.TheVariants as premise
 use Rattle.ft_typing.specs.Premise.{Premise}
 use Rattle.ft_typing.specs.Context.{Typed, FormPair, Context, typed}
-use Rattle.ft_typing.specs.TypingRow.{Outcome, Goes, Fails, same_colour, need, for_typed, for_ref_over, for_oldest, row}
+use Rattle.ft_typing.specs.TypingRow.{row}
+use Rattle.ft_typing.specs.RowWords.{Outcome, Goes, Fails, same_colour, need, for_typed, for_ref_over, for_oldest}
 use Rattle.ft_isa.specs.Instructions.{reads}
 
 -- the pair of a store, if the premises on its registers hold

@@ -18,8 +18,9 @@ use Rattle.ft_typing.specs.TypedWord.{has_type, run_type}
 use Rattle.ft_typing.specs.declared.why.Why.TheVariants as premise
 use Rattle.ft_typing.specs.Premise.{Premise}
 use Rattle.ft_typing.specs.Context.{Typed, Context, typed, with_type}
-use Rattle.ft_typing.specs.TypingRow.{Outcome, Goes, Fails, same_colour, need, for_typed, for_ref_over, for_run}
-use Rattle.ft_typing.specs.TypingRow.{run_form, seen_memory, row}
+use Rattle.ft_typing.specs.RowWords.{Outcome, Goes, Fails, same_colour, need, for_typed, for_ref_over, for_run}
+use Rattle.ft_typing.specs.RowWords.{run_form, seen_memory}
+use Rattle.ft_typing.specs.TypingRow.{row}
 use Rattle.ft_isa.specs.Instructions.{written, reads}
 
 -- what each kind of instruction makes known of the register that it writes, by what is known of those that it reads
@@ -130,7 +131,7 @@ gave_idx first m r c b None = record { failing = premise.Untyped; row_is = refl 
 gave_idx first m r c None (Some s) = record { failing = premise.Array; row_is = refl }
 gave_idx first m r c (Some b) (Some s) = record { failing = premise.Array; row_is = refl }
 
--- the same of the register that is written
+-- the same for the register that is written
 gave_there : (q r : ℕ) (c : Context) (u : Option Typed) (x : Outcome) → Some q ≡ Some r → Gave q c u x → Gave r c u x
 gave_there q r c u x e g = (let same : q ≡ r = cc in subst (λ n. Gave n c u x) same g)
 

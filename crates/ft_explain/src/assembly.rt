@@ -1,11 +1,12 @@
 //! Explains assembly texts that are refused.
 use crate::content::{Content, say_other_kind};
 use crate::excerpt::Place;
-use crate::lines::{MARKED, RETURN, is_marked};
+use crate::lines::{MARKED, NOT_UTF8, RETURN, first_not_utf8, is_marked};
 use crate::listing::{cell_of, line_with};
 use crate::mnemonics::{form_of, operand_of, say_unknown};
 use crate::operands::{Operand, is_register, meaning_of, say_rule, word_at, word_start};
 use crate::page::Page;
+use crate::spaces::first_space;
 use ft_isa::{FIRST_CELL, NoMemory};
 
 /// The message for a line that is out of order.
@@ -72,7 +73,7 @@ fn explain_operands(
     text: &[u8],
 ) -> Result<(), NoMemory> {
     let line = start.line();
-    let Some(operand) = operand_of(line, forms) else {
+    let Some(operand) = operand_of(page.alloc(), line, forms)? else {
         let place = start.after(word_start(line, 0));
         page.head_at(name, &place)?;
         say_forms(page, word, forms)?;
@@ -87,17 +88,18 @@ fn explain_operands(
     place.show(page, operand.text.len())
 }
 
-/// Explains what is wrong with one byte of a line.
-fn explain_byte(
-    page: &mut Page,
-    name: &str,
-    place: Place<'_>,
-    words: &str,
-) -> Result<(), NoMemory> {
-    page.head_at(name, &place)?;
-    page.say(words)?;
-    page.say("\n")?;
-    place.show(page, 1)
+/// A byte of a line that no line may have: its place, and what is wrong with it.
+fn wrong_byte(line: &[u8]) -> Option<(usize, &'static str)> {
+    if is_marked(line) {
+        return Some((0, MARKED));
+    }
+    if line.ends_with(b"\r") {
+        return Some((line.len().saturating_sub(1), RETURN));
+    }
+    if let Some(at) = first_not_utf8(line) {
+        return Some((at, NOT_UTF8));
+    }
+    first_space(line)
 }
 
 /// Whether a line, given by its number, is among the instructions of a text.
@@ -116,20 +118,12 @@ fn explain_form(
     text: &[u8],
 ) -> Result<(), NoMemory> {
     let line = start.line();
-    if is_marked(line) {
-        return explain_byte(page, name, start, MARKED);
-    }
-    if line.ends_with(b"\r") {
-        return explain_byte(
-            page,
-            name,
-            start.after(line.len().saturating_sub(1)),
-            RETURN,
-        );
+    if let Some((at, words)) = wrong_byte(line) {
+        return start.after(at).explain(page, name, words);
     }
     let place = start.after(word_start(line, 0));
     let word = word_at(line, word_start(line, 0));
-    if let Some(forms) = form_of(word) {
+    if let Some(forms) = form_of(page.alloc(), word)? {
         return explain_operands(page, name, start, word, forms, text);
     }
     page.head_at(name, &place)?;

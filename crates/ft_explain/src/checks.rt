@@ -66,17 +66,29 @@ fn say_unlike_row(
     page.say("\n")
 }
 
-/// Says instruction `i` as assembly text, on a line.
+/// Says instruction `i` as assembly text, between other words.
 #[tactic(auto, using(ft_types::proofs::Counted::spellable_counted))]
-pub(crate) fn say_instr<P: Program>(page: &mut Page, program: &P, i: u32) -> Result<(), NoMemory>
+pub(crate) fn say_code<P: Program>(
+    page: &mut Page,
+    program: &P,
+    i: u32,
+    before: &str,
+    after: &str,
+) -> Result<(), NoMemory>
     requires spellable { IsSpellable (P.object program.now) }
     requires there { i < length (P.object program.now).instrs }
 {
     let mut text = Vec::new(page.alloc());
     put_codes(&mut text, program, i, i + 1)?;
-    page.say("  ")?;
-    page.show(text.as_slice().trim_ascii_end())?;
-    page.say("\n")
+    page.show_between(before, text.as_slice().trim_ascii_end(), after)
+}
+
+/// Says instruction `i` as assembly text, on a line.
+pub(crate) fn say_instr<P: Program>(page: &mut Page, program: &P, i: u32) -> Result<(), NoMemory>
+    requires spellable { IsSpellable (P.object program.now) }
+    requires there { i < length (P.object program.now).instrs }
+{
+    say_code(page, program, i, "  ", "\n")
 }
 
 /// Whether the colour or basic type of a register differs from a row's; what is seen as `int` fits it.

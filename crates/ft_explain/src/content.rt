@@ -4,6 +4,7 @@ use crate::page::Page;
 use ft_isa::{NoMemory, read_strike};
 use ft_lexer::{Kind, Lexer, Token};
 use ft_text::read_line;
+use std::alloc::Global;
 
 /// How many bytes of a file are examined.
 const LOOKED_AT: usize = 65_536;
@@ -144,9 +145,9 @@ fn begins_script(line: &[u8]) -> bool {
 }
 
 /// What a text is, from its first line that is neither empty nor a comment.
-fn content_of_line(line: &[u8]) -> Content {
-    if is_line(line) {
-        Content::Assembly
+fn content_of_line(alloc: Global, line: &[u8]) -> Result<Content, NoMemory> {
+    let content = if line.is_empty() {
+        Content::Unknown
     } else if begins_source(line) {
         Content::Source
     } else if read_strike(line).is_ok() {
@@ -155,9 +156,12 @@ fn content_of_line(line: &[u8]) -> Content {
         Content::Map
     } else if begins_script(line) {
         Content::Script
+    } else if is_line(alloc, line)? {
+        Content::Assembly
     } else {
         Content::Unknown
-    }
+    };
+    Ok(content)
 }
 
 /// Whether a line is a C preprocessor directive.
@@ -182,18 +186,22 @@ fn is_c(name: &str, text: &[u8]) -> bool {
 }
 
 /// What a file is, as far as its name and its beginning show.
-pub(crate) fn content_of_file(name: &str, bytes: &[u8]) -> Content {
-    let content = content_of(bytes);
+pub(crate) fn content_of_file(
+    alloc: Global,
+    name: &str,
+    bytes: &[u8],
+) -> Result<Content, NoMemory> {
+    let content = content_of(alloc, bytes)?;
     if content == Content::Unknown && is_c(name, bytes.get(..LOOKED_AT).unwrap_or(bytes)) {
-        return Content::C;
+        return Ok(Content::C);
     }
-    content
+    Ok(content)
 }
 
 /// What bytes are, as far as their beginning shows.
-fn content_of(bytes: &[u8]) -> Content {
+fn content_of(alloc: Global, bytes: &[u8]) -> Result<Content, NoMemory> {
     let bytes = bytes.get(..LOOKED_AT).unwrap_or(bytes);
-    if bytes.is_empty() {
+    let content = if bytes.is_empty() {
         Content::Empty
     } else if begins_as_object(bytes) {
         Content::Object
@@ -204,8 +212,9 @@ fn content_of(bytes: &[u8]) -> Content {
     } else if !is_text(bytes) {
         Content::Binary
     } else {
-        content_of_line(first_said(bytes))
-    }
+        return content_of_line(alloc, first_said(bytes));
+    };
+    Ok(content)
 }
 
 /// Says what a file is, what was expected, and what to do.
@@ -232,7 +241,7 @@ pub(crate) fn say_other_kind(
     bytes: &[u8],
     wanted: Content,
 ) -> Result<bool, NoMemory> {
-    let content = content_of_file(name, bytes);
+    let content = content_of_file(page.alloc(), name, bytes)?;
     if content == wanted || content == Content::Unknown {
         return Ok(false);
     }

@@ -2,8 +2,8 @@
 ghost use Rattle.std.specs.Prelude.{◌≡◌, ◌<◌, length};
 ghost use Rattle.ft_types.specs.Spellable.{IsSpellable};
 
+use crate::checks::say_code;
 use crate::page::Page;
-use ft_asm::put_codes;
 use ft_isa::{Colour, Instr, NoMemory, Reg};
 use ft_machine::Machine;
 use ft_types::Program;
@@ -27,16 +27,12 @@ fn say_code_at<P: Program>(
     if program.instr(i) != instr {
         return Ok(false);
     }
-    let mut text = Vec::new(page.alloc());
-    put_codes(&mut text, program, i, i + 1)?;
-    page.say("`")?;
-    page.show(text.as_slice().trim_ascii_end())?;
-    page.say("`: ")?;
+    say_code(page, program, i, "`", "`: ")?;
     Ok(true)
 }
 
 /// Says the instruction that is being executed. One of the counters may have been struck since it was fetched.
-fn say_code<P: Program>(
+fn say_fetched<P: Program>(
     page: &mut Page,
     program: &P,
     machine: &Machine,
@@ -148,7 +144,7 @@ pub(crate) fn say_detection<P: Program>(
     match machine.fetched() {
         None => say_counters(page, machine),
         Some(instr) => {
-            say_code(page, program, machine, instr)?;
+            say_fetched(page, program, machine, instr)?;
             say_found(page, machine, instr)
         }
     }

@@ -122,6 +122,14 @@ impl<'a> Place<'a> {
         letter_from(self.line, first.saturating_add(WIDTH))
     }
 
+    /// Explains what is wrong with the byte at the place, and shows it.
+    pub fn explain(&self, page: &mut Page, name: &str, words: &str) -> Result<(), NoMemory> {
+        page.head_at(name, self)?;
+        page.say(words)?;
+        page.say("\n")?;
+        self.show(page, 1)
+    }
+
     /// Shows the line, and below it a caret at the place, with a wave under the rest of `length` bytes. A long line
     /// is cut around the place.
     pub fn show(&self, page: &mut Page, length: usize) -> Result<(), NoMemory> {

@@ -168,10 +168,24 @@ fn habit_of_word(word: &[u8]) -> Option<&'static str> {
             Some("a statement is an assignment, `while` or `if` with `else`")
         }
         b"def" | b"fn" | b"func" | b"function" | b"void" => Some("there are no functions"),
-        b"print" | b"printf" | b"puts" | b"write" | b"echo" => {
-            Some("there are no calls: an assignment to a cell is the output")
-        }
+        b"print" | b"println" | b"printf" | b"puts" | b"write" | b"echo" => Some(OUTPUT),
         _ => None,
+    }
+}
+
+/// What to do without a call that prints.
+const OUTPUT: &str = "there are no calls or macros: an assignment to a cell is the output";
+
+/// What to write instead of a macro such as `println!(..)` whose `!` is at a place; `None` if there is none.
+pub(crate) fn instead_of_macro(source: &[u8], at: usize) -> Option<&'static str> {
+    let last = read_before(source, at).last?;
+    let is_called = matches!(source.get(at.saturating_add(1)), Some(b'(' | b'[' | b'{'));
+    if last.kind != Kind::Name || !is_called {
+        return None;
+    }
+    match habit_of_word(last.text) {
+        Some(words) => Some(words),
+        None => Some("there are no calls or macros"),
     }
 }
 
@@ -187,7 +201,7 @@ fn habit_after_first(word: &[u8], next: Kind) -> Option<&'static str> {
             Some("write the assignment in full, as in `a = a + 1;`")
         }
         Kind::Name => Some("a declaration is `var a;` or `cell a = 0;`, without a type"),
-        Kind::LParen => Some("there are no calls, and the only loop is `while`"),
+        Kind::LParen => Some("there are no calls or macros, and the only loop is `while`"),
         Kind::EqEq => Some("write `=` to assign"),
         _ => None,
     }
@@ -216,7 +230,7 @@ fn habit_after(last: Kind, next: Kind) -> Option<&'static str> {
         ),
         Kind::And if last == Kind::And => Some("write `&` for `&&`"),
         Kind::Or if last == Kind::Or => Some("write `|` for `||`"),
-        Kind::LParen if last == Kind::Name => Some("there are no calls"),
+        Kind::LParen if last == Kind::Name => Some("there are no calls or macros"),
         Kind::Minus if !ends_term(last) => Some("numbers have no sign: write `0 - 1`"),
         Kind::Var | Kind::Cell if begins_statement(last) => {
             Some("declarations come before the first statement")

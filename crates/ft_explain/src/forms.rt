@@ -91,6 +91,14 @@ pub(crate) fn form(command: &'static str) -> &'static str {
     }
 }
 
+/// How the command of these words is written; empty if there is none.
+pub fn form_of_words(words: &[String]) -> &'static str {
+    match words {
+        [first, ..] => form(command_lines(first.as_str()).unwrap_or("")),
+        [] => "",
+    }
+}
+
 /// What a command does, and an example.
 pub(crate) fn summary_and_example(command: &'static str) -> (&'static str, &'static str) {
     let Some((_, rest)) = command.split_once("\n") else {

@@ -6,7 +6,7 @@ use crate::loads::{OBJECT_LIMIT, load};
 use crate::page::Page;
 use ft_edge::Shelf;
 use ft_isa::{Instr, NoMemory, read_number};
-use ft_types::{CellHead, Program, TypeHead};
+use ft_types::{Program, TypeHead};
 use ft_view::View;
 
 /// The maximum number of blocks or names listed.
@@ -179,6 +179,24 @@ fn say_unlike(page: &mut Page, imported: TypeHead, exported: TypeHead) -> Result
     page.say(format_args!("  {what}: {first} in the import, {second} in the export\n"))
 }
 
+/// Says which line exports a block, and how the code type of an imported block differs from that of the exported one.
+fn say_exported(
+    page: &mut Page,
+    imported: TypeHead,
+    line: u64,
+    object: &[u8],
+    block: u32,
+) -> Result<(), NoMemory> {
+    let Ok(view) = View::over(object) else {
+        return Ok(());
+    };
+    page.say(format_args!("  line {line} exports it\n"))?;
+    match type_of(&view, block) {
+        Some(exported) => say_unlike(page, imported, exported),
+        None => Ok(()),
+    }
+}
+
 /// Says how the code type of an imported block differs from that of the exported one.
 fn say_unlike_blocks<S: Shelf>(
     page: &mut Page,
@@ -193,16 +211,28 @@ fn say_unlike_blocks<S: Shelf>(
     let (Some(file), Some(asked)) = (module_of(map, line), asked_in(map, line)) else {
         return Ok(());
     };
-    let Some(bytes) = load(page.alloc(), file, OBJECT_LIMIT, shelf)? else {
-        return Ok(());
-    };
-    let Ok(view) = View::over(bytes.as_slice()) else {
-        return Ok(());
-    };
-    page.say(format_args!("  line {line} exports it\n"))?;
-    match type_of(&view, asked.block) {
-        Some(exported) => say_unlike(page, imported, exported),
+    match load(page.alloc(), file, OBJECT_LIMIT, shelf)? {
+        Some(bytes) => say_exported(page, imported, line, bytes.as_slice(), asked.block),
         None => Ok(()),
+    }
+}
+
+/// Says which blocks the object of a module has, or which of them are stubs.
+fn say_of_blocks(page: &mut Page, number: u64, file: &str, object: &[u8]) -> Result<(), NoMemory> {
+    let Ok(view) = View::over(object) else {
+        return Ok(());
+    };
+    match number {
+        7 => say_blocks(page, &view, file),
+        _ => say_stubs(page, &view, file),
+    }
+}
+
+/// The code type of block `b` of an object; `None` if it has no such block.
+fn type_in(object: &[u8], b: u32) -> Option<TypeHead> {
+    match View::over(object) {
+        Ok(view) => type_of(&view, b),
+        Err(_) => None,
     }
 }
 
@@ -220,16 +250,13 @@ fn say_of_module<S: Shelf>(
     let Some(bytes) = load(page.alloc(), file, OBJECT_LIMIT, shelf)? else {
         return Ok(());
     };
-    let Ok(view) = View::over(bytes.as_slice()) else {
-        return Ok(());
-    };
-    match number {
-        7 => say_blocks(page, &view, file),
-        8 => say_stubs(page, &view, file),
-        _ => match type_of(&view, asked.block) {
-            Some(imported) => say_unlike_blocks(page, imported, map, asked.name, shelf),
-            None => Ok(()),
-        },
+    if number != 10 {
+        return say_of_blocks(page, number, file, bytes.as_slice());
+    }
+    let imported = type_in(bytes.as_slice(), asked.block);
+    match imported {
+        Some(imported) => say_unlike_blocks(page, imported, map, asked.name, shelf),
+        None => Ok(()),
     }
 }
 
@@ -271,93 +298,6 @@ fn say_first(page: &mut Page, map: &str, line: u64) -> Result<(), NoMemory> {
     match line_of_block(map, line, asked.block) {
         Some(first) => page.say(format_args!("  line {first} names this block\n")),
         None => Ok(()),
-    }
-}
-
-/// The type and the initial word of cell `k`; `None` if there is no such cell.
-#[tactic(auto, using(ft_types::proofs::Counted::spellable_counted))]
-fn cell_at<P: Program>(program: &P, k: u32) -> Option<CellHead>
-    requires { IsSpellable (P.object program.now) }
-{
-    if k >= program.counts().cells {
-        return None;
-    }
-    Some(program.cell(k))
-}
-
-/// The name of cell `k`; empty if there is no such cell.
-#[tactic(auto, using(ft_types::proofs::Counted::spellable_counted))]
-fn name_at<P: Program>(program: &P, k: u32) -> &[u8]
-    requires { IsSpellable (P.object program.now) }
-{
-    if k >= program.counts().cells {
-        return &[];
-    }
-    program.name(k)
-}
-
-/// Whether cell `k` of two modules has the same name, type and initial word.
-fn is_alike<P: Program, Q: Program>(program: &P, first: &Q, k: u32) -> bool
-    requires here { IsSpellable (P.object program.now) }
-    requires there { IsSpellable (Q.object first.now) }
-{
-    let name = name_at(program, k);
-    let wanted = name_at(first, k);
-    name == wanted && cell_at(program, k) == cell_at(first, k)
-}
-
-/// The first cell that two modules both have and in which they differ.
-fn unlike_cell<P: Program, Q: Program>(program: &P, first: &Q) -> Option<u32>
-    requires here { IsSpellable (P.object program.now) }
-    requires there { IsSpellable (Q.object first.now) }
-{
-    let count = first.counts().cells.min(program.counts().cells);
-    for k in 0..count {
-        if !is_alike(program, first, k) {
-            return Some(k);
-        }
-    }
-    None
-}
-
-/// Says in which cell a module differs from the first one.
-fn say_unlike_cell<P: Program, Q: Program>(
-    page: &mut Page,
-    program: &P,
-    first: &Q,
-) -> Result<(), NoMemory>
-    requires here { IsSpellable (P.object program.now) }
-    requires there { IsSpellable (Q.object first.now) }
-{
-    if let Some(k) = unlike_cell(program, first) {
-        return page.say(format_args!("  cell {k} has another name, type or initial word\n"));
-    }
-    let count = program.counts().cells;
-    let wanted = first.counts().cells;
-    page.say("  it has ")?;
-    page.count(count, "cell")?;
-    page.say(format_args!(", and the first module has {wanted}\n"))
-}
-
-/// Says in which cell a module differs from the first one, if their files can be read again.
-pub(crate) fn explain_cells<S: Shelf>(
-    page: &mut Page,
-    first: Option<&str>,
-    file: Option<&str>,
-    shelf: &mut S,
-) -> Result<(), NoMemory> {
-    let (Some(first), Some(file)) = (first, file) else {
-        return Ok(());
-    };
-    let Some(wanted) = load(page.alloc(), first, OBJECT_LIMIT, shelf)? else {
-        return Ok(());
-    };
-    let Some(bytes) = load(page.alloc(), file, OBJECT_LIMIT, shelf)? else {
-        return Ok(());
-    };
-    match (View::over(bytes.as_slice()), View::over(wanted.as_slice())) {
-        (Ok(here), Ok(there)) => say_unlike_cell(page, &here, &there),
-        _ => Ok(()),
     }
 }
 

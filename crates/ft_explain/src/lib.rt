@@ -7,11 +7,13 @@
 #![tactic(auto)]
 
 mod assembly;
+mod cells;
 mod checks;
 mod content;
 mod dashes;
 mod detections;
 mod elsewhere;
+mod emptied;
 mod endless;
 mod excerpt;
 mod expected;
@@ -20,6 +22,7 @@ mod forms;
 mod help;
 mod indices;
 mod joins;
+mod kinds;
 mod known;
 mod last_line;
 mod lines;
@@ -30,6 +33,7 @@ mod loads;
 mod look;
 mod mnemonics;
 mod modules;
+mod named;
 mod near;
 mod numbers;
 mod objects;
@@ -41,8 +45,10 @@ mod reads;
 mod records;
 mod refusal;
 mod reruns;
+mod samples;
 mod sessions;
 mod sources;
+mod spaces;
 mod strikes;
 mod tables;
 mod telling;
@@ -50,6 +56,7 @@ mod unread;
 mod usage;
 mod version;
 
+pub use forms::form_of_words;
 pub use help::asks_for_version;
 pub use last_line::LastLine;
 pub use look::{Found, Look};

@@ -1,4 +1,5 @@
 //! Lines of formats without comments or empty lines: fault lists, scripts and link maps.
+use crate::spaces::first_space;
 
 /// A byte order mark.
 const MARK: &[u8] = b"\xef\xbb\xbf";
@@ -9,6 +10,17 @@ pub(crate) const RETURN: &str =
 
 /// The message for a text that begins with a byte order mark.
 pub(crate) const MARKED: &str = "the file begins with a byte order mark: save it without one";
+
+/// The message for a line with a byte of another encoding.
+pub(crate) const NOT_UTF8: &str = "this line is not UTF-8: write it in ASCII";
+
+/// The place of the first byte of a line that is not UTF-8.
+pub(crate) fn first_not_utf8(line: &[u8]) -> Option<usize> {
+    match str::from_utf8(line) {
+        Ok(_) => None,
+        Err(error) => Some(error.valid_up_to()),
+    }
+}
 
 /// Whether a text begins with a byte order mark.
 pub(crate) fn is_marked(text: &[u8]) -> bool {
@@ -43,13 +55,16 @@ pub(crate) fn wrong_line(line: &[u8]) -> Option<(usize, &'static str)> {
     if begins_comment(line.trim_ascii_start()) {
         return Some((0, "comments are not allowed in this file"));
     }
+    if let Some(at) = first_not_utf8(line) {
+        return Some((at, NOT_UTF8));
+    }
     if is_blank(line.first()) {
         return Some((0, "the line begins with whitespace"));
     }
     if is_blank(line.last()) {
         return Some((last, "the line ends with whitespace"));
     }
-    None
+    first_space(line)
 }
 
 /// What is wrong with a byte between words, after the one before it; empty if nothing is.

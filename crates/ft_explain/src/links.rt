@@ -4,27 +4,35 @@ ghost use Rattle.ft_types.specs.Spellable.{IsSpellable};
 use crate::checks::{find, say_instr};
 use crate::content::{Content, say_other_kind};
 use crate::excerpt::Place;
+use crate::forms::first_word;
 use crate::lines::wrong_words;
 use crate::near::{is_near, say_near};
 use crate::numbers::{is_number, say_misfit};
 use crate::page::Page;
 use ft_isa::{Instr, NoMemory};
+use ft_text::read_line;
 use ft_types::Program;
 
 /// The maximum number of modules in a link map.
-const MODULE_LIMIT: u64 = 64;
+pub(crate) const MODULE_LIMIT: u64 = 64;
+
+/// The largest number of a block.
+const LAST_BLOCK: u64 = 4_294_967_295;
 
 /// The file of the module with this number, counted from 0, as a map names it.
 pub(crate) fn file_of(map: Option<&[u8]>, module: u64) -> Option<&str> {
-    let text = str::from_utf8(map?).ok()?;
+    let text = map?;
+    let mut rest = text;
     let mut number: u64 = 0;
-    for line in text.lines() {
-        if let Some(file) = line.strip_prefix("module ") {
+    for _ in 0..text.len() {
+        let (line, after) = read_line(rest)?;
+        if let Some(file) = line.strip_prefix(b"module ") {
             if number == module {
-                return Some(file);
+                return str::from_utf8(file).ok();
             }
             number = number.saturating_add(1);
         }
+        rest = after;
     }
     None
 }
@@ -33,11 +41,16 @@ pub(crate) fn file_of(map: Option<&[u8]>, module: u64) -> Option<&str> {
 pub(crate) fn modules_before(map: &[u8], wanted: u64) -> u64 {
     let mut modules: u64 = 0;
     let mut number: u64 = 1;
-    for line in str::from_utf8(map).unwrap_or("").lines() {
-        if number < wanted && line.starts_with("module ") {
+    let mut rest = map;
+    for _ in 0..map.len() {
+        let Some((line, after)) = read_line(rest) else {
+            break;
+        };
+        if number < wanted && line.starts_with(b"module ") {
             modules = modules.saturating_add(1);
         }
         number = number.saturating_add(1);
+        rest = after;
     }
     modules
 }
@@ -64,15 +77,59 @@ fn say_asked(page: &mut Page, word: &str, rest: &str) -> Result<(), NoMemory> {
             "expected `{word} NAME B`: the number of the block is missing"
         ));
     };
-    if !is_number(block.as_bytes(), 4_294_967_295) {
+    if !is_number(block.as_bytes(), LAST_BLOCK) {
         page.say("invalid block ")?;
         page.quote(block.as_bytes())?;
         page.say(": ")?;
-        return say_misfit(page, block.as_bytes(), 4_294_967_295);
+        return say_misfit(page, block.as_bytes(), LAST_BLOCK);
     }
     page.say(format_args!(
         "expected `{word} NAME B`: a name is at most 32 letters, digits and `_`, and does not begin with a digit"
     ))
+}
+
+/// A word of a line that begins with `export` or `import`, where nothing but a name and a number follow.
+#[derive(Clone, Copy)]
+struct Extra<'m> {
+    /// The first word of the line.
+    first: &'m str,
+    /// Where the word begins.
+    at: usize,
+    /// The word.
+    text: &'m str,
+}
+
+/// The word between the name and the number of a block, or the first one after them.
+fn extra_of(line: &str) -> Option<Extra<'_>> {
+    let (first, rest) = line.split_once(' ')?;
+    let (_, block) = rest.split_once(' ')?;
+    let (second, further) = block.split_once(' ')?;
+    let is_after = is_number(second.as_bytes(), LAST_BLOCK);
+    let rest = if is_after { further } else { block };
+    if matches!(first.as_bytes(), b"export" | b"import") {
+        Some(Extra {
+            first,
+            at: line.len().saturating_sub(rest.len()),
+            text: first_word(rest),
+        })
+    } else {
+        None
+    }
+}
+
+/// Explains which word of a line is one too many.
+fn explain_extra(
+    page: &mut Page,
+    name: &str,
+    place: Place<'_>,
+    extra: Extra<'_>,
+) -> Result<(), NoMemory> {
+    let first = extra.first;
+    page.head_at(name, &place)?;
+    page.say("unexpected ")?;
+    page.quote(extra.text.as_bytes())?;
+    page.say(format_args!(": expected `{first} NAME B`\n"))?;
+    place.show(page, extra.text.len())
 }
 
 /// Says what is wrong with a line that is out of place after this many modules.
@@ -142,14 +199,16 @@ fn explain_misplaced(
     modules: u64,
 ) -> Result<(), NoMemory> {
     if let Some((at, words)) = wrong_words(place.line()) {
-        let place = place.after(at);
-        page.head_at(name, &place)?;
-        page.say(words)?;
-        page.say("\n")?;
-        return place.show(page, 1);
+        return place.after(at).explain(page, name, words);
+    }
+    let line = str::from_utf8(place.line()).unwrap_or("");
+    if modules > 0
+        && let Some(extra) = extra_of(line)
+    {
+        return explain_extra(page, name, place.after(extra.at), extra);
     }
     page.head_at(name, &place)?;
-    say_misplaced(page, str::from_utf8(place.line()).unwrap_or(""), modules)?;
+    say_misplaced(page, line, modules)?;
     page.say("\n")?;
     place.show(page, place.line().len())
 }

@@ -3,7 +3,7 @@ use crate::content::{Content, say_other_kind};
 use crate::excerpt::Place;
 use crate::lines::wrong_line;
 use crate::page::Page;
-use crate::strikes::say_wrong_part;
+use crate::strikes::{is_fault, say_wrong_part};
 use ft_isa::{NoMemory, read_strike};
 
 /// How many bytes of a line begin a fault.
@@ -15,10 +15,32 @@ fn begun(line: &[u8]) -> usize {
 }
 
 /// Whether other words follow a fault on its line, as in a campaign's output.
-fn has_verdict(line: &[u8]) -> bool {
-    match str::from_utf8(line).unwrap_or("").split_once([' ', '\t']) {
-        Some((fault, _)) => read_strike(fault.as_bytes()).is_ok(),
+fn has_verdict(line: &str) -> bool {
+    match line.split_once([' ', '\t']) {
+        Some((fault, _)) => is_fault(fault),
         None => false,
+    }
+}
+
+/// What may separate two faults that share a line.
+const SEPARATORS: &[char] = &[' ', '\t', ',', ';'];
+
+/// The text up to the first separator.
+fn first_of(text: &str) -> &str {
+    match text.split_once(SEPARATORS) {
+        Some((first, _)) => first,
+        None => text,
+    }
+}
+
+/// The place of the second of two faults that share a line.
+fn second_fault(line: &str) -> Option<usize> {
+    let (first, rest) = line.split_once(SEPARATORS)?;
+    let second = rest.trim_start_matches(SEPARATORS);
+    if is_fault(first) && is_fault(first_of(second)) {
+        Some(line.len().saturating_sub(second.len()))
+    } else {
+        None
     }
 }
 
@@ -36,25 +58,28 @@ fn say_whole(page: &mut Page, number: u64, told: u64) -> Result<(), NoMemory> {
     }
 }
 
+/// The message for a line of a campaign's output.
+const VERDICT: &str =
+    "this line has a verdict after the fault; a fault list has only STEP:SITE:WORD";
+
 /// Explains why a line of a list is not a fault.
 fn explain_line(page: &mut Page, name: &str, start: Place<'_>) -> Result<(), NoMemory> {
     if let Some((at, words)) = wrong_line(start.line()) {
-        let place = start.after(at);
-        page.head_at(name, &place)?;
-        page.say(words)?;
-        page.say("\n")?;
-        return place.show(page, 1);
+        return start.after(at).explain(page, name, words);
+    }
+    let line = str::from_utf8(start.line()).unwrap_or("");
+    if let Some(at) = second_fault(line) {
+        return start
+            .after(at)
+            .explain(page, name, "only one fault per line");
     }
     let place = start.after(begun(start.line()));
-    page.head_at(name, &place)?;
-    if has_verdict(start.line()) {
-        page.say(
-            "this line has a verdict after the fault; a fault list has only STEP:SITE:WORD\n",
-        )?;
-        return place.show(page, 1);
+    if has_verdict(line) {
+        return place.explain(page, name, VERDICT);
     }
+    page.head_at(name, &place)?;
     page.say("invalid fault: expected STEP:SITE:WORD; ")?;
-    say_wrong_part(page, str::from_utf8(start.line()).unwrap_or(""))?;
+    say_wrong_part(page, line)?;
     page.say("\n")?;
     place.show(page, 1)
 }

@@ -41,6 +41,9 @@ pub trait Look {
     /// What a name refers to.
     fn look(&self, name: &str) -> Found;
 
+    /// Whether standard output is the file of this name.
+    fn is_output(&self, name: &str) -> bool;
+
     /// What standard input is.
     fn input(&self) -> Found;
 

@@ -1,68 +1,50 @@
 //! The first words of the lines of assembly texts.
 use crate::elsewhere::of_machine;
+use crate::forms::first_word;
+use crate::kinds::wrong_node;
 use crate::lines::begins_comment;
 use crate::near::{is_near, say_near};
-use crate::operands::{Operand, place_of_word, word, wrong_operand, wrong_operation};
+use crate::operands::{Operand, word, wrong_operand, wrong_operation};
 use crate::page::Page;
-use ft_isa::NoMemory;
+use crate::samples::{INSTR, sample_lines};
+use ft_asm::{AsmError, assemble_bytes};
+use ft_isa::{NoMemory, Op};
+use std::alloc::Global;
 
 /// The words after `node`.
-const NODE: &str =
-    "SCOPE and `word W`, `var I`, `OP A B`, `sel M A`, `memory`, `upd M A V` or `rem A LENGTH`";
+const NODE: &str = "SCOPE, a kind and its operands, as in `node 0 word 5`";
 
 /// The words after an operation.
 const OPERATION: &str = "R R R, or R R C W";
 
-/// The first word of each line except operations, with the words after it.
-const FORMS: &[(&str, &str)] = &[
+/// The first word of each line except instructions, with the words after it.
+const TABLES: &[(&str, &str)] = &[
     ("cell", "NAME BASIC INIT"),
     ("node", NODE),
     ("type", "INTS MEMORY"),
     ("reg", "R C BASIC NODE"),
     ("pend", "A V"),
     ("block", "TYPE"),
-    ("mov", "R C W BASIC"),
-    ("idx", "R R FIRST LENGTH"),
-    ("ld_G", "R R"),
-    ("ld_B", "R R"),
-    ("st_G", "R R"),
-    ("st_B", "R R"),
-    ("jmp_G", "R"),
-    ("jmp_B", "R MEMORY ROW .."),
-    ("bz_G", "R R"),
-    ("bz_B", "R R MEMORY ROW .."),
-    ("halt", "nothing"),
     ("entry", "B"),
 ];
 
-/// The operations.
-const OPERATIONS: &[&str] = &[
-    "add", "sub", "mul", "ltu", "eq", "and", "or", "xor", "shl", "shr",
+/// The words after an instruction other than an operation: the first of these forms that its sample has.
+const INSTRS: &[&str] = &[
+    "nothing",
+    "R",
+    "R R",
+    "R C W BASIC",
+    "R R FIRST LENGTH",
+    "R MEMORY ROW ..",
+    "R R MEMORY ROW ..",
 ];
 
-/// The words after each kind of node except operations, its scope and its kind among them.
-const NODES: &[(&str, &str)] = &[
-    ("word", "SCOPE KIND W"),
-    ("var", "SCOPE KIND I"),
-    ("sel", "SCOPE KIND M A"),
-    ("memory", "SCOPE KIND"),
-    ("upd", "SCOPE KIND M A V"),
-    ("rem", "SCOPE KIND A LENGTH"),
-];
+/// What follows an instruction of another form.
+const OTHER: &str = "other words";
 
-/// Words that name two instructions, green and blue.
-const COLOURED: &[&str] = &["ld", "st", "jmp", "bz"];
-
-/// Whether a word is an operation.
-pub(crate) fn is_operation(word: &[u8]) -> bool {
-    OPERATIONS
-        .iter()
-        .any(|operation| operation.as_bytes() == word)
-}
-
-/// The forms that a list has for a word.
-fn found_in(forms: &'static [(&'static str, &'static str)], word: &[u8]) -> Option<&'static str> {
-    for (first, rest) in forms {
+/// The words after the first word of a line that is no instruction.
+fn form_in_tables(word: &[u8]) -> Option<&'static str> {
+    for (first, rest) in TABLES {
         if first.as_bytes() == word {
             return Some(*rest);
         }
@@ -70,60 +52,62 @@ fn found_in(forms: &'static [(&'static str, &'static str)], word: &[u8]) -> Opti
     None
 }
 
-/// The words that follow the first word of a line.
-pub(crate) fn form_of(word: &[u8]) -> Option<&'static str> {
-    if is_operation(word) {
-        return Some(OPERATION);
+/// The form of a sample.
+fn form_of_sample(sample: &[u8]) -> &'static str {
+    for form in INSTRS {
+        if wrong_operand(sample, *form).is_none() {
+            return *form;
+        }
     }
-    found_in(FORMS, word)
+    OTHER
 }
 
-/// The operand of a node that is not what its kind says.
-fn wrong_node(line: &[u8]) -> Option<Operand<'_>> {
-    let kind = word(line, 2);
-    if is_operation(kind) {
-        return wrong_operand(line, "SCOPE KIND A B");
+/// The words after the first word of a sample that begins with this word.
+fn form_in_samples(samples: &str, first: &[u8]) -> Option<&'static str> {
+    for sample in samples.lines() {
+        let sample = sample.as_bytes();
+        if word(sample, 0) == first {
+            return Some(form_of_sample(sample));
+        }
     }
-    match found_in(NODES, kind) {
-        Some(forms) => wrong_operand(line, forms),
-        None => unknown_node(line),
-    }
+    None
 }
 
-/// The operand of a node whose kind is unknown.
-fn unknown_node(line: &[u8]) -> Option<Operand<'_>> {
-    let wrong = wrong_operand(line, "SCOPE KIND")?;
-    if wrong.form == "nothing" {
-        return kind_operand(line);
+/// The words that follow the first word of a line; `None` if no line begins with it.
+pub(crate) fn form_of(alloc: Global, word: &[u8]) -> Result<Option<&'static str>, NoMemory> {
+    if Op::of_word(word).is_some() {
+        return Ok(Some(OPERATION));
     }
-    Some(wrong)
-}
-
-/// The kind of a node, as an operand.
-fn kind_operand(line: &[u8]) -> Option<Operand<'_>> {
-    Some(Operand {
-        at: place_of_word(line, 2),
-        text: word(line, 2),
-        form: "KIND",
-    })
+    if let Some(form) = form_in_tables(word) {
+        return Ok(Some(form));
+    }
+    let samples = sample_lines(alloc, INSTR)?;
+    Ok(form_in_samples(samples.as_str(), word))
 }
 
 /// The operand of a line that is not what the forms say.
-pub(crate) fn operand_of<'t>(line: &'t [u8], forms: &'static str) -> Option<Operand<'t>> {
+pub(crate) fn operand_of<'t>(
+    alloc: Global,
+    line: &'t [u8],
+    forms: &'static str,
+) -> Result<Option<Operand<'t>>, NoMemory> {
     if forms == OPERATION {
-        wrong_operation(line)
+        Ok(wrong_operation(line))
     } else if forms == NODE {
-        wrong_node(line)
+        wrong_node(alloc, line)
+    } else if forms == OTHER {
+        Ok(None)
     } else {
-        wrong_operand(line, forms)
+        Ok(wrong_operand(line, forms))
     }
 }
 
-/// Whether a line has a form of assembly texts.
-pub(crate) fn is_line(line: &[u8]) -> bool {
-    match form_of(word(line, 0)) {
-        Some(forms) => operand_of(line, forms).is_none(),
-        None => false,
+/// Whether a line, which is not empty and no comment, has a form of assembly texts.
+pub(crate) fn is_line(alloc: Global, line: &[u8]) -> Result<bool, NoMemory> {
+    match assemble_bytes(alloc, line) {
+        Err(AsmError::Text { .. }) => Ok(false),
+        Err(AsmError::NoMemory) => Err(NoMemory),
+        _ => Ok(true),
     }
 }
 
@@ -150,9 +134,9 @@ fn is_of_tables(first: &str) -> bool {
     )
 }
 
-/// Says which first word of a line was probably meant: among instructions, only one of an instruction.
-fn say_near_form(page: &mut Page, word: &str, is_code: bool) -> Result<bool, NoMemory> {
-    for (first, _) in FORMS {
+/// Says which first word of a table's line was probably meant, or of any line before the instructions.
+fn say_near_table(page: &mut Page, word: &str, is_code: bool) -> Result<bool, NoMemory> {
+    for (first, _) in TABLES {
         let is_meant = !is_code || !is_of_tables(*first);
         if is_meant && is_near(page.alloc(), word, *first)? {
             say_near(page, first.as_bytes())?;
@@ -163,10 +147,41 @@ fn say_near_form(page: &mut Page, word: &str, is_code: bool) -> Result<bool, NoM
 }
 
 /// Says which operation was probably meant.
-fn say_near_operation(page: &mut Page, word: &str) -> Result<bool, NoMemory> {
-    for operation in OPERATIONS {
-        if is_near(page.alloc(), word, *operation)? {
-            say_near(page, operation.as_bytes())?;
+pub(crate) fn say_near_operation(page: &mut Page, word: &str) -> Result<bool, NoMemory> {
+    for code in 0..256u32 {
+        let op = Op::of_code(code);
+        // A code beyond the last one is read as the last.
+        if u32::from(op.code()) != code {
+            break;
+        }
+        let known = str::from_utf8(op.word()).unwrap_or("");
+        if is_near(page.alloc(), word, known)? {
+            say_near(page, op.word())?;
+            return Ok(true);
+        }
+    }
+    Ok(false)
+}
+
+/// Says which first word of a sample was probably meant.
+fn say_near_sample(page: &mut Page, samples: &str, word: &str) -> Result<bool, NoMemory> {
+    for sample in samples.lines() {
+        let first = first_word(sample);
+        if is_near(page.alloc(), word, first)? {
+            say_near(page, first.as_bytes())?;
+            return Ok(true);
+        }
+    }
+    Ok(false)
+}
+
+/// Says how to write an instruction that lacks its colour.
+fn say_coloured(page: &mut Page, samples: &str, word: &str) -> Result<bool, NoMemory> {
+    for sample in samples.lines() {
+        if let Some(coloured) = first_word(sample).strip_suffix("_G")
+            && word.eq_ignore_ascii_case(coloured)
+        {
+            page.say(format_args!(": write `{coloured}_G` for green or `{coloured}_B` for blue"))?;
             return Ok(true);
         }
     }
@@ -178,14 +193,12 @@ fn say_meant(page: &mut Page, word: &str, is_code: bool) -> Result<(), NoMemory>
     if let Some(said) = of_machine(word) {
         return page.say(format_args!(": {said}"));
     }
-    for coloured in COLOURED {
-        if word.eq_ignore_ascii_case(*coloured) {
-            return page.say(format_args!(
-                ": write `{coloured}_G` for green or `{coloured}_B` for blue"
-            ));
-        }
-    }
-    if say_near_operation(page, word)? || say_near_form(page, word, is_code)? {
+    let samples = sample_lines(page.alloc(), INSTR)?;
+    if say_coloured(page, samples.as_str(), word)?
+        || say_near_operation(page, word)?
+        || say_near_table(page, word, is_code)?
+        || say_near_sample(page, samples.as_str(), word)?
+    {
         return Ok(());
     }
     page.say(": `man talft-assembly` lists the instructions")

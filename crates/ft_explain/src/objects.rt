@@ -47,6 +47,9 @@ pub(crate) fn rule(number: u64) -> &'static str {
 const AS_TEXT: &str =
     "  each line feed has a carriage return before it, as after a copy in text mode: copy the object in binary mode\n";
 
+/// What to do about an object that lacks its end.
+const CUT_OFF: &str = ": it is cut off: copy it again\n";
+
 /// Whether the number of surplus bytes equals that of CR LF pairs.
 fn is_as_text(bytes: &[u8], wanted: usize) -> bool {
     let mut ends: usize = 0;
@@ -64,15 +67,17 @@ fn say_length(page: &mut Page, bytes: &[u8]) -> Result<(), NoMemory> {
     match header_of(bytes) {
         Some(header) => {
             let wanted = total(header);
-            page.say(format_args!(
-                "the object has {length} bytes, and its header gives {wanted}\n"
-            ))?;
+            page.say(format_args!("the object has {length} bytes, and its header gives {wanted}"))?;
+            page.say(if length < wanted { CUT_OFF } else { "\n" })?;
             if is_as_text(bytes, wanted) {
                 page.say(AS_TEXT)?;
             }
             Ok(())
         }
-        None => page.say(format_args!("the object has {length} bytes: its header alone has 48\n")),
+        None => {
+            page.say(format_args!("the object has {length} bytes, and its header alone has 48"))?;
+            page.say(CUT_OFF)
+        }
     }
 }
 
@@ -145,7 +150,7 @@ pub(crate) fn explain_object(
     let Some(bytes) = object else {
         return explain_unseen(page, name, number, at);
     };
-    let content = content_of_file(name, bytes);
+    let content = content_of_file(page.alloc(), name, bytes)?;
     if !may_be_damaged(bytes, content) {
         return say_kind(page, name, content, Content::Object);
     }

@@ -1,4 +1,5 @@
 //! The operands of the lines of assembly texts.
+use crate::kinds::say_kinds;
 use crate::lines::begins_comment;
 use crate::numbers::{is_number, say_misfit};
 use crate::page::Page;
@@ -119,7 +120,6 @@ fn rule_of(form: &str) -> &'static str {
         b"C" => "a colour is G or B",
         b"BASIC" => "a basic type is `int` or `code:T`, after any number of `ref:`",
         b"nothing" => "nothing may follow on this line",
-        b"KIND" => "a node is `word`, `var`, `sel`, `memory`, `upd`, `rem` or an operation",
         _ => "",
     }
 }
@@ -161,6 +161,9 @@ pub(crate) fn say_rule(page: &mut Page, operand: Operand<'_>) -> Result<(), NoMe
     let habit = habit_of(operand.text);
     if !habit.is_empty() {
         return page.say(habit);
+    }
+    if operand.form == "KIND" {
+        return say_kinds(page, operand.text);
     }
     let rule = rule_of(operand.form);
     if !rule.is_empty() {

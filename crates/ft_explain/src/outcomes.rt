@@ -102,6 +102,25 @@ fn say_detected_late(page: &mut Page, run: &Run) -> Result<(), NoMemory> {
     )
 }
 
+/// Explains what happened in a run that this machine has repeated.
+fn say_rerun<P: Program>(
+    page: &mut Page,
+    program: &P,
+    machine: &Machine,
+    run: &Run,
+    met: Met,
+    status: u8,
+) -> Result<(), NoMemory>
+    requires { IsSpellable (P.object program.now) }
+{
+    say_unstruck(page, run, met)?;
+    match machine.status() {
+        Status::Detected => say_detected(page, program, machine, run, met),
+        Status::Running if status == 1 => say_detected_late(page, run),
+        _ => Ok(()),
+    }
+}
+
 /// Runs an object again, and explains what happened.
 fn say_met<P: Program>(page: &mut Page, program: &P, run: &Run, status: u8) -> Result<(), NoMemory>
     requires { IsSpellable (P.object program.now) }
@@ -112,12 +131,7 @@ fn say_met<P: Program>(page: &mut Page, program: &P, run: &Run, status: u8) -> R
         wild: run.wild.as_slice(),
     };
     let met = rerun(&mut machine, program, plan, run.steps.min(AGAIN));
-    say_unstruck(page, run, met)?;
-    match machine.status() {
-        Status::Detected => say_detected(page, program, &machine, run, met),
-        Status::Running if status == 1 => say_detected_late(page, run),
-        _ => Ok(()),
-    }
+    say_rerun(page, program, &machine, run, met, status)
 }
 
 /// Explains what happened in the run of an object, if its file can be read again.

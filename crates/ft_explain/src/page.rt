@@ -63,6 +63,18 @@ impl Page {
         Ok(())
     }
 
+    /// Adds bytes of a file or of a name between other words.
+    pub fn show_between(
+        &mut self,
+        before: &str,
+        bytes: &[u8],
+        after: &str,
+    ) -> Result<(), NoMemory> {
+        self.say(before)?;
+        self.show(bytes)?;
+        self.say(after)
+    }
+
     /// Adds at most this many bytes, and `..` if more follow.
     fn show_some(&mut self, bytes: &[u8], most: usize) -> Result<(), NoMemory> {
         let end = letter_from(bytes, most);

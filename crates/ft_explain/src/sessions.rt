@@ -1,12 +1,14 @@
 //! Scripts of the debugger with lines that are not commands.
 use crate::elsewhere::of_debugger;
 use crate::excerpt::Place;
+use crate::forms::first_word;
 use crate::lines::wrong_words;
 use crate::loads::load;
 use crate::near::{is_near, say_near};
 use crate::page::Page;
+use crate::strikes::say_site_and_word;
 use ft_edge::Shelf;
-use ft_isa::NoMemory;
+use ft_isa::{NoMemory, read_site};
 use ft_script::{Command, read_script};
 
 /// The maximum size of a script in bytes.
@@ -28,21 +30,49 @@ const COMMANDS: &[(&str, &str)] = &[
     ("break", "break B I"),
 ];
 
-/// The first word of a line.
-fn first_word(line: &str) -> &str {
-    match line.split_once(' ') {
-        Some((first, _)) => first,
-        None => line,
+/// The form of the command that begins with this word.
+fn form_of(first: &str) -> Option<&'static str> {
+    for (word, form) in COMMANDS {
+        if first == *word {
+            return Some(*form);
+        }
+    }
+    None
+}
+
+/// The place of the word at fault in a line that begins with the name of a command: for a site that is none, and
+/// for the word after a site, its own.
+fn place_in(line: &str) -> usize {
+    let Some((site, _)) = line
+        .strip_prefix("zap ")
+        .and_then(|rest| rest.split_once(' '))
+    else {
+        return 0;
+    };
+    if read_site(site.as_bytes()).is_none() {
+        4
+    } else {
+        site.len().saturating_add(5)
+    }
+}
+
+/// Says what is wrong with the words of a command of this form.
+fn say_invalid(page: &mut Page, line: &str, form: &'static str) -> Result<(), NoMemory> {
+    page.say(format_args!("invalid command: expected `{form}`"))?;
+    match line.strip_prefix("zap ") {
+        Some(rest) => {
+            page.say("; ")?;
+            say_site_and_word(page, rest, ' ')
+        }
+        None => Ok(()),
     }
 }
 
 /// Says what is wrong with a line that is not a command.
 fn say_bad(page: &mut Page, line: &str) -> Result<(), NoMemory> {
     let first = first_word(line);
-    for (word, form) in COMMANDS {
-        if first == *word {
-            return page.say(format_args!("invalid command: expected `{form}`"));
-        }
+    if let Some(form) = form_of(first) {
+        return say_invalid(page, line, form);
     }
     page.say("unknown command ")?;
     page.quote(first.as_bytes())?;
@@ -59,18 +89,13 @@ fn say_bad(page: &mut Page, line: &str) -> Result<(), NoMemory> {
 
 /// Explains why a line is not a command.
 fn explain_bad(page: &mut Page, start: Place<'_>) -> Result<(), NoMemory> {
-    let line = start.line();
-    let (at, habit) = match wrong_words(line) {
-        Some(wrong) => wrong,
-        None => (0, ""),
-    };
-    let place = start.after(at);
-    page.head_at("standard input", &place)?;
-    if habit.is_empty() {
-        say_bad(page, str::from_utf8(line).unwrap_or(""))?;
-    } else {
-        page.say(habit)?;
+    if let Some((at, words)) = wrong_words(start.line()) {
+        return start.after(at).explain(page, "standard input", words);
     }
+    let line = str::from_utf8(start.line()).unwrap_or("");
+    let place = start.after(place_in(line));
+    page.head_at("standard input", &place)?;
+    say_bad(page, line)?;
     page.say("\n")?;
     place.show(page, 1)
 }

@@ -1,10 +1,13 @@
 //! Explains sources that are refused.
 use crate::content::{Content, say_other_kind};
 use crate::excerpt::{Place, letter_from, part};
-use crate::expected::{Lack, habit, instead_of, instead_of_comma, lack_at, unclosed};
+use crate::expected::{
+    Lack, habit, instead_of, instead_of_comma, instead_of_macro, lack_at, unclosed,
+};
 use crate::lines::{MARKED, is_marked};
 use crate::near::{is_near, say_near};
 use crate::page::Page;
+use crate::spaces::space_of;
 use ft_isa::NoMemory;
 use ft_lexer::{Kind, Lexer, Token};
 
@@ -59,6 +62,14 @@ fn say_of(page: &mut Page, token: &[u8], words: &str) -> Result<(), NoMemory> {
 fn say_byte(page: &mut Page, source: &[u8], at: usize, token: &[u8]) -> Result<(), NoMemory> {
     if at == 0 && is_marked(source) {
         return page.say(MARKED);
+    }
+    if let Some(words) = space_of(token) {
+        return page.say(words);
+    }
+    if token == b"!".as_slice()
+        && let Some(words) = instead_of_macro(source, at)
+    {
+        return page.say(format_args!("unexpected character `!`: {words}"));
     }
     match token {
         [byte, ..] if is_in_name(*byte) => page.say("a name has at most 32 bytes"),

@@ -1,7 +1,12 @@
 //! Texts that are not faults.
 use crate::numbers::{blank_in, is_number, say_misfit};
 use crate::page::Page;
-use ft_isa::{NoMemory, read_site};
+use ft_isa::{NoMemory, read_site, read_strike};
+
+/// Whether a text is a fault.
+pub(crate) fn is_fault(text: &str) -> bool {
+    read_strike(text.as_bytes()).is_ok()
+}
 
 /// Says why a part of a fault is not a number.
 fn say_wrong_number(page: &mut Page, called: &str, word: &str) -> Result<(), NoMemory> {
@@ -24,12 +29,21 @@ fn wrong_site(site: &str) -> &'static str {
     }
 }
 
-/// Says what is wrong with the site and the word of a fault.
-fn say_site_and_word(page: &mut Page, rest: &str) -> Result<(), NoMemory> {
-    let (site, word) = match rest.split_once(':') {
-        Some((site, word)) => (site, Some(word)),
-        None => (rest, None),
-    };
+/// A text up to a separator, and the text after it.
+fn parts_of(text: &str, separator: char) -> (&str, Option<&str>) {
+    match text.split_once(separator) {
+        Some((first, rest)) => (first, Some(rest)),
+        None => (text, None),
+    }
+}
+
+/// Says what is wrong with a site and a word, which this character separates.
+pub(crate) fn say_site_and_word(
+    page: &mut Page,
+    text: &str,
+    separator: char,
+) -> Result<(), NoMemory> {
+    let (site, word) = parts_of(text, separator);
     if site.is_empty() {
         return page.say("the site is missing");
     }
@@ -47,15 +61,12 @@ fn say_site_and_word(page: &mut Page, rest: &str) -> Result<(), NoMemory> {
 
 /// Says which part of a text makes it not a fault.
 pub(crate) fn say_wrong_part(page: &mut Page, text: &str) -> Result<(), NoMemory> {
-    let (step, rest) = match text.split_once(':') {
-        Some((step, rest)) => (step, Some(rest)),
-        None => (text, None),
-    };
+    let (step, rest) = parts_of(text, ':');
     if !is_number(step.as_bytes(), u64::MAX) {
         return say_wrong_number(page, "step", step);
     }
     match rest {
-        Some(rest) => say_site_and_word(page, rest),
+        Some(rest) => say_site_and_word(page, rest, ':'),
         None => page.say("the site and the word are missing"),
     }
 }

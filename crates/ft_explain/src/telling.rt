@@ -1,7 +1,9 @@
 //! Explains calls.
 use crate::assembly::explain_text;
+use crate::cells::explain_cells;
 use crate::checks::explain_check;
-use crate::joins::{explain_cells, explain_join};
+use crate::emptied::{Wrote, explain_emptied, explain_emptied_module};
+use crate::joins::explain_join;
 use crate::links::{
     explain_code, explain_line, explain_long_map, explain_module, explain_unmoved, file_of,
 };
@@ -9,6 +11,7 @@ use crate::lists::explain_list;
 use crate::loads::{OBJECT_LIMIT, SOURCE_LIMIT, load, slice};
 use crate::look::Look;
 use crate::modules::{explain_bad_object, explain_unaccepted};
+use crate::named::{Holds, Named, files_of};
 use crate::objects::{explain_long, explain_object};
 use crate::outcomes::explain_outcome;
 use crate::page::Page;
@@ -32,66 +35,6 @@ const LIST_LIMIT: usize = 4_194_304;
 
 /// The maximum size of a link map in bytes.
 const MAP_LIMIT: usize = 65_536;
-
-/// What a command expects its file to be.
-#[derive(Clone, Copy, Debug, PartialEq, Eq)]
-enum Holds {
-    /// An object.
-    Object,
-    /// A source.
-    Source,
-    /// An assembly text.
-    Text,
-    /// A link map.
-    Map,
-}
-
-/// What words name: a file, a fault list, and whether a script is read.
-#[derive(Clone, Copy)]
-struct Named<'w> {
-    file: &'w str,
-    holds: Holds,
-    list: Option<&'w str>,
-    takes_script: bool,
-}
-
-/// A file of this kind, and nothing else to read.
-fn alone<'w>(file: &'w str, holds: Holds) -> Named<'w> {
-    Named {
-        file,
-        holds,
-        list: None,
-        takes_script: false,
-    }
-}
-
-/// What a command names.
-fn files_of<'w>(command: &Command<'w>) -> Option<Named<'w>> {
-    let named = match command {
-        Command::Usage | Command::Demo(_) => return None,
-        Command::Check(name)
-        | Command::Upgrade(name)
-        | Command::Disassemble(name)
-        | Command::Schedule(name) => alone(name, Holds::Object),
-        Command::Compile(name) => alone(name, Holds::Source),
-        Command::Assemble(name) => alone(name, Holds::Text),
-        Command::Link(name) => alone(name, Holds::Map),
-        Command::Run(run) | Command::Trial(run) | Command::Recover(run) => {
-            alone(run.object, Holds::Object)
-        }
-        Command::Campaign(asked) | Command::Survey(asked) => Named {
-            list: Some(asked.faults),
-            ..alone(asked.object, Holds::Object)
-        },
-        Command::Exec(asked) => alone(asked.source, Holds::Source),
-        Command::Mean(asked) => alone(asked.source, Holds::Source),
-        Command::Debug(asked) => Named {
-            takes_script: true,
-            ..alone(asked.object, Holds::Object)
-        },
-    };
-    Some(named)
-}
 
 /// Explains why an object, the tables of an assembly text, or a module are refused.
 fn refused_object<S: Shelf>(
@@ -192,6 +135,27 @@ fn refused_text<S: Shelf>(
     explain_text(page, named.file, number, told, slice(&bytes))
 }
 
+/// Explains why a link map or one of its modules is refused. The map is given if it can be read again.
+fn refused_map<S: Shelf>(
+    page: &mut Page,
+    named: Named<'_>,
+    refusal: (u64, u64),
+    map: Option<&[u8]>,
+    shelf: &mut S,
+) -> Result<(), NoMemory> {
+    let (number, told) = refusal;
+    if !matches!(number, 3 | 4 | 6) {
+        explain_line(page, named.file, number, told, map)?;
+        return explain_join(page, number, told, map, shelf);
+    }
+    let file = file_of(map, told);
+    explain_module(page, named.file, number, told, file)?;
+    if number == 3 && told > 0 {
+        return explain_cells(page, file_of(map, 0), file, shelf);
+    }
+    Ok(())
+}
+
 /// Explains why a link map or one of its modules is refused.
 fn refused_link<S: Shelf>(
     page: &mut Page,
@@ -204,20 +168,34 @@ fn refused_link<S: Shelf>(
         return explain_long_map(page, named.file, told);
     }
     let map = load(page.alloc(), named.file, MAP_LIMIT, shelf)?;
-    match number {
-        3 | 4 | 6 => {
-            let file = file_of(slice(&map), told);
-            explain_module(page, named.file, number, told, file)?;
-            if number == 3 && told > 0 {
-                explain_cells(page, file_of(slice(&map), 0), file, shelf)?;
-            }
-            Ok(())
-        }
-        _ => {
-            explain_line(page, named.file, number, told, slice(&map))?;
-            explain_join(page, number, told, slice(&map), shelf)
-        }
+    refused_map(page, named, (number, told), slice(&map), shelf)
+}
+
+/// Explains why the linker cannot move an instruction of a module, whose bytes are given if they can be read again.
+fn refused_bytes(
+    page: &mut Page,
+    named: Named<'_>,
+    place: (u64, u64, u64),
+    file: Option<&str>,
+    bytes: Option<&[u8]>,
+) -> Result<(), NoMemory> {
+    let (module, block, index) = place;
+    match (file, View::over(bytes.unwrap_or(&[]))) {
+        (Some(name), Ok(view)) => explain_code(page, &view, name, block, index),
+        _ => explain_unmoved(page, named.file, module, file, block, index),
     }
+}
+
+/// Explains why the linker cannot move an instruction of the module in this file.
+fn refused_module<S: Shelf>(
+    page: &mut Page,
+    named: Named<'_>,
+    place: (u64, u64, u64),
+    file: Option<&str>,
+    shelf: &mut S,
+) -> Result<(), NoMemory> {
+    let bytes = load(page.alloc(), file.unwrap_or(""), OBJECT_LIMIT, shelf)?;
+    refused_bytes(page, named, place, file, slice(&bytes))
 }
 
 /// Explains why the linker cannot move an instruction of a module.
@@ -227,16 +205,38 @@ fn refused_code<S: Shelf>(
     place: (u64, u64, u64),
     shelf: &mut S,
 ) -> Result<(), NoMemory> {
-    let (module, block, index) = place;
     let map = load(page.alloc(), named.file, MAP_LIMIT, shelf)?;
-    let file = file_of(slice(&map), module);
-    if let Some(name) = file
-        && let Some(bytes) = load(page.alloc(), name, OBJECT_LIMIT, shelf)?
-        && let Ok(view) = View::over(bytes.as_slice())
-    {
-        return explain_code(page, &view, name, block, index);
+    refused_module(page, named, place, file_of(slice(&map), place.0), shelf)
+}
+
+/// If the shell emptied a file that a call names, says so; otherwise returns false.
+fn say_if_emptied<S: Shelf, L: Look>(
+    page: &mut Page,
+    named: Named<'_>,
+    wrote: Wrote<'_>,
+    shelf: &mut S,
+    look: &L,
+) -> Result<bool, NoMemory> {
+    if explain_emptied(page, named.file, wrote, shelf, look)? {
+        return Ok(true);
     }
-    explain_unmoved(page, named.file, module, file, block, index)
+    if let Some(list) = named.list {
+        return explain_emptied(page, list, wrote, shelf, look);
+    }
+    if named.holds != Holds::Map {
+        return Ok(false);
+    }
+    let map = load(page.alloc(), named.file, MAP_LIMIT, shelf)?;
+    explain_emptied_module(page, slice(&map), wrote, shelf, look)
+}
+
+/// What a call that names these files wrote.
+fn wrote<'l>(named: Named<'_>, line: &'l [u8], called: &'static str) -> Wrote<'l> {
+    Wrote {
+        line,
+        is_source: named.holds == Holds::Source,
+        called,
+    }
 }
 
 /// Explains a refusal of a call that names these files.
@@ -282,24 +282,24 @@ fn unread<S: Shelf, L: Look>(
     explain_unread_module(page, named.file, slice(&map), shelf, look)
 }
 
-/// Explains a call from its command, its status and the last line that it wrote.
-fn by_command<S: Shelf, L: Look>(
+/// Explains a call that names these files, from its status and the last line that it wrote.
+fn by_files<S: Shelf, L: Look>(
     page: &mut Page,
     words: &[String],
-    status: u8,
-    line: &[u8],
+    named: Named<'_>,
+    told: (u8, &[u8]),
     shelf: &mut S,
     look: &L,
 ) -> Result<(), NoMemory> {
-    let command = command_of(page.alloc(), words)?;
-    let Some(named) = files_of(&command) else {
-        return Ok(());
-    };
-    if status == 3 && explain_option_as_file(page, words)? {
-        return Ok(());
-    }
+    let (status, line) = told;
     if status == 3 {
+        if explain_option_as_file(page, words)? {
+            return Ok(());
+        }
         return unread(page, named, shelf, look);
+    }
+    if say_if_emptied(page, named, wrote(named, line, "error"), shelf, look)? {
+        return Ok(());
     }
     match Refusal::read(line) {
         Some(refusal) if refusal.status() == status => refused(page, named, refusal, shelf),
@@ -307,19 +307,52 @@ fn by_command<S: Shelf, L: Look>(
     }
 }
 
-/// Explains what happened in a call that was not refused.
-fn by_outcome<S: Shelf, L: Look>(
+/// Explains a call from its command, its status and the last line that it wrote.
+fn by_command<S: Shelf, L: Look>(
     page: &mut Page,
     words: &[String],
-    status: u8,
+    told: (u8, &[u8]),
     shelf: &mut S,
     look: &L,
 ) -> Result<(), NoMemory> {
     let command = command_of(page.alloc(), words)?;
-    if let Command::Debug(_) = &command {
+    match files_of(&command) {
+        Some(named) => by_files(page, words, named, told, shelf, look),
+        None => Ok(()),
+    }
+}
+
+/// Explains what happened in a call of this command that was not refused.
+fn outcome_of<S: Shelf, L: Look>(
+    page: &mut Page,
+    command: &Command<'_>,
+    told: (u8, &[u8]),
+    shelf: &mut S,
+    look: &L,
+) -> Result<(), NoMemory> {
+    let (status, line) = told;
+    if let Command::Debug(_) = command {
         return explain_session(page, look.script(), shelf);
     }
-    explain_outcome(page, &command, status, shelf)
+    if let Some(named) = files_of(command)
+        && named.holds != Holds::Map
+        && say_if_emptied(page, named, wrote(named, line, "note"), shelf, look)?
+    {
+        return Ok(());
+    }
+    explain_outcome(page, command, status, shelf)
+}
+
+/// Explains what happened in a call that was not refused.
+fn by_outcome<S: Shelf, L: Look>(
+    page: &mut Page,
+    words: &[String],
+    told: (u8, &[u8]),
+    shelf: &mut S,
+    look: &L,
+) -> Result<(), NoMemory> {
+    let command = command_of(page.alloc(), words)?;
+    outcome_of(page, &command, told, shelf, look)
 }
 
 /// The explanation of a call with these words, given its status and the last line written. It is empty for a call
@@ -336,9 +369,9 @@ pub fn explain<S: Shelf, L: Look>(
 ) -> Result<String, NoMemory> {
     let mut page = Page::new(alloc);
     match status {
-        0 | 1 | 9 => by_outcome(&mut page, words, status, shelf, look)?,
+        0 | 1 | 9 => by_outcome(&mut page, words, (status, line), shelf, look)?,
         2 => explain_usage(&mut page, words)?,
-        3 | 6 | 7 | 8 | 11 | 12 | 13 => by_command(&mut page, words, status, line, shelf, look)?,
+        3 | 6 | 7 | 8 | 11 | 12 | 13 => by_command(&mut page, words, (status, line), shelf, look)?,
         4 => page.say("talft: error: the output could not be written\n")?,
         5 => page.say("talft: error: memory ran out\n")?,
         _ => {}

@@ -2,6 +2,7 @@
 use crate::excerpt::Place;
 use crate::look::{Found, Look};
 use crate::page::Page;
+use crate::strikes::is_fault;
 use ft_edge::{LoadFault, Shelf};
 use ft_isa::NoMemory;
 
@@ -61,13 +62,25 @@ fn say_folder(page: &mut Page, before: &str, folder: &str, after: &str) -> Resul
     page.say(after)
 }
 
+/// What to do about a name that is none, after a semicolon; empty if it looks like one.
+fn advice_on(name: &str) -> &'static str {
+    if name == "-" {
+        "; for standard input write `/dev/stdin`"
+    } else if name.starts_with(['"', '\'']) {
+        "; names are written without quotes"
+    } else {
+        ""
+    }
+}
+
 /// Says why a file cannot be read.
 fn say_reason<L: Look>(page: &mut Page, name: &str, look: &L) -> Result<(), NoMemory> {
     match wrong_folder(name, look) {
-        Some((folder, Found::Missing)) => say_folder(page, "there is no folder `", folder, "`"),
-        Some((folder, Found::File)) => say_folder(page, "`", folder, "` is not a folder"),
-        _ => page.say(look.look(name).words()),
+        Some((folder, Found::Missing)) => say_folder(page, "there is no folder `", folder, "`")?,
+        Some((folder, Found::File)) => say_folder(page, "`", folder, "` is not a folder")?,
+        _ => page.say(look.look(name).words())?,
     }
+    page.say(advice_on(name))
 }
 
 /// Says why the module of a link map's line cannot be read.
@@ -87,7 +100,7 @@ fn say_why_module<L: Look>(
     page.quote(file.as_bytes())?;
     page.say(": ")?;
     say_reason(page, file, look)?;
-    if name.contains('/') && !file.starts_with("/") {
+    if name.contains('/') && !file.starts_with("/") && advice_on(file).is_empty() {
         page.say("; names are relative to the current folder, not to the map's")?;
     }
     page.say("\n")?;
@@ -118,6 +131,21 @@ fn say_if_unread<S: Shelf, L: Look>(
     Ok(true)
 }
 
+/// If a fault list cannot be read, says why; otherwise returns false.
+fn say_if_list_unread<S: Shelf, L: Look>(
+    page: &mut Page,
+    name: &str,
+    shelf: &mut S,
+    look: &L,
+) -> Result<bool, NoMemory> {
+    if is_fault(name) && look.look(name) == Found::Missing {
+        page.head(name)?;
+        page.say("this is a fault; `--faults` takes a FILE with one fault per line\n")?;
+        return Ok(true);
+    }
+    say_if_unread(page, name, shelf, look)
+}
+
 /// Explains that a file could not be read: names each of the two that cannot be read now. If both can be read, it
 /// was the script, or the file has reappeared.
 pub(crate) fn explain_unread<S: Shelf, L: Look>(
@@ -130,7 +158,7 @@ pub(crate) fn explain_unread<S: Shelf, L: Look>(
     let (first, second) = names;
     let first_is_said = say_if_unread(page, first, shelf, look)?;
     let second_is_said = match second {
-        Some(second) => say_if_unread(page, second, shelf, look)?,
+        Some(second) => say_if_list_unread(page, second, shelf, look)?,
         None => false,
     };
     if first_is_said || second_is_said {

@@ -118,6 +118,12 @@ fn say_untaken(page: &mut Page, command: &'static str, word: &str) -> Result<(),
     if !word.starts_with("-") {
         return say_extra(page, command, word);
     }
+    if let Some((option, _)) = word.split_once(' ')
+        && value_of(command, option).is_some()
+    {
+        page.quote(word.as_bytes())?;
+        return page.say(" is one word: write two words");
+    }
     if let Some((option, _)) = word.split_once('=')
         && let Some(value) = value_of(command, option)
     {
@@ -144,8 +150,11 @@ fn say_option(
         return Ok(true);
     }
     match value {
-        Some(value) => say_value(page, option, value, most_of(command)),
-        None => {
+        // Where an option follows, the value was forgotten.
+        Some(value) if value_of(command, value).is_none() => {
+            say_value(page, option, value, most_of(command))
+        }
+        _ => {
             page.say(format_args!("missing {called} after `{option}`"))?;
             Ok(true)
         }

@@ -110,11 +110,7 @@ const TEXTS: &[(&str, &str)] = &[
     ),
     (
         "node 0 word\n",
-        "file:1:12: error: missing W, a number: `node` is followed by SCOPE and `word W`, `var I`, `OP A B`, `sel M A`, `memory`, `upd M A V` or `rem A LENGTH`\n node 0 word\n            ^\n",
-    ),
-    (
-        "node 0 sum 1 2\n",
-        "file:1:8: error: invalid `sum`: a node is `word`, `var`, `sel`, `memory`, `upd`, `rem` or an operation\n node 0 sum 1 2\n        ^~~\n",
+        "file:1:12: error: missing W, a number: `node` is followed by SCOPE, a kind and its operands, as in `node 0 word 5`\n node 0 word\n            ^\n",
     ),
     (
         "TALFT",

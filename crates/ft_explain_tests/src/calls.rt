@@ -20,6 +20,10 @@ impl Look for Folders {
         }
     }
 
+    fn is_output(&self, name: &str) -> bool {
+        name == "own"
+    }
+
     fn input(&self) -> Found {
         Found::Folder
     }
@@ -55,7 +59,7 @@ fn compare(words: &str, text: &str, found: &str) -> Result<(), Fail> {
     Err(Fail::new(format_args!("of `{words}` is said\n{found}and not\n{text}")))
 }
 
-/// Fails unless the text is said of a call with these words over these files.
+/// Fails unless the text is the explanation of a call with these words over these files.
 pub(crate) fn check_said(
     rt: &impl AllocGlobal,
     words: &str,
@@ -85,7 +89,7 @@ pub(crate) fn check_said(
     compare(words, text, found.as_str())
 }
 
-/// Fails unless the text is said of a call with these words that ended with this status after this line.
+/// Fails unless the text is the explanation of a call with these words that ended with this status after this line.
 pub(crate) fn check_told(
     rt: &impl AllocGlobal,
     words: &str,
@@ -107,7 +111,18 @@ pub(crate) fn check_told(
     compare(words, text, found.as_str())
 }
 
-/// Fails unless the text is said of `check` over an object, some of whose bytes are changed.
+/// An object, places with the bytes that are put there, and what is said.
+pub(crate) type Refused = (&'static [u8], &'static [(usize, u8)], &'static str);
+
+/// Fails unless each object is refused with its text.
+pub(crate) fn check_refused(rt: &impl AllocGlobal, rows: &[Refused]) -> Result<(), Fail> {
+    for (object, changes, text) in rows {
+        check_altered(rt, object, changes, text)?;
+    }
+    Ok(())
+}
+
+/// Fails unless the text is the explanation of `check` over an object, some of whose bytes are changed.
 pub(crate) fn check_altered(
     rt: &impl AllocGlobal,
     object: &[u8],

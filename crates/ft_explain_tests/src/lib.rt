@@ -22,4 +22,6 @@ mod outcomes;
 #[cfg(test)]
 mod sources;
 #[cfg(test)]
+mod transfers;
+#[cfg(test)]
 mod usage;

@@ -96,6 +96,10 @@ const LINES: &[(&str, &str)] = &[
         "map:2:1: error: expected `export NAME B`: a name is at most 32 letters, digits and `_`, and does not begin with a digit\n export 2go 1\n ^~~~~~~~~~~~\n",
     ),
     (
+        "module m\nimport then -> 2\n",
+        "map:2:13: error: unexpected `->`: expected `import NAME B`\n import then -> 2\n             ^~\n",
+    ),
+    (
         "module m\nexport go 1\r\n",
         "map:2:12: error: the line ends with a carriage return: save the file with Unix line endings\n export go 1?\n            ^\n",
     ),
@@ -162,7 +166,7 @@ fn modules_are_found_and_what_could_be_meant(rt: HostRuntime) -> Result<(), Fail
     check_told(&rt, "link map", 7, "object 2 5\n", files, text)
 }
 
-/// Statuses and lines that come of a module's object, with what is said of the map.
+/// Statuses and lines that come from a module's object, with what is said of the map.
 const MODULES: &[(u8, &str, &str)] = &[
     (
         7,

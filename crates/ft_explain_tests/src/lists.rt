@@ -73,6 +73,10 @@ const LINES: &[(&str, &str)] = &[
         "list:1:7: error: this line has a verdict after the fault; a fault list has only STEP:SITE:WORD\n 4:r1:6\tmasked\n       ^\n",
     ),
     (
+        "4:r1:6 10:r1:6\n",
+        "list:1:8: error: only one fault per line\n 4:r1:6 10:r1:6\n        ^\n",
+    ),
+    (
         "4:r1 \t:6\n",
         "list:1:5: error: invalid fault: expected STEP:SITE:WORD; invalid site `r1 \t`: it contains a tab\n 4:r1 \t:6\n     ^\n",
     ),
@@ -156,6 +160,12 @@ const TOLD: &[(&str, u8, &str, &str)] = &[
     ("run file", 5, "", "talft: error: memory ran out\n"),
     ("run file", 0, "out 5\n", ""),
     (
+        "compile own",
+        6,
+        "source 4 0\n",
+        "own: error: standard output is this file, which the shell emptied: give the output another name\n",
+    ),
+    (
         "run file",
         9,
         "source 7 0\n",
@@ -168,7 +178,8 @@ const TOLD: &[(&str, u8, &str, &str)] = &[
 #[test]
 fn calls_are_explained_by_their_status(rt: HostRuntime) -> Result<(), Fail> {
     for (words, status, line, text) in TOLD {
-        check_told(&rt, words, *status, line, &[("file", A)], text)?;
+        let files: &[(&str, &[u8])] = &[("file", A), ("own", b"source 4 0\n")];
+        check_told(&rt, words, *status, line, files, text)?;
     }
     Ok(())
 }

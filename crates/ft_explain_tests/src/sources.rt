@@ -215,7 +215,7 @@ const REPEATED: &[(&str, &str, u32, &str)] = &[
     ),
 ];
 
-/// Fails unless the text is said of the source, whatever command reads it.
+/// Fails unless the text is the explanation of the source, whatever command reads it.
 fn check_source(rt: &impl AllocGlobal, source: &str, text: &str) -> Result<(), Fail> {
     for words in &["compile file", "mean file", "exec file --steps 3"] {
         check_said(rt, words, &[("file", source.as_bytes())], text)?;

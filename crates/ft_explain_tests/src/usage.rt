@@ -25,6 +25,10 @@ const WORDS: &[(&str, &str)] = &[
         "talft: error: missing N after `--steps`\nusage: talft exec SOURCE [--steps N]\n",
     ),
     (
+        "run a --fault --steps 3",
+        "talft: error: missing STEP:SITE:WORD after `--fault`\nusage: talft run OBJECT [--steps N] [--fault STEP:SITE:WORD] [--wild LIST]\n",
+    ),
+    (
         "exec a --steps=3",
         "talft: error: `--steps=3` is one word: write `--steps N`\nusage: talft exec SOURCE [--steps N]\n",
     ),

@@ -28,7 +28,7 @@ use Rattle.ft_format.proofs.Codes.{le_held, lt_held, eq_held, le_true, lt_true, 
 use Rattle.ft_format.proofs.Codes.{basic_back, base_small, type_small}
 use Rattle.ft_format.proofs.Versions.{letter_follows, are_bytes_of_name}
 
--- the rules of a cell, but for the bytes of its name
+-- the rules of a cell, except for the bytes of its name
 pub record IsCellBut (v : Version) (types : ℕ) (c : Cell) : Type 0 where
   pub some : 0 < length c.name
   pub name_length : length c.name ≤ longest_name v

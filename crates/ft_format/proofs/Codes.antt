@@ -22,12 +22,11 @@ use Rattle.ft_format.specs.declared.object_error.ObjectError.{ObjectError}
 use Rattle.ft_format.specs.declared.object_error.ObjectError.TheVariants as errors
 use Rattle.ft_format.specs.Rules.{must, ◌next◌, zero_broken, colour_broken, op_broken, register_broken}
 use Rattle.ft_format.specs.Rules.{code_type_broken, basic_broken}
-use Rattle.ft_format.specs.Rows.{colour_code, base_code, base_type}
-use Rattle.ft_format.specs.Values.{or_first, register_of, colour_of, base_of, basic_type_of}
+use Rattle.ft_format.specs.Codes.{colour_code, base_code, base_type, or_first, register_of, colour_of, base_of}
+use Rattle.ft_format.specs.Codes.{basic_type_of, FitsBase, FitsBasic}
 use Rattle.ft_format.specs.declared.version.Version.{Version}
 use Rattle.ft_format.specs.Versions.{last_op}
 use Rattle.ft_format.specs.Format.{SupportsOp}
-use Rattle.ft_format.specs.Fits.{FitsBase, FitsBasic}
 use Rattle.ft_format.proofs.Unbroken.{held, both}
 use Rattle.ft_format.proofs.Versions.{few_ops}
 
@@ -79,6 +78,17 @@ up_to P zero = only P
 up_to P (suc n) = λ a. given_more (λ k. P (suc k)) n ((k : ℕ) → k ≤ n → P (suc k)) ((k : ℕ) → k ≤ suc n → P k)
     (first_or P n a) (up_to (λ k. P (suc k)) n)
 
+-- P of each number up to n
+abbrev pub Each : (ℕ → Type 0) → ℕ → Type 0
+Each P zero = P 0
+Each P (suc n) = P 0 × Each (λ k. P (suc k)) n
+
+pub of_each : (P : ℕ → Type 0) (n : ℕ) → Each P n → (k : ℕ) → k ≤ n → P k
+of_each P zero e zero l = e
+of_each P zero e (suc k) l = absurd (omega arith)
+of_each P (suc n) e zero l = e.0
+of_each P (suc n) e (suc k) l = of_each (λ k. P (suc k)) n e.1 k (omega arith)
+
 -- colours
 pub colour_again : (at n : ℕ) → colour_broken at n ≡ None → colour_code (colour_of n) ≡ n
 colour_again at n h = up_to (λ k. colour_code (colour_of k) ≡ k) 1 refl refl n (le_held n 1 (errors.Kind at) h)
@@ -106,6 +116,12 @@ op_again v at n h =
     let few : n ≤ last_op v = le_held n (last_op v) (errors.Kind at) h in
     let code : op_code (op_of n) ≡ n = code_again n (omega (arith, few, few_ops v)) in
     record { code = code; has = rw code few }
+
+pub op_code_again : (v : Version) (at n : ℕ) → op_broken v at n ≡ None → op_code (op_of n) ≡ n
+op_code_again v at n h = (op_again v at n h).code
+
+pub op_has_again : (v : Version) (at n : ℕ) → op_broken v at n ≡ None → SupportsOp v (op_of n)
+op_has_again v at n h = (op_again v at n h).has
 
 pub op_fine : (v : Version) (at : ℕ) (o : Op) → SupportsOp v o → op_broken v at (op_code o) ≡ None
 op_fine v at o h = rw (le_true (op_code o) (last_op v) h) refl

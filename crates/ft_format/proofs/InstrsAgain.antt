@@ -1,7 +1,7 @@
 -- Records that break no rule stand for instructions that obey the rules, and are written of them.
-use Rattle.std.proofs.Common.{◌≡◌, ℕ, ◌+◌, ◌*◌, ◌/◌, ◌%◌, ◌^◌, ◌<◌, ◌≤◌, true, List, [], ◌∷◌, map, Option, None}
-use Rattle.std.proofs.Common.{Some, refl, sym, subst, arith}
-use Rattle.std.specs.Prelude.{◌==◌, nat_le, nat_lt}
+use Rattle.std.proofs.Common.{◌≡◌, ℕ, ◌+◌, ◌*◌, ◌/◌, ◌%◌, ◌^◌, ◌<◌, ◌≤◌, true, List, [], ◌∷◌, map, Option, None, Some}
+use Rattle.std.proofs.Common.{refl, sym, subst, arith}
+use Rattle.std.specs.Prelude.{◌==◌, nat_le}
 use Rattle.std.specs.List.{AllByRecursion}
 use Rattle.ft_isa.specs.declared.instr.Subst.{Subst}
 use Rattle.ft_static.specs.declared.node.Node.{Node}
@@ -13,18 +13,17 @@ use Rattle.ft_format.specs.declared.header.Header.{Header}
 use Rattle.ft_format.specs.Layout.{code_layout}
 use Rattle.ft_format.specs.Versions.{version_of, last_instr_kind}
 use Rattle.ft_format.specs.Format.{SupportsInstr}
-use Rattle.ft_format.specs.Rules.{must, zero_broken, some_broken, register_broken, colour_broken, op_broken}
-use Rattle.ft_format.specs.Rules.{node_number_broken, basic_number_broken, access_broken, substitution_broken}
-use Rattle.ft_format.specs.Rules.{transfer_broken, fields_broken, instr_broken}
-use Rattle.ft_format.specs.Rows.{colour_code, basic_number, instr_row}
-use Rattle.ft_format.specs.Values.{register_of, colour_of, basic_type_of, instr_of, rows_past}
+use Rattle.ft_format.specs.Rules.{must, zero_broken, register_broken, colour_broken, node_number_broken}
+use Rattle.ft_format.specs.InstrRecords.{basic_number_broken, substitution_broken, transfer_broken, fields_broken}
+use Rattle.ft_format.specs.InstrRecords.{instr_broken, instr_row, instr_of, rows_past}
+use Rattle.ft_format.specs.Codes.{basic_number, basic_type_of}
 use Rattle.ft_format.specs.Broken.{instrs_broken, rows_taken}
 use Rattle.ft_format.proofs.Layouts.{Fit, AllFit}
-use Rattle.ft_format.proofs.Unbroken.{both, each}
-use Rattle.ft_format.proofs.Codes.{le_held, lt_held, eq_held, zero_again, up_to, colour_again, op_again}
-use Rattle.ft_format.proofs.Codes.{register_again, basic_again, high_back, low_back}
+use Rattle.ft_format.proofs.Unbroken.{both, each, first_none, rest_none}
+use Rattle.ft_format.proofs.Codes.{le_held, lt_held, eq_held, zero_again, up_to, colour_again, register_again}
+use Rattle.ft_format.proofs.Codes.{basic_again, high_back, low_back, op_code_again, op_has_again, Each, of_each}
 use Rattle.ft_format.proofs.References.{AreNarrowNodes, number_again}
-use Rattle.ft_format.proofs.Versions.{few_instr_kinds}
+use Rattle.ft_format.proofs.Versions.{instr_kinds, few_instr_kinds}
 use Rattle.ft_format.proofs.Nodes.{same_seven, length_again}
 
 -- the parts of the number of a basic type
@@ -66,6 +65,10 @@ substitution_again h nodes first at x past memory narrow n =
       memory = number_again nodes true (at + 8) memory narrow r.1.1.1.1.0;
     }
 
+-- a field that is 0 for want of a count
+no_again : (at n : ℕ) → must (n == 0) (errors.Count at) ≡ None → 0 ≡ n
+no_again at n h = sym (eq_held n 0 (errors.Count at) h)
+
 -- an instruction of each kind
 module _ (h : Header) (nodes : List Node) (first at a b c x high low : ℕ) (narrow : AreNarrowNodes nodes)
     (fit_high : high < 2 ^ 32) (fit_low : low < 2 ^ 32) where
@@ -75,38 +78,6 @@ module _ (h : Header) (nodes : List Node) (first at a b c x high low : ℕ) (nar
 
   abbrev v : Version
   v = version_of h
-
-  instr_0 : Again 0
-  instr_0 n =
-      let r = each (
-      register_broken (at + 1) a ∷ register_broken (at + 2) b ∷ register_broken (at + 3) c ∷ op_broken v (at + 4) x
-      ∷ zero_broken (at + 8) high ∷ zero_broken (at + 8) low ∷ []) n in
-      let code = op_again v (at + 4) x r.1.1.1.0 in
-      record {
-        written = same_seven refl (register_again (at + 1) a r.0) (register_again (at + 2) b r.1.0)
-            (register_again (at + 3) c r.1.1.0)
-            code.code (zero_again (at + 8) high r.1.1.1.1.0) (zero_again (at + 8) low r.1.1.1.1.1.0);
-        instr = tt;
-        has = code.has;
-        carries = tt;
-        past = refl;
-      }
-
-  instr_1 : Again 1
-  instr_1 n =
-      let r = each (register_broken (at + 1) a ∷ register_broken (at + 2) b ∷ colour_broken (at + 3) c ∷ op_broken v
-      (at + 4) x ∷ []) n in
-      let code = op_again v (at + 4) x r.1.1.1.0 in
-      let word : joined high low < 2 ^ 64 = omega arith in
-      record {
-        written = same_seven refl (register_again (at + 1) a r.0) (register_again (at + 2) b r.1.0)
-            (colour_again (at + 3) c r.1.1.0)
-            code.code (high_back high low fit_low) (low_back high low fit_low);
-        instr = word;
-        has = code.has;
-        carries = tt;
-        past = refl;
-      }
 
   instr_2 : Again 2
   instr_2 n =
@@ -125,32 +96,6 @@ module _ (h : Header) (nodes : List Node) (first at a b c x high low : ℕ) (nar
         carries = tt;
         past = refl;
       }
-
-  -- the record of a load, and that of a store
-  access : access_broken at a b c x high low ≡ None
-      → ((register_of a).number ≡ a) × ((register_of b).number ≡ b) × (colour_code (colour_of c) ≡ c) × (0 ≡ x)
-      × (0 ≡ high) × (0 ≡ low)
-  access n =
-      let r = each (
-      register_broken (at + 1) a ∷ register_broken (at + 2) b ∷ colour_broken (at + 3) c ∷ zero_broken (at + 4) x
-      ∷ zero_broken (at + 8) high ∷ zero_broken (at + 8) low ∷ []) n in (
-        register_again (at + 1) a r.0,
-        register_again (at + 2) b r.1.0,
-        colour_again (at + 3) c r.1.1.0,
-        zero_again (at + 4) x r.1.1.1.0,
-        zero_again (at + 8) high r.1.1.1.1.0,
-        zero_again (at + 8) low r.1.1.1.1.1.0,
-      )
-
-  instr_3 : Again 3
-  instr_3 n =
-      let e = access n in
-      record { written = same_seven refl e.0 e.1 e.2 e.3 e.4 e.5; instr = tt; has = tt; carries = tt; past = refl }
-
-  instr_4 : Again 4
-  instr_4 n =
-      let e = access n in
-      record { written = same_seven refl e.0 e.1 e.2 e.3 e.4 e.5; instr = tt; has = tt; carries = tt; past = refl }
 
   -- a jump or a branch, green or blue
   abbrev After : ℕ → ℕ → Type 0
@@ -214,42 +159,31 @@ module _ (h : Header) (nodes : List Node) (first at a b c x high low : ℕ) (nar
       })
       c (le_held c 1 (errors.Kind (at + 3)) r.1.1.0) r.1.1.1.0
 
-  instr_7 : Again 7
-  instr_7 n =
-      let r = each (
-      zero_broken (at + 1) a ∷ zero_broken (at + 2) b ∷ zero_broken (at + 3) c ∷ zero_broken (at + 4) x
-      ∷ zero_broken (at + 8) high ∷ zero_broken (at + 8) low ∷ []) n in
-      record {
-        written = same_seven refl (zero_again (at + 1) a r.0) (zero_again (at + 2) b r.1.0)
-            (zero_again (at + 3) c r.1.1.0)
-            (zero_again (at + 4) x r.1.1.1.0) (zero_again (at + 8) high r.1.1.1.1.0)
-            (zero_again (at + 8) low r.1.1.1.1.1.0);
-        instr = tt;
-        has = tt;
-        carries = tt;
-        past = refl;
-      }
+  -- what a field that breaks no rule holds, and the kinds whose rules hang on a field
+  ruleset again = (
+    arith,
+    same_seven,
+    first_none,
+    rest_none,
+    zero_again,
+    register_again,
+    colour_again,
+    op_code_again,
+    op_has_again,
+    high_back,
+    low_back,
+    lt_held,
+    le_held,
+    length_again,
+    no_again,
+    instr_2,
+    instr_5,
+    instr_6,
+  )
 
-  instr_8 : 8 ≤ last_instr_kind v → Again 8
-  instr_8 le n =
-      let r = each (
-      register_broken (at + 1) a ∷ register_broken (at + 2) b ∷ zero_broken (at + 3) c
-      ∷ must (nat_lt x h.cells) (errors.Index (at + 4)) ∷ must (high == 0) (errors.Count (at + 8))
-      ∷ some_broken 1024 (at + 8) low ∷ must (nat_le (x + low) h.cells) (errors.Index (at + 8)) ∷ []) n in
-      let no_high = sym (eq_held high 0 (errors.Count (at + 8)) r.1.1.1.1.0) in
-      record {
-        written = same_seven refl (register_again (at + 1) a r.0) (register_again (at + 2) b r.1.0)
-            (zero_again (at + 3) c r.1.1.0)
-            refl no_high refl;
-        instr = record {
-          begins = lt_held x h.cells (errors.Index (at + 4)) r.1.1.1.0;
-          length = length_again (at + 8) low r.1.1.1.1.1.0;
-          ends = le_held (x + low) h.cells (errors.Index (at + 8)) r.1.1.1.1.1.1.0;
-        };
-        has = le;
-        carries = tt;
-        past = refl;
-      }
+  -- each kind, those to come too: the search reads the rules
+  each_again : Each (λ kind. kind ≤ last_instr_kind v → Again kind) instr_kinds
+  each_again = search again parts 12
 
 -- a record that breaks no rule is written of its instruction, which obeys the rules
 pub instr_again : (h : Header) (nodes : List Node) (first at : ℕ) (row : List ℕ) → AreNarrowNodes nodes →
@@ -259,17 +193,9 @@ instr_again h nodes first at (kind ∷ a ∷ b ∷ c ∷ x ∷ high ∷ low ∷ 
     let most = both (must (nat_le kind (last_instr_kind v)) (errors.Kind at))
     (fields_broken h nodes first at kind a b c x high low) n in
     let has : kind ≤ last_instr_kind v = le_held kind (last_instr_kind v) (errors.Kind at) most.0 in
-    up_to (λ k. k ≤ last_instr_kind v → fields_broken h nodes first at k a b c x high low ≡ None →
-    InstrAgain h nodes first (k ∷ a ∷ b ∷ c ∷ x ∷ high ∷ low ∷ [])) 8
-    (λ le. instr_0 h nodes first at a b c x high low narrow fit.1.1.1.1.1.0 fit.1.1.1.1.1.1.0)
-    (λ le. instr_1 h nodes first at a b c x high low narrow fit.1.1.1.1.1.0 fit.1.1.1.1.1.1.0)
-    (λ le. instr_2 h nodes first at a b c x high low narrow fit.1.1.1.1.1.0 fit.1.1.1.1.1.1.0)
-    (λ le. instr_3 h nodes first at a b c x high low narrow fit.1.1.1.1.1.0 fit.1.1.1.1.1.1.0)
-    (λ le. instr_4 h nodes first at a b c x high low narrow fit.1.1.1.1.1.0 fit.1.1.1.1.1.1.0)
-    (λ le. instr_5 h nodes first at a b c x high low narrow fit.1.1.1.1.1.0 fit.1.1.1.1.1.1.0)
-    (λ le. instr_6 h nodes first at a b c x high low narrow fit.1.1.1.1.1.0 fit.1.1.1.1.1.1.0)
-    (λ le. instr_7 h nodes first at a b c x high low narrow fit.1.1.1.1.1.0 fit.1.1.1.1.1.1.0)
-    (instr_8 h nodes first at a b c x high low narrow fit.1.1.1.1.1.0 fit.1.1.1.1.1.1.0)
+    of_each (λ k. k ≤ last_instr_kind v → Again h nodes first at a b c x high low narrow fit.1.1.1.1.1.0
+    fit.1.1.1.1.1.1.0 k) instr_kinds
+    (each_again h nodes first at a b c x high low narrow fit.1.1.1.1.1.0 fit.1.1.1.1.1.1.0)
     kind (omega (arith, has, few_instr_kinds v)) has most.1
 instr_again h nodes first at [] narrow fit n = absurd fit
 instr_again h nodes first at (a ∷ []) narrow fit n = absurd fit.1

@@ -1,28 +1,103 @@
--- What is written of instructions that obey the rules breaks no rule, and stands for them.
-use Rattle.std.proofs.Common.{◌≡◌, ℕ, ◌+◌, ◌≤◌, true, List, [], ◌∷◌, length, map, Option, None, Some, refl, sym, subst}
-use Rattle.std.proofs.Common.{arith}
+-- What is written of instructions that obey the rules fits the fields of records, breaks no rule, and stands for them.
+use Rattle.std.proofs.Common.{◌≡◌, ℕ, ◌/◌, ◌%◌, ◌^◌, ◌<◌, ◌≤◌, List, ◌∷◌, refl, arith, ◌+◌, true, [], length, map}
+use Rattle.std.proofs.Common.{Option, None, Some, sym, subst}
 use Rattle.std.specs.List.{AllByRecursion}
-use Rattle.ft_isa.specs.declared.instr.Subst.{Subst}
+use Rattle.ft_isa.specs.Words.{IsWord}
+use Rattle.ft_isa.specs.declared.basic.Basic.{Basic}
+use Rattle.ft_isa.specs.declared.op.Op.{Op}
+use Rattle.ft_isa.specs.declared.reg.Reg.{Reg}
+use Rattle.ft_isa.specs.declared.colour.Colour.{Colour}
 use Rattle.ft_isa.specs.declared.instr.Instr.{Instr}
-use Rattle.ft_isa.specs.declared.instr.Instr.TheVariants.{OpReg, OpWord, Mov, Ld, St, JmpG, JmpB, BzG, BzB, Halt, Idx}
+use Rattle.ft_isa.specs.declared.instr.Instr.TheVariants.{Mov, JmpB, BzB, Halt, Idx}
+use Rattle.ft_isa.specs.Operations.{op_code, last_op_code}
+use Rattle.ft_isa.proofs.Operations.{op_back, op_small}
+use Rattle.ft_isa.specs.declared.instr.Subst.{Subst}
 use Rattle.ft_static.specs.declared.node.Node.{Node}
+use Rattle.ft_types.specs.NodeRows.{high_half, low_half}
 use Rattle.ft_types.specs.Spellable.{IsInstr, IsSubst, subst_of, before, substs_of, Cover}
 use Rattle.ft_format.specs.declared.header.Header.{Header}
 use Rattle.ft_format.specs.Layout.{code_layout}
-use Rattle.ft_format.specs.Versions.{version_of, last_instr_kind}
-use Rattle.ft_format.specs.Format.{SupportsInstr}
-use Rattle.ft_format.specs.Rules.{substitution_broken, instr_broken}
-use Rattle.ft_format.specs.Rows.{instr_row}
-use Rattle.ft_format.specs.Values.{instr_of, rows_past}
-use Rattle.ft_format.specs.Fits.{FitsSubst, FitsInstr}
+use Rattle.ft_format.specs.Versions.{version_of}
+use Rattle.ft_format.specs.Codes.{colour_code, base_code, base_type, basic_number, FitsBasic}
+use Rattle.ft_format.specs.InstrRecords.{instr_row, instr_of, FitsInstr, substitution_broken, instr_broken, rows_past}
+use Rattle.ft_format.specs.InstrRecords.{FitsSubst}
 use Rattle.ft_format.specs.Broken.{instrs_broken, rows_taken}
+use Rattle.ft_format.specs.Format.{SupportsInstr}
 use Rattle.ft_format.proofs.Layouts.{Fit, AllFit}
-use Rattle.ft_format.proofs.Codes.{le_true, lt_true, eq_true, colour_fine, op_fine, register_fine, basic_fine}
-use Rattle.ft_format.proofs.Codes.{base_small, basic_fits, type_small}
+use Rattle.ft_format.proofs.Codes.{colour_back, register_back, basic_back, base_small, type_fits, colour_small}
+use Rattle.ft_format.proofs.Codes.{word_back, le_true, lt_true, eq_true, colour_fine, op_fine, register_fine}
+use Rattle.ft_format.proofs.Codes.{basic_fine, basic_fits, type_small}
+use Rattle.ft_format.proofs.Versions.{has_op, has_instr_kind}
 use Rattle.ft_format.proofs.References.{number_fine}
-use Rattle.ft_format.proofs.Versions.{has_instr_kind}
 use Rattle.ft_format.proofs.InstrsAgain.{Carries, past_of}
-use Rattle.ft_format.proofs.InstrsBack.{refs_back, code_back, own_back, instr_fit, instr_back}
+
+-- the number of a basic type, by its parts
+pub refs_back : (b : Basic) → base_code b.base ≤ 1 → base_type b.base < 2 ^ 16 → basic_number b / 2 ^ 24 ≡ b.refs
+refs_back b p q = omega arith
+
+pub code_back : (b : Basic) → base_code b.base ≤ 1 → base_type b.base < 2 ^ 16 → basic_number b / 2 ^ 16 % 2 ^ 8
+    ≡ base_code b.base
+code_back b p q = omega arith
+
+pub own_back : (b : Basic) → base_code b.base ≤ 1 → base_type b.base < 2 ^ 16 → basic_number b % 2 ^ 16
+    ≡ base_type b.base
+own_back b p q = omega arith
+
+-- parts that fit their fields
+reg_fits : (r : Reg) → r.number < 2 ^ 8
+reg_fits r = omega (arith, r.in_range)
+
+colour_fits : (c : Colour) → colour_code c < 2 ^ 8
+colour_fits c = omega (arith, colour_small c)
+
+op_fits : (op : Op) → op_code op < 2 ^ 32
+op_fits op = omega (arith, has_op op)
+
+basic_number_fits : (basic : Basic) → FitsBasic basic → basic_number basic < 2 ^ 32
+basic_number_fits basic h = omega (arith, base_small basic.base, type_fits basic.base h.1, h.0)
+
+high_fits : (w : ℕ) → IsWord w → high_half w < 2 ^ 32
+high_fits w h = omega (arith, h)
+
+low_fits : (w : ℕ) → low_half w < 2 ^ 32
+low_fits w = omega arith
+
+-- the fields of a record can hold the numbers of an instruction that fits
+pub instr_fit : (i : Instr) → FitsInstr i → Fit code_layout (instr_row i)
+instr_fit Halt h = search arith
+instr_fit _ h = search (arith, reg_fits, colour_fits, op_fits, basic_number_fits, high_fits, low_fits)
+
+-- and it is had back from them
+pub instr_back : (i : Instr) → FitsInstr i → instr_of (instr_row i) ≡ i
+instr_back (Mov rd value basic) h =
+    let small = base_small basic.base in
+    let own = type_fits basic.base h.1.1 in
+    rw (
+      register_back rd,
+      colour_back value.colour,
+      word_back value.word,
+      refs_back basic small own,
+      code_back basic small own,
+      own_back basic small own,
+      basic_back basic,
+    ) refl
+instr_back Halt h = refl
+instr_back _ h = simp (op_back, register_back, colour_back, word_back)
+
+-- a record is of one of nine kinds, an operation is one of ten, and three fields have registers, a colour or zero
+abbrev pub IsPlain : List ℕ → Type 0
+IsPlain (kind ∷ a ∷ b ∷ c ∷ x ∷ rest) = (kind ≤ 8) × (kind ≤ 1 → x ≤ last_op_code) × (a < 64) × (b < 64) × (c < 64)
+IsPlain _ = Unit {0}
+
+reg_low : (r : Reg) → r.number < 64
+reg_low r = r.in_range
+
+colour_low : (c : Colour) → colour_code c < 64
+colour_low c = omega (arith, colour_small c)
+
+pub row_plain : (i : Instr) → IsPlain (instr_row i)
+row_plain Halt = search arith
+row_plain _ = search (arith, op_small, reg_low, colour_low)
 
 -- counts that are small enough for their fields
 pub record AreFew (h : Header) (nodes : List Node) : Type 0 where
@@ -64,20 +139,6 @@ instr_unbroken : (h : Header) (nodes : List Node) (first at : ℕ) (i : Instr) �
     IsInstr h.types h.cells i
     → SupportsInstr (version_of h) i → Carries nodes h.substs first (subst_of i) →
     instr_broken h nodes first at (instr_row i) ≡ None
-instr_unbroken h nodes first at (OpReg op rd rs rt) m i has s = rw (
-  has_instr_kind (version_of h) 0 (omega arith),
-  register_fine (at + 1) rd,
-  register_fine (at + 2) rs,
-  register_fine (at + 3) rt,
-  op_fine (version_of h) (at + 4) op has,
-) refl
-instr_unbroken h nodes first at (OpWord op rd rs value) m i has s = rw (
-  has_instr_kind (version_of h) 1 (omega arith),
-  register_fine (at + 1) rd,
-  register_fine (at + 2) rs,
-  colour_fine (at + 3) value.colour,
-  op_fine (version_of h) (at + 4) op has,
-) refl
 instr_unbroken h nodes first at (Mov rd value basic) m i has s = rw (
   has_instr_kind (version_of h) 2 (omega arith),
   register_fine (at + 1) rd,
@@ -87,54 +148,14 @@ instr_unbroken h nodes first at (Mov rd value basic) m i has s = rw (
   own_back basic (base_small basic.base) (type_small h.types basic.base m.types i.1.base),
   basic_fine h.types (at + 4) basic i.1,
 ) refl
-instr_unbroken h nodes first at (Ld colour rd rs) m i has s = rw (
-  has_instr_kind (version_of h) 3 (omega arith),
-  register_fine (at + 1) rd,
-  register_fine (at + 2) rs,
-  colour_fine (at + 3) colour,
-) refl
-instr_unbroken h nodes first at (St colour rd rs) m i has s = rw (
-  has_instr_kind (version_of h) 4 (omega arith),
-  register_fine (at + 1) rd,
-  register_fine (at + 2) rs,
-  colour_fine (at + 3) colour,
-) refl
-instr_unbroken h nodes first at (JmpG rd) m i has s = rw (
-  has_instr_kind (version_of h) 5 (omega arith),
-  register_fine (at + 1) rd,
-) refl
-instr_unbroken h nodes first at (JmpB rd subst) m i has s = rw (
-  has_instr_kind (version_of h) 5 (omega arith),
-  register_fine (at + 1) rd,
-  substitution_fine h nodes first (at + 4) subst s,
-) refl
-instr_unbroken h nodes first at (BzG rz rd) m i has s = rw (
-  has_instr_kind (version_of h) 6 (omega arith),
-  register_fine (at + 1) rz,
-  register_fine (at + 2) rd,
-) refl
-instr_unbroken h nodes first at (BzB rz rd subst) m i has s = rw (
-  has_instr_kind (version_of h) 6 (omega arith),
-  register_fine (at + 1) rz,
-  register_fine (at + 2) rd,
-  substitution_fine h nodes first (at + 4) subst s,
-) refl
-instr_unbroken h nodes first at Halt m i has s = rw (has_instr_kind (version_of h) 7 (omega arith)) refl
-instr_unbroken h nodes first at (Idx rd rs x n) m i has s = rw (
-  le_true 8 (last_instr_kind (version_of h)) has,
-  register_fine (at + 1) rd,
-  register_fine (at + 2) rs,
-  lt_true x h.cells i.begins,
-  le_true 1 n i.length.0,
-  le_true n 1024 i.length.1,
-  le_true (x + n) h.cells i.ends,
-) refl
+instr_unbroken h nodes first at _ m i has s =
+    search (arith, has_instr_kind, le_true, lt_true, register_fine, colour_fine, op_fine, substitution_fine)
 
 instr_past : (first : ℕ) (i : Instr) → rows_past first (instr_row i) ≡ past_of first (subst_of i)
 instr_past first (JmpB rd s) = refl
 instr_past first _ = refl
 
--- and stands for it
+-- what is written of an instruction breaks no rule and stands for it
 pub record InstrFine (h : Header) (nodes : List Node) (first at : ℕ) (i : Instr) : Type 0 where
   pub unbroken : instr_broken h nodes first at (instr_row i) ≡ None
   pub back : instr_of (instr_row i) ≡ i

@@ -2,7 +2,6 @@ pub mod Cells
 pub mod Codes
 pub mod Halves
 pub mod InstrsAgain
-pub mod InstrsBack
 pub mod InstrsFine
 pub mod Layouts
 pub mod Loops

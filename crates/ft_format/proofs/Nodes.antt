@@ -1,12 +1,12 @@
 -- Nodes and their records, both ways.
-use Rattle.std.proofs.Common.{◌≡◌, ℕ, zero, suc, ◌+◌, ◌^◌, ◌<◌, ◌≤◌, Bool, true, false, List, [], ◌∷◌, ◌++◌, length}
-use Rattle.std.proofs.Common.{map, None, Some, refl, sym, subst, append_assoc, lit<, arith}
-use Rattle.std.specs.Prelude.{nat_le, nat_lt, slice_get}
+use Rattle.std.proofs.Common.{◌≡◌, ℕ, zero, suc, ◌+◌, ◌^◌, ◌<◌, ◌≤◌, Bool, List, [], ◌∷◌, ◌++◌, length, map, None, Some}
+use Rattle.std.proofs.Common.{refl, sym, subst, append_assoc, arith}
+use Rattle.std.specs.Prelude.{nat_le, slice_get}
 use Rattle.std.specs.List.{AllByRecursion}
 use Rattle.std.proofs.lemmas.List.{length-append}
 use Rattle.ft_static.specs.declared.node.Node.{Node}
 use Rattle.ft_static.specs.declared.node.Shape.{Shape}
-use Rattle.ft_static.specs.declared.node.Shape.TheVariants.{Word, Var, Op as OpNode, Sel, Memory, Upd, Rem}
+use Rattle.ft_static.specs.declared.node.Shape.TheVariants.{Word, Op as OpNode, Memory}
 use Rattle.ft_static.specs.NodeRules.{IsLength, MayName, IsShape, IsNode}
 use Rattle.ft_isa.proofs.Operations.{op_back}
 use Rattle.ft_types.specs.NodeRows.{shape_row, node_row}
@@ -15,16 +15,15 @@ use Rattle.ft_format.specs.Layout.{code_layout}
 use Rattle.ft_format.specs.declared.version.Version.{Version}
 use Rattle.ft_format.specs.Versions.{last_node_kind}
 use Rattle.ft_format.specs.Format.{SupportsShape, SupportsNode}
-use Rattle.ft_format.specs.Rules.{must, zero_broken, count_broken, some_broken, named_broken, node_op_broken}
-use Rattle.ft_format.specs.Rules.{parts_broken, node_broken}
-use Rattle.ft_format.specs.Values.{node_of}
-use Rattle.ft_format.specs.Fits.{Is8, Is32, FitsShape}
+use Rattle.ft_format.specs.Rules.{must, zero_broken, count_broken, some_broken}
+use Rattle.ft_format.specs.NodeRecords.{node_op_broken, parts_broken, node_broken, node_of, FitsShape}
+use Rattle.ft_format.specs.Codes.{Is8, Is32}
 use Rattle.ft_format.specs.Broken.{nodes_broken}
 use Rattle.ft_format.proofs.Layouts.{Fit, AllFit}
-use Rattle.ft_format.proofs.Unbroken.{both, each}
-use Rattle.ft_format.proofs.Codes.{le_held, lt_held, zero_again, le_true, lt_true, up_to, op_again, op_fine}
-use Rattle.ft_format.proofs.Codes.{high_back, low_back, word_back}
-use Rattle.ft_format.proofs.Versions.{few_node_kinds, has_node_kind, has_op}
+use Rattle.ft_format.proofs.Unbroken.{both, each, first_none, rest_none}
+use Rattle.ft_format.proofs.Codes.{le_held, lt_held, zero_again, le_true, lt_true, op_fine, high_back, low_back}
+use Rattle.ft_format.proofs.Codes.{word_back, op_code_again, op_has_again, Each, of_each}
+use Rattle.ft_format.proofs.Versions.{node_kinds, few_node_kinds, has_node_kind, has_op}
 use Rattle.ft_format.proofs.References.{named_again, named_fine, named_after, named_before}
 
 -- what a record stands for, if it breaks no rule
@@ -43,104 +42,32 @@ pub length_again : (at n : ℕ) → some_broken 1024 at n ≡ None → IsLength 
 length_again at n h = let r = both (must (nat_le 1 n) (errors.Count at)) (count_broken 1024 at n) h in
     (le_held 1 n (errors.Count at) r.0, le_held n 1024 (errors.Count at) r.1)
 
+-- what a field that breaks no rule holds
+ruleset fields_again = (
+  arith,
+  same_seven,
+  first_none,
+  rest_none,
+  zero_again,
+  lt_held,
+  high_back,
+  low_back,
+  op_code_again,
+  op_has_again,
+  named_again,
+  length_again,
+)
+
 -- a node of each kind
-module _ (v : Version) (earlier : List Node) (at op scope pad a b c : ℕ) (few : scope ≤ 128) (no_pad : 0 ≡ pad) where
+module _ (v : Version) (earlier : List Node) (at op scope pad a b c : ℕ) (few : scope ≤ 128) (no_pad : 0 ≡ pad)
+    (fit_b : b < 2 ^ 32) (fit_c : c < 2 ^ 32) where
   abbrev Again : ℕ → Type 0
-  Again kind = node_op_broken v (at + 1) kind op ≡ None → parts_broken earlier at kind scope a b c ≡ None
-      → NodeAgain v earlier (kind ∷ op ∷ scope ∷ pad ∷ a ∷ b ∷ c ∷ [])
+  Again kind = kind ≤ last_node_kind v → node_op_broken v (at + 1) kind op ≡ None →
+      parts_broken earlier at kind scope a b c ≡ None → NodeAgain v earlier (kind ∷ op ∷ scope ∷ pad ∷ a ∷ b ∷ c ∷ [])
 
-  no_op : zero_broken (at + 1) op ≡ None → 0 ≡ op
-  no_op o = zero_again (at + 1) op o
-
-  node_0 : b < 2 ^ 32 → c < 2 ^ 32 → Again 0
-  node_0 fb fc o p = record {
-    written = same_seven refl (no_op o) refl no_pad (zero_again (at + 4) a p) (high_back b c fc) (low_back b c fc);
-    node = record { scope = few; shape = omega arith };
-    has = tt;
-  }
-
-  node_1 : Again 1
-  node_1 o p =
-      let r = each (must (nat_lt a scope) (errors.Index (at + 4)) ∷ zero_broken (at + 8) b ∷ zero_broken (at + 12) c ∷
-      []) p in
-      record {
-        written = same_seven refl (no_op o) refl no_pad refl (zero_again (at + 8) b r.1.0)
-            (zero_again (at + 12) c r.1.1.0);
-        node = record { scope = few; shape = lt_held a scope (errors.Index (at + 4)) r.0 };
-        has = tt;
-      }
-
-  node_2 : Again 2
-  node_2 o p =
-      let r = each (named_broken earlier scope false (at + 4) a ∷ named_broken earlier scope false (at + 8) b ∷
-      zero_broken (at + 12) c ∷ []) p in
-      let code = op_again v (at + 1) op o in
-      record {
-        written = same_seven refl code.code refl no_pad refl refl (zero_again (at + 12) c r.1.1.0);
-        node = record {
-          scope = few;
-          shape = (
-            named_again earlier scope false (at + 4) a r.0,
-            named_again earlier scope false (at + 8) b r.1.0,
-          );
-        };
-        has = code.has;
-      }
-
-  node_3 : Again 3
-  node_3 o p =
-      let r = each (named_broken earlier scope true (at + 4) a ∷ named_broken earlier scope false (at + 8) b ∷
-      zero_broken (at + 12) c ∷ []) p in
-      record {
-        written = same_seven refl (no_op o) refl no_pad refl refl (zero_again (at + 12) c r.1.1.0);
-        node = record {
-          scope = few;
-          shape = (
-            named_again earlier scope true (at + 4) a r.0,
-            named_again earlier scope false (at + 8) b r.1.0,
-          );
-        };
-        has = tt;
-      }
-
-  node_4 : Again 4
-  node_4 o p =
-      let r = each (zero_broken (at + 4) a ∷ zero_broken (at + 8) b ∷ zero_broken (at + 12) c ∷ []) p in
-      record {
-        written = same_seven refl (no_op o) refl no_pad (zero_again (at + 4) a r.0) (zero_again (at + 8) b r.1.0)
-            (zero_again (at + 12) c r.1.1.0);
-        node = record { scope = few; shape = tt };
-        has = tt;
-      }
-
-  node_5 : Again 5
-  node_5 o p =
-      let r = each (named_broken earlier scope true (at + 4) a ∷ named_broken earlier scope false (at + 8) b ∷
-      named_broken earlier scope false (at + 12) c ∷ []) p in
-      let memory = named_again earlier scope true (at + 4) a r.0 in
-      let address = named_again earlier scope false (at + 8) b r.1.0 in
-      let value = named_again earlier scope false (at + 12) c r.1.1.0 in
-      record {
-        written = same_seven refl (no_op o) refl no_pad refl refl refl;
-        node = record { scope = few; shape = (memory, address, value) };
-        has = tt;
-      }
-
-  node_6 : 6 ≤ last_node_kind v → Again 6
-  node_6 le o p =
-      let r = each (named_broken earlier scope false (at + 4) a ∷ some_broken 1024 (at + 8) b ∷ zero_broken (at + 12) c
-      ∷ []) p in
-      record {
-        written = same_seven refl (no_op o) refl no_pad refl refl (zero_again (at + 12) c r.1.1.0);
-        node = record {
-          scope = few;
-          shape = (
-            named_again earlier scope false (at + 4) a r.0,
-            length_again (at + 8) b r.1.0,
-          );
-        };
-        has = le;
-      }
+  -- each kind, those to come too: the search reads the rules
+  each_again : Each Again node_kinds
+  each_again = search fields_again parts 12
 
 -- a record that breaks no rule is written of its node, which obeys the rules
 pub node_again : (v : Version) (earlier : List Node) (at : ℕ) (row : List ℕ) → Fit code_layout row →
@@ -153,15 +80,8 @@ node_again v earlier at (kind ∷ op ∷ scope ∷ pad ∷ a ∷ b ∷ c ∷ [])
     let few = le_held scope 128 (errors.Count (at + 2)) r.1.1.0 in
     let no_pad = zero_again (at + 3) pad r.1.1.1.0 in
     let has : kind ≤ last_node_kind v = le_held kind (last_node_kind v) (errors.Kind at) r.0 in
-    up_to (λ k. k ≤ last_node_kind v → node_op_broken v (at + 1) k op ≡ None → parts_broken earlier at k scope a b c
-    ≡ None → NodeAgain v earlier (k ∷ op ∷ scope ∷ pad ∷ a ∷ b ∷ c ∷ [])) 6
-    (λ le. node_0 v earlier at op scope pad a b c few no_pad fit.1.1.1.1.1.0 fit.1.1.1.1.1.1.0)
-    (λ le. node_1 v earlier at op scope pad a b c few no_pad)
-    (λ le. node_2 v earlier at op scope pad a b c few no_pad)
-    (λ le. node_3 v earlier at op scope pad a b c few no_pad)
-    (λ le. node_4 v earlier at op scope pad a b c few no_pad)
-    (λ le. node_5 v earlier at op scope pad a b c few no_pad)
-    (node_6 v earlier at op scope pad a b c few no_pad)
+    of_each (Again v earlier at op scope pad a b c few no_pad fit.1.1.1.1.1.0 fit.1.1.1.1.1.1.0) node_kinds
+    (each_again v earlier at op scope pad a b c few no_pad fit.1.1.1.1.1.0 fit.1.1.1.1.1.1.0)
     kind (omega (arith, has, few_node_kinds v)) has r.1.0 r.1.1.1.1.0
 node_again v earlier at [] fit h = absurd fit
 node_again v earlier at (a ∷ []) fit h = absurd fit.1
@@ -200,39 +120,13 @@ nodes_again v earlier at (r ∷ rs) fit h =
 -- a shape that names earlier nodes names nodes, and the other way round
 shape_after : (earlier rest : List Node) (scope : ℕ) (s : Shape) → IsShape earlier (length earlier) scope s →
     IsShape (earlier ++ rest) (length earlier) scope s
-shape_after earlier rest scope (OpNode op a b) h = (
-  named_after earlier rest scope false a h.0,
-  named_after earlier rest scope false b h.1,
-)
-shape_after earlier rest scope (Sel memory at) h = (
-  named_after earlier rest scope true memory h.0,
-  named_after earlier rest scope false at h.1,
-)
-shape_after earlier rest scope (Upd memory at value) h = (
-  named_after earlier rest scope true memory h.0,
-  named_after earlier rest scope false at h.1,
-  named_after earlier rest scope false value h.2,
-)
-shape_after earlier rest scope (Rem a m) h = (named_after earlier rest scope false a h.0, h.1)
-shape_after earlier rest scope _ h = h
+shape_after earlier rest scope Memory h = tt
+shape_after earlier rest scope _ h = search named_after
 
 shape_before : (earlier rest : List Node) (scope : ℕ) (s : Shape) → IsShape (earlier ++ rest) (length earlier) scope s →
     IsShape earlier (length earlier) scope s
-shape_before earlier rest scope (OpNode op a b) h = (
-  named_before earlier rest scope false a h.0,
-  named_before earlier rest scope false b h.1,
-)
-shape_before earlier rest scope (Sel memory at) h = (
-  named_before earlier rest scope true memory h.0,
-  named_before earlier rest scope false at h.1,
-)
-shape_before earlier rest scope (Upd memory at value) h = (
-  named_before earlier rest scope true memory h.0,
-  named_before earlier rest scope false at h.1,
-  named_before earlier rest scope false value h.2,
-)
-shape_before earlier rest scope (Rem a m) h = (named_before earlier rest scope false a h.0, h.1)
-shape_before earlier rest scope _ h = h
+shape_before earlier rest scope Memory h = tt
+shape_before earlier rest scope _ h = search named_before
 
 -- nodes that follow one another are nodes
 pub each_node : (earlier ns : List Node) → Follow earlier ns → (k : ℕ) (node : Node) → slice_get ns k ≡ Some node →
@@ -268,15 +162,10 @@ nodes_follow earlier (n ∷ ns) h =
 
 -- the fields of a record can hold the numbers of a node that fits
 pub shape_fit : (scope : ℕ) (s : Shape) → Is8 scope → FitsShape s → Fit code_layout (shape_row scope s)
-shape_fit scope (Word w) k h = (lit< tt, (lit< tt, (k, (lit< tt, (lit< tt, (omega (arith, h), (omega arith, tt)))))))
-shape_fit scope (Var i) k h = (lit< tt, (lit< tt, (k, (lit< tt, (omega (arith, h), (lit< tt, (lit< tt, tt)))))))
-shape_fit scope (OpNode op a b) k h = (lit< tt, (omega (arith, has_op op), (k, (lit< tt, (h.0, (h.1, (lit< tt, tt)))))))
-shape_fit scope (Sel memory at) k h = (lit< tt, (lit< tt, (k, (lit< tt, (h.0, (h.1, (lit< tt, tt)))))))
-shape_fit scope Memory k h = (lit< tt, (lit< tt, (k, (lit< tt, (lit< tt, (lit< tt, (lit< tt, tt)))))))
-shape_fit scope (Upd memory at value) k h = (lit< tt, (lit< tt, (k, (lit< tt, (h.0, (h.1, (h.2, tt)))))))
-shape_fit scope (Rem a m) k h = (lit< tt, (lit< tt, (k, (lit< tt, (h.0, (h.1, (lit< tt, tt)))))))
+shape_fit scope Memory k h = search arith
+shape_fit scope _ k h = search (arith, has_op)
 
--- and it is had back from them
+-- a node is recovered from its numbers
 pub shape_back : (scope : ℕ) (s : Shape) → node_of (shape_row scope s) ≡ record { scope = scope; shape = s }
 shape_back scope (Word w) = rw (word_back w) refl
 shape_back scope (OpNode op a b) = rw (op_back op) refl
@@ -289,66 +178,19 @@ named_fits nodes n scope memory m le h = let low = h.lower in omega arith
 
 pub shape_fits : (nodes : List Node) (n scope : ℕ) (s : Shape) → n ≤ 1048576 → scope ≤ 128 → IsShape nodes n scope s →
     FitsShape s
-shape_fits nodes n scope (Var i) le few h = omega arith
-shape_fits nodes n scope (OpNode op a b) le few h = (
-  named_fits nodes n scope false a le h.0,
-  named_fits nodes n scope false b le h.1,
-)
-shape_fits nodes n scope (Sel m a) le few h = (
-  named_fits nodes n scope true m le h.0,
-  named_fits nodes n scope false a le h.1,
-)
-shape_fits nodes n scope (Upd m a v) le few h = (
-  named_fits nodes n scope true m le h.0,
-  named_fits nodes n scope false a le h.1,
-  named_fits nodes n scope false v le h.2,
-)
-shape_fits nodes n scope (Rem a m) le few h = (
-  named_fits nodes n scope false a le h.0,
-  (let short = h.1.1 in omega arith),
-)
-shape_fits nodes n scope _ le few h = h
+shape_fits nodes n scope Memory le few h = tt
+shape_fits nodes n scope _ le few h = search (named_fits, arith)
 
 -- what is written of a node breaks no rule
+ruleset rules_hold = (arith, has_node_kind, le_true, lt_true, named_fine, op_fine)
+
 shape_unbroken : (v : Version) (earlier : List Node) (at scope : ℕ) (s : Shape) → scope ≤ 128 →
     IsShape earlier (length earlier) scope s
     → SupportsShape v s → node_broken v earlier at (shape_row scope s) ≡ None
-shape_unbroken v earlier at scope (Word w) few h has = rw (has_node_kind v 0 (omega arith), le_true scope 128 few) refl
-shape_unbroken v earlier at scope (Var i) few h has = rw (
-  has_node_kind v 1 (omega arith),
-  le_true scope 128 few,
-  lt_true i scope h,
-) refl
-shape_unbroken v earlier at scope (OpNode op a b) few h has = rw (
-  has_node_kind v 2 (omega arith),
-  op_fine v (at + 1) op has,
-  le_true scope 128 few,
-  named_fine earlier scope false (at + 4) a h.0,
-  named_fine earlier scope false (at + 8) b h.1,
-) refl
-shape_unbroken v earlier at scope (Sel memory p) few h has = rw (
-  has_node_kind v 3 (omega arith),
-  le_true scope 128 few,
-  named_fine earlier scope true (at + 4) memory h.0,
-  named_fine earlier scope false (at + 8) p h.1,
-) refl
-shape_unbroken v earlier at scope Memory few h has = rw (has_node_kind v 4 (omega arith), le_true scope 128 few) refl
-shape_unbroken v earlier at scope (Upd memory p value) few h has = rw (
-  has_node_kind v 5 (omega arith),
-  le_true scope 128 few,
-  named_fine earlier scope true (at + 4) memory h.0,
-  named_fine earlier scope false (at + 8) p h.1,
-  named_fine earlier scope false (at + 12) value h.2,
-) refl
-shape_unbroken v earlier at scope (Rem a n) few h has = rw (
-  le_true 6 (last_node_kind v) has,
-  le_true scope 128 few,
-  named_fine earlier scope false (at + 4) a h.0,
-  le_true 1 n h.1.0,
-  le_true n 1024 h.1.1,
-) refl
+shape_unbroken v earlier at scope Memory few h has = search rules_hold
+shape_unbroken v earlier at scope _ few h has = search rules_hold
 
--- and stands for it
+-- what is written of a node breaks no rule and stands for it
 pub record NodeFine (v : Version) (earlier : List Node) (at : ℕ) (n : Node) : Type 0 where
   pub unbroken : node_broken v earlier at (node_row n) ≡ None
   pub back : node_of (node_row n) ≡ n

@@ -13,9 +13,11 @@ use Rattle.ft_format.specs.Format.{SupportsName, SupportsNode, SupportsInstr, Su
 use Rattle.ft_format.specs.Layout.{numbers, written, rows, spelled, header_layout, cell_layout, code_layout}
 use Rattle.ft_format.specs.Layout.{type_layout, reg_layout, pair_layout, subst_layout}
 use Rattle.ft_format.specs.Rules.{must}
-use Rattle.ft_format.specs.Rows.{cell_rows, type_rows, reg_row, queue_row, block_row, instr_row, subst_row, all_regs}
+use Rattle.ft_format.specs.Rows.{cell_rows, type_rows, reg_row, queue_row, block_row, subst_row, all_regs}
+use Rattle.ft_format.specs.InstrRecords.{instr_row, instr_of}
 use Rattle.ft_format.specs.Rows.{all_queue, all_names, header_row, spelling}
-use Rattle.ft_format.specs.Values.{cells_of, node_of, types_of, reg_type_of, pair_of, block_of, instr_of, subst_node_of}
+use Rattle.ft_format.specs.Values.{cells_of, types_of, reg_type_of, pair_of, block_of, subst_node_of}
+use Rattle.ft_format.specs.NodeRecords.{node_of}
 use Rattle.ft_format.specs.Values.{header_of}
 use Rattle.ft_format.specs.Broken.{cells_broken, nodes_broken, types_broken, regs_broken, queues_broken, blocks_broken}
 use Rattle.ft_format.specs.Broken.{instrs_broken, rows_taken, subst_rows_broken, nodes_at, types_at, regs_at, queue_at}

@@ -12,7 +12,8 @@ use Rattle.ft_format.specs.declared.version.Version.{Version}
 use Rattle.ft_format.specs.Format.{AreBytes}
 use Rattle.ft_format.specs.Layout.{bytes_of, written, spelled, header_layout, cell_layout, code_layout, type_layout}
 use Rattle.ft_format.specs.Layout.{reg_layout, pair_layout, subst_layout}
-use Rattle.ft_format.specs.Rows.{cell_rows, type_rows, reg_row, queue_row, block_row, instr_row, subst_row, all_regs}
+use Rattle.ft_format.specs.Rows.{cell_rows, type_rows, reg_row, queue_row, block_row, subst_row, all_regs}
+use Rattle.ft_format.specs.InstrRecords.{instr_row}
 use Rattle.ft_format.specs.Rows.{all_queue, header_row, spelling}
 
 -- no byte, and a byte before others

@@ -7,9 +7,8 @@ use Rattle.ft_static.specs.declared.node.Node.{Node}
 use Rattle.ft_format.specs.declared.object_error.ObjectError.TheVariants as errors
 use Rattle.ft_format.specs.declared.header.Header.{Header}
 use Rattle.ft_format.specs.Versions.{version_of, last_instr_kind}
-use Rattle.ft_format.specs.Rules.{must, ◌next◌, register_broken, zero_broken, colour_broken, substitution_broken}
-use Rattle.ft_format.specs.Rules.{fields_broken, instr_broken}
-use Rattle.ft_format.specs.Values.{rows_past}
+use Rattle.ft_format.specs.Rules.{must, ◌next◌, register_broken, zero_broken, colour_broken}
+use Rattle.ft_format.specs.InstrRecords.{substitution_broken, fields_broken, instr_broken, rows_past}
 use Rattle.ft_format.proofs.Unbroken.{both, after_three}
 
 -- the rows of a substitution end within the table
@@ -17,7 +16,7 @@ substitution_within : (h : Header) (nodes : List Node) (first at x past memory :
     substitution_broken h nodes first at x past memory ≡ None → past ≤ h.substs
 substitution_within h nodes first at x past memory none = grind (arith, nat_tests)
 
--- the same of a jump or branch, by whether it is green
+-- the same for a jump or branch, by whether it is green
 transfer_within : (h : Header) (nodes : List Node) (first at colour x high low : ℕ) (green : Bool)
     → (if green then zero_broken at x next (zero_broken (at + 4) high next zero_broken (at + 4) low)
     else substitution_broken h nodes first at x high low) ≡ None

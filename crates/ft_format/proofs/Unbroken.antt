@@ -14,6 +14,13 @@ pub both : (a b : Option ObjectError) → (a next b) ≡ None → (a ≡ None) �
 both None b h = (refl, h)
 both (Some e) b h = absurd (cc)
 
+-- the same, each by itself
+pub first_none : (r s : Option ObjectError) → (r next s) ≡ None → r ≡ None
+first_none r s h = (both r s h).0
+
+pub rest_none : (r s : Option ObjectError) → (r next s) ≡ None → s ≡ None
+rest_none r s h = (both r s h).1
+
 -- rules one after the other, none of which is broken
 abbrev pub chain : List (Option ObjectError) → Option ObjectError
 chain [] = None

@@ -28,11 +28,18 @@ pub few_ops : (v : Version) → last_op v ≤ last_op_code
 few_ops First = omega arith
 few_ops Second = omega arith
 
-pub few_node_kinds : (v : Version) → last_node_kind v ≤ last_node_kind Second
+-- the greatest kinds of all versions
+abbrev pub node_kinds : ℕ
+node_kinds = last_node_kind Second
+
+abbrev pub instr_kinds : ℕ
+instr_kinds = last_instr_kind Second
+
+pub few_node_kinds : (v : Version) → last_node_kind v ≤ node_kinds
 few_node_kinds First = omega arith
 few_node_kinds Second = omega arith
 
-pub few_instr_kinds : (v : Version) → last_instr_kind v ≤ last_instr_kind Second
+pub few_instr_kinds : (v : Version) → last_instr_kind v ≤ instr_kinds
 few_instr_kinds First = omega arith
 few_instr_kinds Second = omega arith
 

@@ -8,7 +8,8 @@ use Rattle.ft_format.specs.Versions.{version_of}
 use Rattle.ft_format.specs.Format.{Supports, Spells}
 use Rattle.ft_format.specs.Layout.{numbers, written, spelled, header_layout, cell_layout, code_layout, type_layout}
 use Rattle.ft_format.specs.Layout.{reg_layout, pair_layout, subst_layout}
-use Rattle.ft_format.specs.Rows.{cell_rows, type_rows, reg_row, queue_row, block_row, instr_row, subst_row, all_regs}
+use Rattle.ft_format.specs.Rows.{cell_rows, type_rows, reg_row, queue_row, block_row, subst_row, all_regs}
+use Rattle.ft_format.specs.InstrRecords.{instr_row}
 use Rattle.ft_format.specs.Rows.{all_queue, all_names, header_row, spelling}
 use Rattle.ft_format.specs.Broken.{total, tables_read, header_at, version_at, broken, object_of}
 use Rattle.std.proofs.lemmas.List.{length-append}
@@ -55,7 +56,7 @@ spellings_apart v w a b rest s m t n e =
     let same : header_for v a ≡ header_for w b = sym (header_first v a rest s m) ∙ ap header_at e ∙ of_b.header in
     no_more (spelling v a) (spelling w b) rest e (of_a.total_is ∙ ap total same ∙ sym of_b.total_is)
 
--- the same of the whole bytes
+-- bytes that spell an object break no rule
 pub spells_unbroken : (bytes : List ℕ) (v : Version) (o : Object) → Spells bytes v o → broken bytes ≡ None
 unfolding broken
 spells_unbroken bytes v o i =
@@ -93,7 +94,7 @@ spells_version bytes v o i =
     let a = spelled_again bytes v o i.spellable i.has i.spelled in
     ap version_of a.header ∙ names_magic (header_for v o) v refl
 
--- the same of the bytes that spell
+-- bytes that spell an object begin no other bytes that do
 pub spells_apart : (bytes rest : List ℕ) (v w : Version) (o other : Object) → Spells bytes v o →
     Spells (bytes ++ rest) w other → rest ≡ []
 spells_apart bytes rest v w o other p q = spellings_apart v w o other rest p.spellable p.has q.spellable q.has

@@ -16,8 +16,10 @@ use Rattle.ft_format.specs.declared.header.Header.{Header}
 use Rattle.ft_format.specs.declared.version.Version.{Version}
 use Rattle.ft_format.specs.Versions.{version_of, may_follow}
 use Rattle.ft_format.specs.Layout.{numbers, rows, header_layout, cell_layout, code_layout, type_layout, reg_layout, pair_layout, subst_layout}
-use Rattle.ft_format.specs.Rules.{must, ◌next◌, header_broken, cell_broken, node_broken, type_broken, reg_broken, queue_broken, block_broken, instr_broken, subst_broken}
-use Rattle.ft_format.specs.Values.{past_of, cells_of, node_of, regs_end_of, queue_end_of, type_ints_of, types_of, reg_type_of, pair_of, block_of, instr_of, rows_past, subst_node_of, header_of}
+use Rattle.ft_format.specs.Rules.{must, ◌next◌, header_broken, cell_broken, type_broken, reg_broken, queue_broken, block_broken, subst_broken}
+use Rattle.ft_format.specs.NodeRecords.{node_broken, node_of}
+use Rattle.ft_format.specs.InstrRecords.{instr_broken, instr_of, rows_past}
+use Rattle.ft_format.specs.Values.{past_of, cells_of, regs_end_of, queue_end_of, type_ints_of, types_of, reg_type_of, pair_of, block_of, subst_node_of, header_of}
 
 -- the first number in a row
 abbrev pub first_of_row : List ℕ → ℕ
@@ -140,7 +142,7 @@ substs_at h = instrs_at h + 16 * h.instrs
 abbrev pub names_at : Header → ℕ
 names_at h = substs_at h + 4 * h.substs
 
--- how many bytes the counts give
+-- how many bytes an object with these counts has
 abbrev pub total : Header → ℕ
 total h = names_at h + h.names
 

@@ -1,8 +1,11 @@
 pub mod Layout
 pub mod Errors
 pub mod Versions
-pub mod Rows
+pub mod Codes
 pub mod Rules
+pub mod NodeRecords
+pub mod InstrRecords
+pub mod Rows
 pub mod Values
 pub mod Fits
 pub mod Broken

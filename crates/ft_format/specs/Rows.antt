@@ -1,43 +1,19 @@
--- The numbers that stand for each part of an object, and the bytes that are written for an object.
-use Rattle.std.specs.Prelude.{ℕ, ◌+◌, ◌*◌, ◌^◌, List, [], ◌∷◌, ◌++◌, length, map}
+-- The numbers that stand for each part of an object but nodes and instructions, and the bytes that are written for an
+-- object.
+use Rattle.std.specs.Prelude.{ℕ, ◌+◌, List, [], ◌∷◌, ◌++◌, length, map}
 use Rattle.std.specs.List.{flat_map}
-use Rattle.ft_isa.specs.declared.colour.Colour.{Colour}
-use Rattle.ft_isa.specs.declared.colour.Colour.TheVariants.{Green, Blue}
-use Rattle.ft_isa.specs.declared.basic.Base.{Base}
-use Rattle.ft_isa.specs.declared.basic.Base.TheVariants.{Int, Code}
-use Rattle.ft_isa.specs.declared.basic.Basic.{Basic}
-use Rattle.ft_isa.specs.declared.instr.Instr.{Instr}
-use Rattle.ft_isa.specs.declared.instr.Instr.TheVariants.{OpReg, OpWord, Mov, Ld, St, JmpG, JmpB, BzG, BzB, Halt, Idx}
 use Rattle.ft_types.specs.declared.object.Object.{Object}
 use Rattle.ft_types.specs.declared.object.Cell.{Cell}
 use Rattle.ft_types.specs.declared.object.Block.{Block}
 use Rattle.ft_types.specs.declared.object.CodeType.{CodeType}
 use Rattle.ft_types.specs.declared.object.RegType.{RegType}
 use Rattle.ft_types.specs.Objects.{name_of, regs_of, queue_of}
-use Rattle.ft_isa.specs.Operations.{op_code}
-use Rattle.ft_types.specs.NodeRows.{high_half, low_half, node_row}
+use Rattle.ft_types.specs.NodeRows.{node_row}
 use Rattle.ft_format.specs.declared.version.Version.{Version}
 use Rattle.ft_format.specs.Versions.{magic}
 use Rattle.ft_format.specs.Layout.{written, spelled, header_layout, cell_layout, code_layout, type_layout, reg_layout, pair_layout, subst_layout}
-
--- the code of a colour
-abbrev pub colour_code : Colour → ℕ
-colour_code Green = 0
-colour_code Blue = 1
-
--- the code of a base
-abbrev pub base_code : Base → ℕ
-base_code Int = 0
-base_code (Code t) = 1
-
--- the code type of a base, 0 for `int`
-abbrev pub base_type : Base → ℕ
-base_type Int = 0
-base_type (Code t) = t
-
--- the four bytes of a basic type as one number
-abbrev pub basic_number : Basic → ℕ
-basic_number b = b.refs * 2 ^ 24 + base_code b.base * 2 ^ 16 + base_type b.base
+use Rattle.ft_format.specs.Codes.{colour_code, base_code, base_type}
+use Rattle.ft_format.specs.InstrRecords.{instr_row}
 
 -- a cell whose name ends at this place in the name bytes
 abbrev pub cell_row : ℕ → Cell → List ℕ
@@ -68,20 +44,6 @@ queue_row q = q.0 ∷ q.1 ∷ []
 -- a block
 abbrev pub block_row : Block → List ℕ
 block_row b = b.start ∷ b.code_type ∷ []
-
--- an instruction
-abbrev pub instr_row : Instr → List ℕ
-instr_row (OpReg op rd rs rt) = 0 ∷ rd.number ∷ rs.number ∷ rt.number ∷ op_code op ∷ 0 ∷ 0 ∷ []
-instr_row (OpWord op rd rs value) = 1 ∷ rd.number ∷ rs.number ∷ colour_code value.colour ∷ op_code op ∷ high_half value.word ∷ low_half value.word ∷ []
-instr_row (Mov rd value basic) = 2 ∷ rd.number ∷ 0 ∷ colour_code value.colour ∷ basic_number basic ∷ high_half value.word ∷ low_half value.word ∷ []
-instr_row (Ld colour rd rs) = 3 ∷ rd.number ∷ rs.number ∷ colour_code colour ∷ 0 ∷ 0 ∷ 0 ∷ []
-instr_row (St colour rd rs) = 4 ∷ rd.number ∷ rs.number ∷ colour_code colour ∷ 0 ∷ 0 ∷ 0 ∷ []
-instr_row (JmpG rd) = 5 ∷ rd.number ∷ 0 ∷ 0 ∷ 0 ∷ 0 ∷ 0 ∷ []
-instr_row (JmpB rd s) = 5 ∷ rd.number ∷ 0 ∷ 1 ∷ s.first ∷ s.past ∷ s.memory ∷ []
-instr_row (BzG rz rd) = 6 ∷ rz.number ∷ rd.number ∷ 0 ∷ 0 ∷ 0 ∷ 0 ∷ []
-instr_row (BzB rz rd s) = 6 ∷ rz.number ∷ rd.number ∷ 1 ∷ s.first ∷ s.past ∷ s.memory ∷ []
-instr_row Halt = 7 ∷ 0 ∷ 0 ∷ 0 ∷ 0 ∷ 0 ∷ 0 ∷ []
-instr_row (Idx rd rs first m) = 8 ∷ rd.number ∷ rs.number ∷ 0 ∷ first ∷ 0 ∷ m ∷ []
 
 -- a substitution row
 abbrev pub subst_row : ℕ → List ℕ

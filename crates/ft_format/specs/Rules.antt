@@ -1,12 +1,13 @@
--- The rules of each record. A broken rule gives its error and its place, and the first one counts.
-use Rattle.std.specs.Prelude.{ℕ, ◌+◌, ◌/◌, ◌%◌, ◌^◌, Bool, true, false, not, ◌==◌, nat_lt, nat_le, List, [], ◌∷◌, length, Option, Some, None, if◌then◌else◌, slice_get}
+-- The rules of fields, and of the records but those of nodes and instructions. A broken rule gives its error and its
+-- place, and the first one counts.
+use Rattle.std.specs.Prelude.{ℕ, ◌+◌, Bool, true, false, not, ◌==◌, nat_lt, nat_le, List, [], ◌∷◌, length, Option, Some, None, if◌then◌else◌, slice_get}
 use Rattle.ft_static.specs.declared.node.Node.{Node}
 use Rattle.ft_static.specs.NodeRules.{is_memory}
+use Rattle.ft_format.specs.declared.version.Version.{Version}
 use Rattle.ft_format.specs.declared.object_error.ObjectError.{ObjectError}
 use Rattle.ft_format.specs.declared.object_error.ObjectError.TheVariants as errors
 use Rattle.ft_format.specs.declared.header.Header.{Header}
-use Rattle.ft_format.specs.declared.version.Version.{Version}
-use Rattle.ft_format.specs.Versions.{is_magic, version_of, last_op, last_node_kind, last_instr_kind, longest_name, most_name_bytes}
+use Rattle.ft_format.specs.Versions.{is_magic, version_of, last_op, longest_name, most_name_bytes}
 
 -- nothing if the test holds, else the error
 abbrev pub must : Bool → ObjectError → Option ObjectError
@@ -100,60 +101,6 @@ named_broken nodes scope memory at n =
     node_number_broken nodes memory at n
     next must (is_within scope (slice_get nodes n)) (errors.Index at)
 
--- the operation of a node, which only kind 2 has
-abbrev pub node_op_broken : Version → ℕ → ℕ → ℕ → Option ObjectError
-node_op_broken v at kind op = if kind == 2 then op_broken v at op else zero_broken at op
-
--- a variable: its number is below the scope
-abbrev pub variable_broken : ℕ → ℕ → ℕ → ℕ → ℕ → Option ObjectError
-variable_broken at scope a b c = must (nat_lt a scope) (errors.Index (at + 4)) next zero_broken (at + 8) b next zero_broken (at + 12) c
-
--- an operation, or a word of a memory: a node of the sort, and an integer
-abbrev pub pair_broken : List Node → Bool → ℕ → ℕ → ℕ → ℕ → ℕ → Option ObjectError
-pair_broken earlier memory at scope a b c =
-    named_broken earlier scope memory (at + 4) a
-    next named_broken earlier scope false (at + 8) b
-    next zero_broken (at + 12) c
-
--- the memory variable
-abbrev pub memory_broken : ℕ → ℕ → ℕ → ℕ → Option ObjectError
-memory_broken at a b c = zero_broken (at + 4) a next zero_broken (at + 8) b next zero_broken (at + 12) c
-
--- a memory with another word at one address
-abbrev pub upd_broken : List Node → ℕ → ℕ → ℕ → ℕ → ℕ → Option ObjectError
-upd_broken earlier at scope a b c =
-    named_broken earlier scope true (at + 4) a
-    next named_broken earlier scope false (at + 8) b
-    next named_broken earlier scope false (at + 12) c
-
--- the remainder of an integer by a length
-abbrev pub rem_broken : List Node → ℕ → ℕ → ℕ → ℕ → ℕ → Option ObjectError
-rem_broken earlier at scope a b c =
-    named_broken earlier scope false (at + 4) a
-    next some_broken 1024 (at + 8) b
-    next zero_broken (at + 12) c
-
--- the parts a, b and c of a node, by its kind; it refers to earlier nodes only
-abbrev pub parts_broken : List Node → ℕ → ℕ → ℕ → ℕ → ℕ → ℕ → Option ObjectError
-parts_broken earlier at kind scope a b c =
-    if kind == 0 then zero_broken (at + 4) a
-    else (if kind == 1 then variable_broken at scope a b c
-    else (if kind == 2 then pair_broken earlier false at scope a b c
-    else (if kind == 3 then pair_broken earlier true at scope a b c
-    else (if kind == 4 then memory_broken at a b c
-    else (if kind == 5 then upd_broken earlier at scope a b c
-    else rem_broken earlier at scope a b c)))))
-
--- node, 16 bytes, after the earlier nodes
-abbrev pub node_broken : Version → List Node → ℕ → List ℕ → Option ObjectError
-node_broken v earlier at (kind ∷ op ∷ scope ∷ pad ∷ a ∷ b ∷ c ∷ []) =
-    must (nat_le kind (last_node_kind v)) (errors.Kind at)
-    next node_op_broken v (at + 1) kind op
-    next count_broken 128 (at + 2) scope
-    next zero_broken (at + 3) pad
-    next parts_broken earlier at kind scope a b c
-node_broken v earlier at _ = None
-
 -- type, 16 bytes, after types whose register rows and queue rows end at `regs` and `queue`
 abbrev pub type_broken : Header → List Node → ℕ → ℕ → ℕ → List ℕ → Option ObjectError
 type_broken h nodes regs queue at (regs_end ∷ queue_end ∷ memory ∷ ints ∷ pad0 ∷ pad1 ∷ pad2 ∷ []) =
@@ -199,123 +146,6 @@ block_broken h previous at (start ∷ code_type ∷ []) =
     next must (nat_lt start h.instrs) (errors.Order at)
     next must (nat_lt code_type h.types) (errors.Index (at + 4))
 block_broken h previous at _ = None
-
--- v, 8 bytes in two halves, that is zero
-abbrev pub no_word_broken : ℕ → ℕ → ℕ → Option ObjectError
-no_word_broken at high low = zero_broken at high next zero_broken at low
-
--- the substitution of a blue jump or branch, where earlier ones took the rows up to `first`
-abbrev pub substitution_broken : Header → List Node → ℕ → ℕ → ℕ → ℕ → ℕ → Option ObjectError
-substitution_broken h nodes first at x past memory =
-    must (x == first) (errors.Order at)
-    next must (nat_le x past) (errors.Order (at + 4))
-    next must (nat_le past h.substs) (errors.Order (at + 4))
-    next must (nat_le past (x + 128)) (errors.Count (at + 4))
-    next node_number_broken nodes true (at + 8) memory
-
--- x and v of a jump or branch: zero for a green one, a substitution for a blue one
-abbrev pub transfer_broken : Header → List Node → ℕ → ℕ → ℕ → ℕ → ℕ → ℕ → Option ObjectError
-transfer_broken h nodes first at colour x high low =
-    if colour == 0 then zero_broken at x next no_word_broken (at + 4) high low
-    else substitution_broken h nodes first at x high low
-
--- the basic type that x spells
-abbrev pub basic_number_broken : ℕ → ℕ → ℕ → Option ObjectError
-basic_number_broken types at x = basic_broken types at (x / 2 ^ 24) (x / 2 ^ 16 % 2 ^ 8) (x % 2 ^ 16)
-
--- `op rd, rs, rt`
-abbrev pub op_reg_broken : Version → ℕ → ℕ → ℕ → ℕ → ℕ → ℕ → ℕ → Option ObjectError
-op_reg_broken v at a b c x high low =
-    register_broken (at + 1) a
-    next register_broken (at + 2) b
-    next register_broken (at + 3) c
-    next op_broken v (at + 4) x
-    next no_word_broken (at + 8) high low
-
--- `op rd, rs, c v`
-abbrev pub op_word_broken : Version → ℕ → ℕ → ℕ → ℕ → ℕ → Option ObjectError
-op_word_broken v at a b c x =
-    register_broken (at + 1) a
-    next register_broken (at + 2) b
-    next colour_broken (at + 3) c
-    next op_broken v (at + 4) x
-
--- `mov rd, c v`
-abbrev pub mov_broken : ℕ → ℕ → ℕ → ℕ → ℕ → ℕ → Option ObjectError
-mov_broken types at a b c x =
-    register_broken (at + 1) a
-    next zero_broken (at + 2) b
-    next colour_broken (at + 3) c
-    next basic_number_broken types (at + 4) x
-
--- `ld_c rd, rs` and `st_c rd, rs`
-abbrev pub access_broken : ℕ → ℕ → ℕ → ℕ → ℕ → ℕ → ℕ → Option ObjectError
-access_broken at a b c x high low =
-    register_broken (at + 1) a
-    next register_broken (at + 2) b
-    next colour_broken (at + 3) c
-    next zero_broken (at + 4) x
-    next no_word_broken (at + 8) high low
-
--- `jmp_c rd`
-abbrev pub jump_broken : Header → List Node → ℕ → ℕ → ℕ → ℕ → ℕ → ℕ → ℕ → ℕ → Option ObjectError
-jump_broken h nodes first at a b c x high low =
-    register_broken (at + 1) a
-    next zero_broken (at + 2) b
-    next colour_broken (at + 3) c
-    next transfer_broken h nodes first (at + 4) c x high low
-
--- `bz_c rz, rd`
-abbrev pub branch_broken : Header → List Node → ℕ → ℕ → ℕ → ℕ → ℕ → ℕ → ℕ → ℕ → Option ObjectError
-branch_broken h nodes first at a b c x high low =
-    register_broken (at + 1) a
-    next register_broken (at + 2) b
-    next colour_broken (at + 3) c
-    next transfer_broken h nodes first (at + 4) c x high low
-
--- `halt`
-abbrev pub halt_broken : ℕ → ℕ → ℕ → ℕ → ℕ → ℕ → ℕ → Option ObjectError
-halt_broken at a b c x high low =
-    zero_broken (at + 1) a
-    next zero_broken (at + 2) b
-    next zero_broken (at + 3) c
-    next zero_broken (at + 4) x
-    next no_word_broken (at + 8) high low
-
--- v, 8 bytes in two halves, that is the length of a run from cell x
-abbrev pub run_broken : ℕ → ℕ → ℕ → ℕ → ℕ → Option ObjectError
-run_broken cells at x high low =
-    must (high == 0) (errors.Count at)
-    next some_broken 1024 at low
-    next must (nat_le (x + low) cells) (errors.Index at)
-
--- `idx rd, rs, first, length`
-abbrev pub index_broken : ℕ → ℕ → ℕ → ℕ → ℕ → ℕ → ℕ → ℕ → Option ObjectError
-index_broken cells at a b c x high low =
-    register_broken (at + 1) a
-    next register_broken (at + 2) b
-    next zero_broken (at + 3) c
-    next must (nat_lt x cells) (errors.Index (at + 4))
-    next run_broken cells (at + 8) x high low
-
--- the fields a, b, c, x and v of an instruction, by its kind
-abbrev pub fields_broken : Header → List Node → ℕ → ℕ → ℕ → ℕ → ℕ → ℕ → ℕ → ℕ → ℕ → Option ObjectError
-fields_broken h nodes first at kind a b c x high low =
-    if kind == 0 then op_reg_broken (version_of h) at a b c x high low
-    else (if kind == 1 then op_word_broken (version_of h) at a b c x
-    else (if kind == 2 then mov_broken h.types at a b c x
-    else (if nat_le kind 4 then access_broken at a b c x high low
-    else (if kind == 5 then jump_broken h nodes first at a b c x high low
-    else (if kind == 6 then branch_broken h nodes first at a b c x high low
-    else (if kind == 7 then halt_broken at a b c x high low
-    else index_broken h.cells at a b c x high low))))))
-
--- instruction, 16 bytes, where earlier substitutions took the rows up to `first`
-abbrev pub instr_broken : Header → List Node → ℕ → ℕ → List ℕ → Option ObjectError
-instr_broken h nodes first at (kind ∷ a ∷ b ∷ c ∷ x ∷ high ∷ low ∷ []) =
-    must (nat_le kind (last_instr_kind (version_of h))) (errors.Kind at)
-    next fields_broken h nodes first at kind a b c x high low
-instr_broken h nodes first at _ = None
 
 -- substitution row, 4 bytes
 abbrev pub subst_broken : List Node → ℕ → List ℕ → Option ObjectError

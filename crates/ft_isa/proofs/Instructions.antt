@@ -30,7 +30,7 @@ leading_is_free i h = by_kind (kind_of i) h
     by_kind (store colour rd rs) h = refl
     by_kind (write r f w) h = f
 
--- and one that is fixed does not lead
+-- an instruction that is fixed does not lead
 pub fixed_never_leads : (i : Instr) → is_fixed i ≡ true → is_leading i ≡ false
 fixed_never_leads i h = by_kind (kind_of i) h
   where

@@ -44,7 +44,7 @@ pub op_back : (o : Op) → op_of (op_code o) ≡ o
 op_back Add = refl
 op_back o = refl
 
--- and its code is at most the greatest one
+-- the code of an operation is at most the greatest one
 pub op_small : (o : Op) → op_code o ≤ last_op_code
 op_small Add = omega arith
 op_small o = omega arith
@@ -84,7 +84,7 @@ op_sound w =
     (chosen IsItsWord (codes "shr") w _ _ (known IsItsWord (codes "shr") Shr refl)
     (none_is (IsItsWord w)))))))))))
 
--- and the word of an operation is read as it
+-- the word of an operation is read as the operation
 pub op_complete : (o : Op) → op_in (op_word o) ≡ Some o
 unfolding op_in
 op_complete Add = refl

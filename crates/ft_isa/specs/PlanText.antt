@@ -1,4 +1,4 @@
--- The texts of strikes and of wild answers, by what is written, and where a text stops being one.
+-- The texts of strikes and of wild answers, by how they are written, and where other texts are refused.
 use Rattle.std.specs.Prelude.{◌≡◌, ℕ, ◌<◌, ◌≤◌, List, [], ◌∷◌, ◌++◌, length, take, decimal, codes}
 use Rattle.std.specs.List.{AllByRecursion}
 use Rattle.ft_isa.specs.Words.{IsWord}

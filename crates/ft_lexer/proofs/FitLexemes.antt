@@ -167,7 +167,7 @@ sign_fits : (o : Option Kind) (at b : ℕ) (rest : Scan) → IsPlainSign o → A
 sign_fits None at b rest p h = wrong_fits
 sign_fits (Some k) at b rest p h = token_fits (plain_fits k (b ∷ []) at p) h
 
--- so does what ends
+-- what ends before a fit scan leaves a fit scan
 ends_fits : (m : Mode) (rest : Scan) → MayEnd m → AreFit rest → AreFit (ends m rest)
 ends_fits gap rest m h = h
 ends_fits comment rest m h = h
@@ -202,14 +202,14 @@ begins_fits at b after h =
     (h (number at (b ∷ [])) tt)
     (sign_from_fits (pair_kind b) at b after (pair_kind_plain b) h)
 
--- so does a byte after a name
+-- a byte after a name leaves a fit scan
 in_name_fits : (goes long : Bool) (at : ℕ) (more end : Scan) → (goes ≡ true → long ≡ false → AreFit more) → AreFit end →
     AreFit (in_name goes long at more end)
 in_name_fits false long at more end h k = k
 in_name_fits true false at more end h k = h refl refl
 in_name_fits true true at more end h k = wrong_fits
 
--- so does each byte
+-- each byte leaves a fit scan
 reads_fits : (m : Mode) (at b : ℕ) (after : Mode → Scan) (other : Scan) → MayEnd m →
     ((n : Mode) → MayEnd n → AreFit (after n)) → AreFit other → AreFit (reads m at b after other)
 reads_fits gap at b after other m h k = k

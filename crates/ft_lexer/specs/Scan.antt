@@ -87,13 +87,13 @@ scan_from m at (b ∷ bs) = reads m at b (λ n. scan_from n (at + 1) bs) (begins
 abbrev pub scan : List ℕ → Scan
 scan text = scan_from gap 0 text
 
--- what a call returned, before the scan after it
+-- the scan that begins with what a call returned
 abbrev pub told : Option (Result Token LexError) → Scan → Scan
 told None rest = over
 told (Some (Err e)) rest = wrong e
 told (Some (Ok t)) rest = token (lexeme t) rest
 
--- a token before others
+-- a token before the others of a scan
 abbrev pub with_token : Lexeme → Result (List Lexeme) LexError → Result (List Lexeme) LexError
 with_token t (Ok ts) = Ok (t ∷ ts)
 with_token t (Err e) = Err e

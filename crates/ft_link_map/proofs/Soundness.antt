@@ -162,12 +162,12 @@ fair_next m count Bad h may new = absurd (true≢false (sym may))
 
 -- THE WHOLE MAP
 
--- nothing was found, so the test passed and nothing was found behind
+-- nothing was found, so the test passed and nothing was found after it
 passed : (b : Bool) (o : Option ℕ) (n : ℕ) → (if b then o else Some n) ≡ None → (b ≡ true) × (o ≡ None)
 passed true o n h = (refl, h)
 passed false o n h = absurd cc
 
--- nothing was found, so the test did not pass and nothing was found behind
+-- nothing was found, so the test did not pass and nothing was found after it
 not_passed : (b : Bool) (o : Option ℕ) (n : ℕ) → (if b then Some n else o) ≡ None → (b ≡ false) × (o ≡ None)
 not_passed true o n h = absurd cc
 not_passed false o n h = (refl, h)

@@ -52,7 +52,7 @@ answer_step m twice count l ls may =
     ∙ ap (λ o. answered (first_bad after (suc count) ls) o (with_lines after (suc count) ls))
     (sooner_step twice (repeats m l) (suc count) (first_twice after (suc count) ls))
 
--- what is left says something of the line and of those behind it
+-- what is left says something of the line and of those after it
 step_by : (all : List (List ℕ)) (m : LinkMap) (twice : Option ℕ) (count : ℕ) (line : List ℕ) (after : List (List ℕ))
     (l : MapLine) (said rest : List MapLine) → Says line l → may_stand m l ≡ true → AllZip Says (line ∷ after) rest →
     answer_of said ≡ answer_from m twice count rest
@@ -102,12 +102,12 @@ taken all d m twice r count left line after l h e says may holds first =
           Leads all (with_line m (count + 1) l) o (count + 1) after) (sym first) leads,
     )
 
--- the turn of a line that repeats
+-- the effect of a line that repeats
 first_again : (twice : Option ℕ) (number : ℕ) → first_of twice Again number ≡ next_twice twice true number
 first_again (Some n) number = refl
 first_again None number = refl
 
--- the turn of one that does not
+-- the effect of one that does not
 first_on : (twice : Option ℕ) (number : ℕ) → first_of twice On number ≡ next_twice twice false number
 first_on (Some n) number = refl
 first_on None number = refl

@@ -12,11 +12,11 @@ use Rattle.ft_link_map.specs.declared.draft.Turn.TheVariants.{On, Again, Stuck}
 use Rattle.ft_link_map.specs.MapAnswers.{last_module, with_line, may_stand, has_name, has_block, repeats}
 use Rattle.ft_link_map.specs.MapLines.{MapLine}
 
--- whether the names have this one
+-- whether this name is among the names
 unfoldable pub knows_name : Names → List ℕ → Bool
 knows_name names text = contains_by (λ k. slice_cmp nat_cmp text k.now) names.texts
 
--- whether the blocks have this one
+-- whether this block is among the blocks
 unfoldable pub knows_block : Blocks → ℕ → ℕ → Bool
 knows_block blocks m b = contains_by (λ k. ordering_then (nat_cmp m k.0) (nat_cmp b k.1)) blocks.places
 
@@ -30,12 +30,12 @@ pub record Holds (d : Draft) (m : maps.LinkMap) : Type 0 where
   pub exported : (a b : ℕ) → knows_block d.exported a b ≡ has_block m.exports a b
   pub imported : (a b : ℕ) → knows_block d.imported a b ≡ has_block m.imports a b
 
--- what is known of the last module
+-- the number of the last module, if there is one
 abbrev pub TellsModule : Option ℕ → maps.LinkMap → Type 0
 TellsModule None m = nat_lt 0 (length m.files) ≡ false
 TellsModule (Some number) m = (nat_lt 0 (length m.files) ≡ true) × (number ≡ last_module m)
 
--- the turn of a line that is allowed there
+-- the effect of a line that is allowed there
 abbrev pub turn_of : Bool → Turn
 turn_of again = if again then Again else On
 
@@ -50,7 +50,7 @@ abbrev pub Ends : Option maps.LinkMap → maps.LinkMap → Type 0
 Ends None m = nat_lt 0 (length m.files) ≡ false
 Ends (Some map) m = (nat_lt 0 (length m.files) ≡ true) × (map ≡ m)
 
--- the first line that repeats, if the next line makes this turn
+-- the first line that repeats, once the line with this number has had this effect
 abbrev pub first_of : Option ℕ → Turn → ℕ → Option ℕ
 first_of (Some first) turn number = Some first
 first_of None On number = None

@@ -39,7 +39,7 @@ pub(crate) struct Draft<'t> {
     imported: Blocks,
 }
 
-/// The turn of a line that is allowed there.
+/// The effect of a line that is allowed there.
 fn turn_of(again: bool) -> Turn
     ensures { result ≡ turn_of again }
 {

@@ -12,7 +12,7 @@ use crate::map_error::MapError;
 use ft_text::read_line;
 use std::alloc::Global;
 
-/// The first line that repeats, if the next line makes this turn.
+/// The first line that repeats, once the line with this number has had this effect.
 fn first_of(twice: Option<u32>, turn: Turn, number: u32) -> Option<u32>
     ensures { result ≡ first_of twice turn number }
 {

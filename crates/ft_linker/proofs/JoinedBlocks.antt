@@ -188,7 +188,7 @@ refusal_first x y (Missing l) h = ap (λ z. option_or z y) h
 refusal_first x y (Types l) h = ap (λ z. option_or z y) h
 refusal_first x y NoMemory h = tt
 
--- and if nothing comes before
+-- what an error says stays if nothing comes before
 pub refusal_after : (x y : Option LinkRefusal) (e : LinkError) → x ≡ None → IsRefusalOf y e →
     IsRefusalOf (option_or x y) e
 refusal_after x y e n h = subst (λ z. IsRefusalOf (option_or z y) e) (sym n) h

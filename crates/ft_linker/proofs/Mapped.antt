@@ -1,4 +1,4 @@
--- Lists that are mapped element by element, behind what was there.
+-- Lists that are mapped element by element, after what was there.
 use Rattle.std.proofs.Common.{◌≡◌, ℕ, zero, suc, ◌+◌, List, [], ◌∷◌, ◌++◌, take, map, length, ◌<◌, get_or, Some}
 use Rattle.std.proofs.Common.{slice_get, sym, ap, ◌∙◌, append_assoc, arith}
 use Rattle.std.proofs.lemmas.Option.{slice_get-get_or}

@@ -8,7 +8,7 @@ use Rattle.ft_types.specs.declared.object.Block.{Block}
 use Rattle.ft_types.specs.Objects.{start_of, block_start, block_end}
 use Rattle.ft_types.specs.Spellable.{AreBlocks}
 
--- and the next one after it
+-- a block begins before the next one
 pub block_next : (end least : ℕ) (bs : List Block) (n : ℕ) (y z : Block) → AreBlocks end least bs → slice_get bs n
     ≡ Some y → slice_get bs (suc n) ≡ Some z → y.start < z.start
 block_next end least [] n y z h e f = cc

@@ -34,7 +34,7 @@ pub record HasBoth (modules : List Object) (j : Join) : Type 0 where
 abbrev pub is_from : ℕ → Link → Bool
 is_from entry l = (l.module_of == 0) && (l.block == entry)
 
--- these modules are laid like this, and the numbers of all nodes are these
+-- these are the tables of these modules, and these are the numbers of all nodes
 pub record AreReady (modules : List Object) (l : Laid) (numbers : List ℕ) : Type 0 where
   pub can : CanBeLaid modules
   pub tables : AreLaid modules l

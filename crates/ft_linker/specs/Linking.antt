@@ -1,4 +1,4 @@
--- Modules that are added, and the object that they link to.
+-- Modules that are added, and the object that they are linked into.
 use Rattle.std.specs.Prelude.{◌≡◌, ℕ, List, [], ◌∷◌, length, Option, None, All}
 use Rattle.ft_isa.specs.declared.plan.Strike.{Strike}
 use Rattle.ft_isa.specs.declared.plan.Wild.{Wild}

@@ -25,7 +25,7 @@ pub record HasFew (t : Totals) : Type 0 where
   pub instrs : t.instrs ≤ 65536
   pub substs : t.substs ≤ 1048576
 
--- whether they are
+-- whether the totals are within their limits
 abbrev pub has_few : Totals → Bool
 has_few t =
     nat_le t.nodes 1048576

@@ -19,7 +19,7 @@ pub record EndsAt (bs : Blocks) (n c : ℕ) (p : Place) (s : State) (f : FlowSta
   pub many : s.left ≤ t.left + taken
   pub like : Like n p t end
 
--- the same of a run that is cut: it is somewhere, with the outputs
+-- the same for a run that is cut: it is somewhere, with the outputs
 pub record CutsAt (bs : Blocks) (c : ℕ) (s : State) (f : FlowState) (t : State) : Type 0 where
   pub end : FlowState
   pub taken : ℕ
@@ -87,12 +87,12 @@ then_run bs n c p q s f (Ended t) go r le k = prepend bs n c 0 r.taken q s t f r
     (omega (arith, r.few)) (omega (arith, r.many)) (k t r.end le r.like)
 then_run bs n c p q s f (Cut t) go r le k = r
 
--- the same end
+-- the same for an equal place
 pub ends_at : (bs : Blocks) (n c : ℕ) (p q : Place) (s : State) (f : FlowState) (r : Outcome) → p ≡ q →
     Runs bs n c p s f r → Runs bs n c q s f r
 ends_at bs n c p q s f r e h = subst (λ x. Runs bs n c x s f r) e h
 
--- nothing of `Like` is about the work or the loops
+-- nothing in `Like` is about the work
 pub like_evaluated : (n : ℕ) (p : Place) (e : Expression Slot) (s : State) (f : FlowState) → Like n p s f →
     Like n p (evaluated e s) f
 like_evaluated n p e s f l = record {
@@ -104,7 +104,7 @@ like_evaluated n p e s f l = record {
   running = l.running;
 }
 
--- nor of that of an index and a value
+-- the same for the work of an index and a value
 pub like_both : (n : ℕ) (p : Place) (i e : Expression Slot) (s : State) (f : FlowState) → Like n p s f →
     Like n p (evaluated_both i e s) f
 like_both n p i e s f l = record {
@@ -116,7 +116,7 @@ like_both n p i e s f l = record {
   running = l.running;
 }
 
--- nor about the turns that are left
+-- nothing in `Like` is about the turns that are left
 pub like_left : (n k : ℕ) (p : Place) (s : State) (f : FlowState) → Like n p s f → Like n p (with_left k s) f
 like_left n k p s f l = record {
   vars = l.vars;

@@ -61,7 +61,7 @@ act_begins (Exit q spare to) f = zero_begins (f.pairs q) f.out (goes_to to (with
 act_begins (Go spare to) f = begins_itself f.out
 act_begins Stop f = begins_itself f.out
 
--- also if there is none
+-- a step keeps the outputs before it, and so does a missing step
 act_if_begins : (b : Bool) (o : Option Step3) (f : FlowState) → Begins f.out (act_if b o f).out
 act_if_begins true o f = begins_itself f.out
 act_if_begins false None f = begins_itself f.out
@@ -82,11 +82,11 @@ module _ (bs : Blocks) (f : FlowState) where
   pub done_stays : (j k : ℕ) → j ≤ k → (steps bs j f).done ≡ true → steps bs k f ≡ steps bs j f
   done_stays = stays at IsDone done_stops
 
-  -- it is done once
+  -- a run has at most one state in which it is done
   pub done_once : (j k : ℕ) → (steps bs j f).done ≡ true → (steps bs k f).done ≡ true → steps bs j f ≡ steps bs k f
   done_once = ends_once at IsDone done_stops
 
-  -- and before that it is not
+  -- a run that is not done yet is done only later
   pub done_after : (j k : ℕ) → ((steps bs j f).done ≡ true → ⊥) → (steps bs k f).done ≡ true → j < k
   done_after = goes_before at IsDone done_stops
 
@@ -150,7 +150,7 @@ begun x o [] = record { rest = []; others = []; is = ap (λ l. l ∷ []) (sym (a
 begun x o (i ∷ is) = let b = begun_by x o i is (is_last i) (begun x (o ++ i ∷ []) is) in
     record { rest = b.0; others = b.1; is = b.2 }
 
--- the same of an open block that ends in a step
+-- the same for an open block that ends in a step
 begun_after : (o : List Step3) (i : Step3) (is : List Step3) → Begun (o ++ i ∷ []) is
 begun_after [] i is = begun i [] is
 begun_after (x ∷ o) i is = begun x (o ++ i ∷ []) is

@@ -49,7 +49,7 @@ expression_size (operation o a b) t =
       expression_size b (t + 1),
     )
 
--- so does the step that writes
+-- the step that writes becomes at most as many instructions as the slot weighs
 write_size : (n : ℕ) (x : Slot) → size (write n x) ≤ slot_weight x
 write_size n (Var x) = omega arith
 write_size n (Cell k) = omega arith

@@ -280,7 +280,7 @@ module _ (n m : ℕ) (blocks : ℕ) where
   flat_zeros zero = tt
   flat_zeros (suc j) = flat-append no_pair (zeros j) (Put j 0 ∷ []) (flat_zeros j) ((omega arith, tt), tt)
 
-  -- and leave their pairs known
+  -- the zeros at the start leave their pairs known
   zeros_known : (j : ℕ) → Knows j (walk no_pair (zeros j))
   zeros_known zero x lt = absurd (omega arith)
   zeros_known (suc j) x lt =

@@ -37,19 +37,19 @@ on p = record { block = p.block; index = suc p.index }
 abbrev pub first : ℕ → Place
 first b = record { block = b; index = 0 }
 
--- at the next step of the block
+-- the state at the next step of the block
 abbrev pub goes_on : FlowState → FlowState
 goes_on f = record f { place = on f.place }
 
--- at a block's first step
+-- the state at a block's first step
 abbrev pub goes_to : ℕ → FlowState → FlowState
 goes_to b f = record f { place = first b }
 
--- with another word in a pair
+-- the state with another word in a pair
 abbrev pub with_pair : ℕ → ℕ → FlowState → FlowState
 with_pair p v f = record f { pairs = λ q. cond (q == p) v (f.pairs q) }
 
--- with another word in a cell, which is an output
+-- the state with another word in a cell, which is an output
 abbrev pub with_cell : ℕ → ℕ → FlowState → FlowState
 with_cell c v f = record f { cells = slice_set f.cells c v; out = f.out ++ record { addr = cell_address c; value = v } ∷ [] }
 
@@ -89,7 +89,7 @@ abbrev pub steps : Blocks → ℕ → FlowState → FlowState
 steps bs zero f = f
 steps bs (suc k) f = steps bs k (flow_step bs f)
 
--- at the start: 0 in each pair, and the initial words in the cells
+-- the state at the start: 0 in each pair, and the initial words in the cells
 abbrev pub flow_start : List ℕ → FlowState
 flow_start inits = record { pairs = λ q. 0; cells = inits; place = first 0; out = []; done = false }
 

@@ -44,23 +44,23 @@ StepFits cells blocks (Exit q spare to) = IsTarget blocks to
 StepFits cells blocks (Go spare to) = IsTarget blocks to
 StepFits cells blocks Stop = Unit {0}
 
--- which pairs are known
+-- whether each pair is known
 abbrev pub Known : Type 0
 Known = ℕ → Bool
 
--- no pair
+-- no pair is known
 abbrev pub no_pair : Known
 no_pair = λ q. false
 
--- the pairs below n
+-- the pairs below n are known
 abbrev pub pairs_below : ℕ → Known
 pairs_below n = λ q. nat_lt q n
 
--- with one more pair
+-- the known pairs with one more
 abbrev pub learn : ℕ → Known → Known
 learn p k = λ q. cond (q == p) true (k q)
 
--- without a pair
+-- the known pairs without one
 abbrev pub forget : ℕ → Known → Known
 forget p k = λ q. cond (q == p) false (k q)
 

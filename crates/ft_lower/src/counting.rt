@@ -23,8 +23,8 @@ pub fn count_blocks(counts: &mut Vec<u32>, all: &[Stmt<Slot>]) -> Result<u32, Al
     Ok(blocks)
 }
 
-/// How many blocks a statement begins: a loop those of its test and of what follows it, a choice those of its second
-/// side and of what follows it.
+/// How many blocks a statement begins. A loop begins one for its test and one for what follows it, a choice one for its
+/// second side and one for what follows it. The blocks that bodies and sides begin are counted too.
 #[tactic(auto, using(crate::proofs::Forms::forms))]
 #[cycle(count)]
 fn count_statement(counts: &mut Vec<u32>, s: &Stmt<Slot>) -> Result<u32, AllocError>

@@ -100,8 +100,8 @@ fn next_count(counts: &mut Vec<u32>) -> u32
     counts.pop().unwrap()
 }
 
-/// The steps of statements that begin within a block, if the variables' pairs are those below the spare, and the stack
-/// has how many blocks their bodies begin. Returns the block in which they end.
+/// The steps of statements that begin within a block, if the variables' pairs are those below the spare, and the top
+/// of the stack has the numbers of blocks that their bodies begin. Returns the block in which they end.
 #[cycle(emit)]
 fn emit_statements(
     steps: &mut Vec<Step3>,
@@ -124,8 +124,8 @@ fn emit_statements(
     Ok(at)
 }
 
-/// The steps of a statement that begin within a block, if the variables' pairs are those below the spare, and the stack
-/// has how many blocks its bodies begin. Returns the block in which they end.
+/// The steps of a statement that begin within a block, if the variables' pairs are those below the spare, and the top
+/// of the stack has the numbers of blocks that its bodies begin. Returns the block in which they end.
 #[tactic(auto, using(crate::proofs::Forms::forms))]
 #[cycle(emit)]
 fn emit_statement(

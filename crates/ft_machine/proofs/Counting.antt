@@ -33,7 +33,7 @@ few_more n xs x before =
     let few = few_of x in
     omega (arith, before, long, few)
 
--- a step has one output at the most
+-- each step has at most one output
 pub span_few : (o : Object) (n : ℕ) (s : State) (w : List Wild) → length (span o n s w).outputs ≤ n
 unfolding span
 span_few o zero s w = omega arith

@@ -1,7 +1,7 @@
 -- Equal instructions.
-use Rattle.std.proofs.Common.{◌≡◌, Bool, true, false, ◌&&◌, Option, Some, None, refl, ap, sym, ◌∙◌, Decides, eqb}
+use Rattle.std.proofs.Common.{◌≡◌, Bool, true, false, ◌&&◌, Option, Some, None, refl, ap, sym, ◌∙◌, Decides, eqb, arith}
 use Rattle.std.specs.Option.{option_eq}
-use Rattle.std.proofs.lemmas.Bool.Decides.{Decides-eqb, Decides-like}
+use Rattle.std.proofs.lemmas.Bool.Decides.{nat_tests, Decides-eqb, Decides-like}
 use denote.Enum.Bare.{sameb}
 use Rattle.ft_isa.specs.contracts.colour.Colour as the_colour
 use Rattle.ft_isa.specs.declared.colour.Coloured.{Coloured}
@@ -12,7 +12,7 @@ use Rattle.ft_isa.specs.contracts.basic.BasePartialEq.TheImpl as base
 use Rattle.ft_isa.specs.declared.instr.Subst.{Subst}
 use Rattle.ft_isa.specs.declared.reg.Reg.{Reg}
 use Rattle.ft_isa.specs.declared.instr.Instr.{Instr}
-use Rattle.ft_isa.specs.declared.instr.Instr.TheVariants.{OpReg, OpWord, Mov, Ld, St, JmpG, JmpB, BzG, BzB, Halt, Idx}
+use Rattle.ft_isa.specs.declared.instr.Instr.TheVariants.{Halt}
 use Rattle.ft_isa.specs.contracts.instr.InstrPartialEq.TheImpl as same
 use Rattle.ft_isa.specs.Registers.{reg_of}
 use Rattle.ft_isa.proofs.Registers.{reg_of-number}
@@ -65,32 +65,30 @@ subst_decides a b = and3 _ _ _ (Decides-eqb a.first b.first) (Decides-eqb a.past
     (λ r. ap (λ (y : Subst). y.first) r) (λ r. ap (λ (y : Subst). y.past) r) (λ r. ap (λ (y : Subst). y.memory) r)
 
 pub instr_decides : (a b : Instr) → Decides (same.eq-value.it a b) (a ≡ b)
-instr_decides (OpReg a0 a1 a2 a3) (OpReg b0 b1 b2 b3) =
-    and4 _ _ _ _ (op_decides a0 b0) (reg_decides a1 b1) (reg_decides a2 b2) (reg_decides a3 b3)
-    (λ e f g h. cc) (λ r. cc) (λ r. cc) (λ r. cc) (λ r. cc)
-instr_decides (OpWord a0 a1 a2 a3) (OpWord b0 b1 b2 b3) =
-    and4 _ _ _ _ (op_decides a0 b0) (reg_decides a1 b1) (reg_decides a2 b2) (coloured_decides a3 b3)
-    (λ e f g h. cc) (λ r. cc) (λ r. cc) (λ r. cc) (λ r. cc)
-instr_decides (Mov a0 a1 a2) (Mov b0 b1 b2) =
-    and3 _ _ _ (reg_decides a0 b0) (coloured_decides a1 b1) (basic_decides a2 b2) (λ e f g. cc) (λ r. cc) (λ r.
-    cc) (λ r. cc)
-instr_decides (Ld a0 a1 a2) (Ld b0 b1 b2) =
-    and3 _ _ _ (colour_decides a0 b0) (reg_decides a1 b1) (reg_decides a2 b2) (λ e f g. cc) (λ r. cc) (λ r. cc) (λ r.
-    cc)
-instr_decides (St a0 a1 a2) (St b0 b1 b2) =
-    and3 _ _ _ (colour_decides a0 b0) (reg_decides a1 b1) (reg_decides a2 b2) (λ e f g. cc) (λ r. cc) (λ r. cc) (λ r.
-    cc)
-instr_decides (JmpG a0) (JmpG b0) = Decides-like _ (λ e. ap JmpG e) (λ r. cc) (reg_decides a0 b0)
-instr_decides (JmpB a0 a1) (JmpB b0 b1) =
-    and2 _ _ (reg_decides a0 b0) (subst_decides a1 b1) (λ e f. cc) (λ r. cc) (λ r. cc)
-instr_decides (BzG a0 a1) (BzG b0 b1) = and2 _ _ (reg_decides a0 b0) (reg_decides a1 b1) (λ e f. cc) (λ r. cc) (λ r. cc)
-instr_decides (BzB a0 a1 a2) (BzB b0 b1 b2) =
-    and3 _ _ _ (reg_decides a0 b0) (reg_decides a1 b1) (subst_decides a2 b2) (λ e f g. cc) (λ r. cc) (λ r. cc) (λ r. cc)
 instr_decides Halt Halt = (λ t. refl, λ e. refl)
-instr_decides (Idx a0 a1 a2 a3) (Idx b0 b1 b2 b3) =
-    and4 _ _ _ _ (reg_decides a0 b0) (reg_decides a1 b1) (Decides-eqb a2 b2) (Decides-eqb a3 b3)
-    (λ e f g h. cc) (λ r. cc) (λ r. cc) (λ r. cc) (λ r. cc)
-instr_decides a b = (λ t. absurd (cc), λ e. absurd (cc))
+instr_decides a Halt = (λ t. absurd (cc), λ e. absurd (cc))
+instr_decides a b = (
+  λ t. grind (
+    arith,
+    nat_tests,
+    op_decides,
+    colour_decides,
+    reg_decides,
+    coloured_decides,
+    basic_decides,
+    subst_decides,
+  ),
+  λ e. grind (
+    arith,
+    nat_tests,
+    op_decides,
+    colour_decides,
+    reg_decides,
+    coloured_decides,
+    basic_decides,
+    subst_decides,
+  ),
+)
 
 pub fetched_decides : (a b : Option Instr) → Decides (option_eq same.eq-value.it a b) (a ≡ b)
 fetched_decides None None = (λ t. refl, λ e. refl)

@@ -58,7 +58,7 @@ told_effect Detected = stepped.Detected
 pub record Does (t : State → List Wild → Stepping) (old new : Bank) (effect : Effect) (wild left : List Wild) : Type 0 where
   pub does : (green blue : ℕ) (f : Option Instr) → t (doing old green blue f) wild ≡ record { state = followed effect new green blue f; wild = left; output = put_out effect }
 
--- and it uses no answer to wild loads, whatever they are
+-- the same for a step that uses no answer to wild loads, whatever the answers are
 pub record DoesQuietly (t : State → List Wild → Stepping) (old new : Bank) (effect : Effect) : Type 0 where
   pub does : (green blue : ℕ) (f : Option Instr) (wild : List Wild) → t (doing old green blue f) wild ≡ record { state = followed effect new green blue f; wild = wild; output = put_out effect }
 

@@ -40,7 +40,7 @@ goes_on Refused = false
 abbrev pub GivesLast : (ℕ → List Output) → ℕ → Type 0
 GivesLast outputs n = (j : ℕ) × ((output : Output) × ((n ≡ j + 1) × (outputs n ≡ outputs j ++ output ∷ [])))
 
--- steps that end because the outlet does not go on end with an output
+-- if steps end because the outlet does not go on, the last of them gave an output
 abbrev pub EndsWith : Pause → (ℕ → List Output) → ℕ → Type 0
 EndsWith Running outputs n = Unit {0}
 EndsWith Done outputs n = Unit {0}

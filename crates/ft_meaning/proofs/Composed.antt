@@ -41,7 +41,7 @@ runs_from go whole f names r q before after (Err stops.Cut) e h = λ first o w i
 runs_from go whole f names r q before after (Err stops.WriteFault) e h = λ first o w is.
     subst (λ x. BreaksOff (output_lines names (outputs x)) first after) (sym (e o w)) (h first o (f w) is)
 
--- what is put out before stays put out
+-- what was output before stays output
 then_begins : (r : Outcome) (rest : State → Outcome) → ((s : State) → Grows s (state_of (rest s))) →
     Begins (outputs r) (outputs (then_do r rest))
 then_begins (Ended s) rest g = (g s).out

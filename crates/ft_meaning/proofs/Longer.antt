@@ -12,7 +12,7 @@ use Rattle.ft_meaning.specs.Meaning.{evaluated_both, assigned, with_left, then_d
 use Rattle.ft_meaning.specs.Meaning.{start, meaning}
 use Rattle.ft_meaning.specs.Begins.{Begins}
 
--- an ended run is the same but for the turns that are left over, and the outputs of a cut one are a prefix of the
+-- an ended run is the same except for the turns that are left over, and the outputs of a cut one are a prefix of the
 -- other's
 abbrev pub Longer : ℕ → Outcome → Outcome → Type 0
 Longer d (Ended s) r = r ≡ Ended (with_left (s.left + d) s)

@@ -57,22 +57,22 @@ value (name s) vars cells = slot_value s vars cells
 value (indexed s i) vars cells = slice_index cells (indexed_cell s (value i vars cells))
 value (operation o a b) vars cells = apply o (value a vars cells) (value b vars cells)
 
--- after an expression was evaluated for an assignment or a test
+-- the state after an expression was evaluated for an assignment or a test
 abbrev pub evaluated : Expression Slot → State → State
 evaluated e s = record s { work = s.work + (expression_nodes e + 1) }
 
--- after an index and an expression were evaluated for an assignment
+-- the state after an index and an expression were evaluated for an assignment
 abbrev pub evaluated_both : Expression Slot → Expression Slot → State → State
 evaluated_both i e s = record s { work = s.work + (expression_nodes i + expression_nodes e + 1) }
 
--- after a word was assigned; an assignment to a cell is an output, even if the word is unchanged; a whole array cannot
--- be assigned
+-- the state after a word was assigned; an assignment to a cell is an output, even if the word is unchanged; a whole
+-- array cannot be assigned
 abbrev pub assigned : Slot → ℕ → State → State
 assigned (Var x) v s = record s { vars = slice_set s.vars x v }
 assigned (Run first length) v s = s
 assigned (Cell k) v s = record s { cells = slice_set s.cells k v; out = s.out ++ record { addr = cell_address k; value = v } ∷ [] }
 
--- with this many turns left
+-- the state with this many turns left
 abbrev pub with_left : ℕ → State → State
 with_left l s = record s { left = l }
 
@@ -105,7 +105,7 @@ run (assign_at to i e rest) s = run rest (assigned (Cell (indexed_cell to (value
 run (loop e body rest) s = then_do (loops s.left e (run body) s) (run rest)
 run (choose e if_so if_not rest) s = then_do (at_zero (value e s.vars s.cells) (run if_not (evaluated e s)) (run if_so (evaluated e s))) (run rest)
 
--- at the start variables are 0 and cells have their initial words
+-- the state at the start: variables are 0 and cells have their initial words
 abbrev pub start : Program → ℕ → State
 start p t = record { vars = replicate p.vars 0; cells = p.inits; out = []; left = t; work = 0 }
 

@@ -34,7 +34,7 @@ pub record Ready (names : List (List ℕ)) (r : Run) : Type 0 where
   pub line : 22 ≤ length r.line.items
   pub room : HasRoom names (length r.line.items - 22)
 
--- whatever was put and worked before, the code does what the definition does
+-- whatever lines were put and work was done before, the code does what the definition does
 abbrev pub RunsTo : (State → Outcome) → List (List ℕ) → Run → Run → SinkLog → SinkLog → Result (Unit {0}) Stop → Type 0
 RunsTo go names r q before after (Ok u) =
     (first : SinkLog) (o : List Output) (w : ℕ) → before ≡ told names first o → (p : List Output) × (v : ℕ) ×

@@ -138,7 +138,7 @@ module _ (linkage : LinkMap) (first : Object) (others : List Object) (h : AreLin
       (start_beside o x to y.code_type ((before_of modules m).types + y.code_type) b.alike)
       ((mine m o e).walked n (slice_get_within o.blocks n y f)) b.code ((mine m o e).accepted.blocks n y f)
 
-  -- so do the rows of each block
+  -- the rows of each block apply in the linked object
   applies_all : (n : ℕ) (y : Block) → slice_get x.blocks n ≡ Some y →
       Applies x (start_context x y.code_type) (block_instrs x n)
   applies_all n y e =

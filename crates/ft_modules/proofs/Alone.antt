@@ -44,7 +44,7 @@ few_alone cells o h =
       substs = (let f = s.few_substs in omega arith);
     }
 
--- so it is not refused
+-- by itself a module is not refused
 pub not_alone : (o : Object) → IsModule o.cells o → modules_refusal [] 0 o.cells (o ∷ []) ≡ None
 unfolding modules_refusal
 not_alone o h = or_none _ _ (totals_alone o.cells o h [] 0

@@ -25,7 +25,8 @@ use Rattle.ft_semantics.specs.Step.{Stepping, quiet, detected, fetch, load, comm
 use Rattle.ft_semantics.specs.Step.{jump_blue, found, pass, execute, advance}
 use Rattle.ft_typing.specs.TypedWord.{block_at}
 use Rattle.ft_typing.specs.Context.{Context, typed, start_context}
-use Rattle.ft_typing.specs.TypingRow.{Outcome, Goes, Ends, Fails, row}
+use Rattle.ft_typing.specs.TypingRow.{row}
+use Rattle.ft_typing.specs.RowWords.{Outcome, Goes, Ends, Fails}
 use Rattle.ft_tolerance.specs.TypedState.{Place, instr_number, FitsContext, Fits}
 use Rattle.ft_tolerance.proofs.Premises.{After}
 use Rattle.ft_tolerance.proofs.AcceptedSteps.{Here, Passes, ends, goes}

@@ -1,12 +1,12 @@
--- The outcomes of two rows beside each other: if the first does not fail, neither does the second.
+-- The outcomes of two rows: if the first does not fail, neither does the second.
 use Rattle.std.proofs.Common.{◌≡◌, ℕ, zero, suc, Bool, true, false, List, [], ◌∷◌, Option, Some, None, refl, subst}
 use Rattle.ft_isa.specs.declared.basic.Base.{Base}
 use Rattle.ft_isa.specs.declared.basic.Base.TheVariants.{Code}
 use Rattle.ft_isa.specs.declared.basic.Basic.{Basic}
 use Rattle.ft_typing.specs.Premise.{Premise}
 use Rattle.ft_typing.specs.Context.{Typed, FormPair, Context}
-use Rattle.ft_typing.specs.TypingRow.{Outcome, Goes, Ends, Fails, need, for_typed, for_ref_over, for_code_over}
-use Rattle.ft_typing.specs.TypingRow.{for_oldest}
+use Rattle.ft_typing.specs.RowWords.{Outcome, Goes, Ends, Fails, need, for_typed, for_ref_over, for_code_over}
+use Rattle.ft_typing.specs.RowWords.{for_oldest}
 
 -- R of the two contexts that the rows go on to, or both end the block, or the first fails
 unfoldable pub Both : (Context → Context → Type 0) → Outcome → Outcome → Type 0

@@ -12,14 +12,14 @@ use Rattle.ft_isa.specs.declared.colour.Colour.{Colour}
 use Rattle.ft_isa.specs.declared.instr.Instr.{Instr}
 use Rattle.ft_isa.specs.declared.instr.Instr.TheVariants.{Halt}
 use Rattle.ft_isa.proofs.Lists.{all_there, all_pass}
-use Rattle.ft_static.proofs.SameTrees.{same_integer_is, same_memory_is, integer_same, memory_same}
+use Rattle.ft_static.proofs.NodeTrees.{same_integer_is, same_memory_is, integer_same, memory_same}
 use Rattle.ft_types.specs.declared.object.Object.{Object}
 use Rattle.ft_types.specs.declared.object.Cell.{Cell}
 use Rattle.ft_types.specs.declared.object.Block.{Block}
 use Rattle.ft_types.specs.declared.object.CodeType.{CodeType}
 use Rattle.ft_types.specs.declared.object.RegType.{RegType}
 use Rattle.ft_types.specs.Objects.{block_instrs}
-use Rattle.ft_typing.specs.TypingRow.{same_colour}
+use Rattle.ft_typing.specs.RowWords.{same_colour}
 use Rattle.ft_typing.proofs.TypedWords.{same_basic_is, is_same_basic, same_colours}
 use Rattle.ft_typing.proofs.Acceptance.{or_parts}
 use Rattle.ft_tolerance.proofs.Premises.{same_colour_is}
@@ -131,7 +131,7 @@ cell_is a b e =
       init = eqb-true a.init b.init p.1 i;
     }
 
--- so are lists of cells
+-- lists of cells that the test finds the same are equal
 pub cells_are : (xs ys : List Cell) → same_cells xs ys ≡ true → xs ≡ ys
 cells_are [] [] e = refl
 cells_are [] (y ∷ ys) e = cc

@@ -13,7 +13,7 @@ use Rattle.ft_isa.specs.declared.instr.Instr.{Instr}
 use Rattle.ft_isa.specs.declared.instr.Instr.TheVariants.{St, JmpB, BzB}
 use Rattle.ft_isa.proofs.Lists.{drop_there}
 use Rattle.ft_static.specs.Expression.{Valuation}
-use Rattle.ft_static.specs.FormValue.{value_polynomial}
+use Rattle.ft_static.specs.Form.{value_polynomial}
 use Rattle.ft_types.specs.declared.object.Object.{Object}
 use Rattle.ft_typing.specs.Accepted.{IsAccepted}
 use Rattle.ft_types.specs.Objects.{block_instrs}
@@ -22,7 +22,8 @@ use Rattle.ft_semantics.specs.State.{State, word}
 use Rattle.ft_semantics.specs.Step.{Stepping, next, execute}
 use Rattle.ft_typing.specs.TypedWord.{block_at, code_type_at}
 use Rattle.ft_typing.specs.Context.{Typed, Context, typed}
-use Rattle.ft_typing.specs.TypingRow.{Goes, row}
+use Rattle.ft_typing.specs.TypingRow.{row}
+use Rattle.ft_typing.specs.RowWords.{Goes}
 use Rattle.ft_tolerance.specs.TypedState.{Place, instr_number, valuation_by, context_of, context_after, context_at}
 use Rattle.ft_tolerance.specs.TypedState.{IsPlace}
 use Rattle.ft_tolerance.proofs.Premises.{after_typed}

@@ -5,11 +5,10 @@ use Rattle.std.specs.Prelude.{◌↔◌}
 use Rattle.std.specs.List.{AllByRecursion}
 use Rattle.ft_static.specs.Expression.{word, integer, memory}
 use Rattle.ft_static.specs.NodeRules.{MayName, IsShape, AreNodes}
-use Rattle.ft_static.specs.NodeParts.{parts}
 use Rattle.ft_static.specs.NodeTree.{integer_part, memory_part, integer_at, memory_at, tree_of, trees, tree_at}
 use Rattle.ft_static.specs.declared.node.Node.{Node}
 use Rattle.ft_static.specs.declared.node.Shape.{Shape}
-use Rattle.ft_static.proofs.NodeParts.{part_tree, part_with, each_listed, one_tree, one_renamed, of_one_renamed}
+use Rattle.ft_static.proofs.NodeParts.{part_tree, part_with, each_listed, one_tree, one_renamed, of_one_renamed, parts}
 use Rattle.ft_static.proofs.NodeTrees.{each_part, parts_named, tree_at-row, integer_named, memory_named}
 use Rattle.ft_static.proofs.SameTrees.{of_one_tree}
 use Rattle.ft_modules.specs.TreeKeys.{number_in, key_of, AreTreeNumbers}
@@ -27,7 +26,7 @@ module _ (nodes : List Node) (cs : List ℕ) (n : ℕ) (h : AreNodes nodes) (s :
             ∙ sym (integer_named nodes j sd b h q)),
       )
 
-  -- so with memories
+  -- the same for memories
   same_memories : (i j sc sd a b : ℕ) → i ≤ n → j ≤ n → MayName nodes i sc true a → MayName nodes j sd true b →
       number_in cs a ≡ number_in cs b ↔ memory_at (trees nodes) a ≡ memory_at (trees nodes) b
   same_memories i j sc sd a b li lj p q =
@@ -56,7 +55,7 @@ module _ (nodes : List Node) (cs : List ℕ) (n : ℕ) (h : AreNodes nodes) (s :
   same_part (false, a) (true, b) h k = (λ e. absurd (true≢false (sym (ap (λ (p : Bool × ℕ). p.0) e))), λ e. cc)
   same_part (true, a) (false, b) h k = (λ e. absurd (true≢false (ap (λ (p : Bool × ℕ). p.0) e)), λ e. cc)
 
-  -- so with lists of parts
+  -- the same for lists of parts
   same_parts : (ps qs : List (Bool × ℕ)) → AllByRecursion Named ps → AllByRecursion Named qs → map numbered ps
       ≡ map numbered qs ↔ map (part_tree (trees nodes)) ps ≡ map (part_tree (trees nodes)) qs
   same_parts [] [] h k = (λ e. refl, λ e. refl)

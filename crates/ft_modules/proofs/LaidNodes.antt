@@ -28,7 +28,7 @@ module _ (modules : List Object) (spelled : (m : ℕ) (o : Object) → slice_get
       (among_all nodes_part of_nodes refl nodes_grow modules m o e)
       (there_mapped (raised_node (before_of modules m).nodes) o.nodes n y f)
 
-  -- they obey the rules
+  -- all nodes obey the rules
   pub laid_nodes : AreNodes all_nodes
   laid_nodes = record {
     few = (let long = laid_length nodes_part (λ (o : Object). length o.nodes) (λ k o.

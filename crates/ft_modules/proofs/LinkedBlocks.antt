@@ -1,4 +1,4 @@
--- Whole blocks beside each other: starting contexts, and the rows of a block of the linked object that apply.
+-- Whole blocks: starting contexts, and that the rows of a block of the linked object apply.
 use Rattle.std.proofs.Common.{◌≡◌, ℕ, suc, Bool, true, false, List, [], ◌∷◌, map, Option, Some, None, refl, sym, ap}
 use Rattle.std.proofs.Common.{◌∙◌, subst, if◌then◌else◌}
 use Rattle.std.specs.List.{AllZip}
@@ -11,7 +11,7 @@ use Rattle.ft_types.specs.declared.object.RegType.{RegType}
 use Rattle.ft_types.specs.Objects.{reg_rows, queue_rows, memory_of}
 use Rattle.ft_typing.specs.Context.{TypedRegisters, d_zero, Context, typed, integer_form_of, memory_form_of, typed_row}
 use Rattle.ft_typing.specs.Context.{registers_after, queue_pair, start_context}
-use Rattle.ft_typing.specs.TypingRow.{Outcome, Goes, Ends, Fails}
+use Rattle.ft_typing.specs.RowWords.{Outcome, Goes, Ends, Fails}
 use Rattle.ft_typing.specs.Accepted.{Applies, last_row, next_row}
 use Rattle.ft_modules.specs.CodeWalk.{Entered, entered_after, is_traced, code_walk}
 use Rattle.ft_modules.specs.LikeTypes.{SameInteger, SameMemory, SameRow, SamePair, LikeTypes}
@@ -26,7 +26,7 @@ pub form_same : (o x : Object) (n m : ℕ) → SameInteger o x n m → integer_f
 unfolding integer_form_of
 form_same o x n m h = ap norm_integer h
 
--- so with memories
+-- nodes that stand for the same memory have the same form
 pub memory_form_same : (o x : Object) (n m : ℕ) → SameMemory o x n m → memory_form_of o n ≡ memory_form_of x m
 unfolding memory_form_of
 memory_form_same o x n m h = ap norm_memory h
@@ -67,7 +67,7 @@ starts_same o x t u l = λ i. record {
   memory = memory_form_same o x (memory_of o t) (memory_of x u) l.memory i;
 }
 
--- a context without entered registers and with d 0, beside itself
+-- the starting contexts of like code types correspond, with no register entered
 pub start_beside : (o x : Object) (to : ℕ → ℕ × ℕ) (t u : ℕ) → LikeTypes o t x u →
     Beside o to finite.empty (start_context o t) (start_context x u)
 start_beside o x to t u l = record {

@@ -1,4 +1,4 @@
--- A module's contexts beside those of the linked object: equal but for the entered registers and the state of d, where
+-- A module's contexts and those of the linked object: equal except for the entered registers and the state of d, where
 -- the code address and its code type are what the module's address is sent to.
 use Rattle.std.proofs.Common.{◌≡◌, ℕ, Bool, true, false, cond, not, length, nat_le, ◌==◌, Option, Some, None, is_some}
 use Rattle.std.proofs.Common.{refl, subst}
@@ -21,7 +21,7 @@ use Rattle.ft_isa.specs.BasicTypes.{code}
 use Rattle.ft_typing.specs.TypedWord.{code_type_at}
 use Rattle.ft_typing.specs.Context.{Typed, StateOfD, d_zero, d_code, d_conditional, Context, typed, with_type}
 use Rattle.ft_typing.specs.Context.{replacement, rows_of}
-use Rattle.ft_typing.specs.TypingRow.{Outcome, for_zero, for_target, for_conditional}
+use Rattle.ft_typing.specs.RowWords.{Outcome, for_zero, for_target, for_conditional}
 use Rattle.ft_tolerance.specs.TypedState.{valuation_by}
 use Rattle.ft_types.proofs.Maps.{get-insert}
 use Rattle.ft_modules.specs.CodeWalk.{Entered, code_claimed, entered_with, is_free, is_entered, are_free}
@@ -172,7 +172,7 @@ pub entered_get : (e : Entered) (r : ℕ) (v : Option ℕ) (q : ℕ) → finite.
 entered_get e r None q = get-remove e r q
 entered_get e r (Some t) q = get-insert e r t q
 
--- contexts beside each other stay so if a register is written on both sides
+-- contexts that correspond still do if a register is written on both sides
 pub written : (o : Object) (to : ℕ → ℕ × ℕ) (e : Entered) (c b : Context) (r : ℕ) (v : Option ℕ) (t t' : Typed) →
     Beside o to e c b → RegistersBeside o to v (Some t) (Some t') →
     Beside o to (entered_with r v e) (with_type r t c) (with_type r t' b)

@@ -1,4 +1,4 @@
--- The typing rows of a module's instructions beside those of the linked object's.
+-- The typing rows of a module's instructions compared with those of the linked object's.
 use Rattle.std.proofs.Common.{◌≡◌, ℕ, zero, suc, Bool, true, false, not, ◌&&◌, ◌||◌, ◌+◌, List, [], ◌∷◌, ◌++◌, length}
 use Rattle.std.proofs.Common.{map, nat_le, nat_lt, ◌==◌, Option, Some, None, is_some, eqb-true, refl, sym, ap, ◌∙◌}
 use Rattle.std.proofs.Common.{subst, eq-eqb}
@@ -20,11 +20,8 @@ use Rattle.ft_isa.specs.declared.instr.Instr.{Instr}
 use Rattle.ft_isa.specs.declared.instr.Instr.TheVariants.{Mov, St, JmpG, JmpB, BzG, BzB, Halt}
 use Rattle.ft_isa.specs.Instructions.{first_read, second_read, is_one_of, written as writes}
 use Rattle.ft_static.specs.Expression.{Valuation, Integer, Memory}
-use Rattle.ft_static.specs.Form.{Polynomial, Updates}
-use Rattle.ft_static.specs.FormOrder.{same_polynomial, same_updates}
-use Rattle.ft_static.specs.FormValue.{value_polynomial}
-use Rattle.ft_static.specs.FormUnder.{norm_under, norm_memory_under}
-use Rattle.ft_static.specs.NormalForm.{constant, norm_upd}
+use Rattle.ft_static.specs.Form.{Polynomial, Updates, same_polynomial, same_updates, value_polynomial}
+use Rattle.ft_static.specs.NormalForm.{constant, norm_upd, norm_under, norm_memory_under}
 use Rattle.ft_static.proofs.Equal.{equal_polynomials}
 use Rattle.ft_static.proofs.FormsDenote.{value_constant}
 use Rattle.ft_types.specs.declared.object.Object.{Object}
@@ -37,8 +34,9 @@ use Rattle.ft_typing.specs.declared.why.Why.TheVariants as premise
 use Rattle.ft_typing.specs.Premise.{Premise}
 use Rattle.ft_typing.specs.Context.{Typed, FormPair, Context, typed, with_type, replacement, Replacement}
 use Rattle.ft_typing.specs.Context.{integer_form_after, memory_form_after}
-use Rattle.ft_typing.specs.TypingRow.{Outcome, same_colour, pending_memory, seen_memory, is_empty, is_like, are_like}
-use Rattle.ft_typing.specs.TypingRow.{is_queue_like, is_annotated, leads, row}
+use Rattle.ft_typing.specs.RowWords.{Outcome, same_colour, pending_memory, seen_memory, is_empty, is_like, are_like}
+use Rattle.ft_typing.specs.RowWords.{is_queue_like, is_annotated, leads}
+use Rattle.ft_typing.specs.TypingRow.{row}
 use Rattle.ft_typing.proofs.TypedWords.{has_type_decides}
 use Rattle.ft_modules.specs.CodeWalk.{Entered, code_over, code_claimed, claimed, entered_with, entered_past}
 use Rattle.ft_modules.specs.CodeWalk.{entered_after, is_free, both_free, is_entered, are_free, is_traced}
@@ -58,7 +56,7 @@ after_same : (o x : Object) (p : Replacement) (n m : ℕ) → SameInteger o x n 
 unfolding integer_form_after
 after_same o x p n m h = ap (λ (e : Integer). norm_under e p.integers p.memory) h
 
--- so with memories
+-- the same memory has the same form after a replacement
 memory_after_same : (o x : Object) (p : Replacement) (n m : ℕ) → SameMemory o x n m → memory_form_after o p n
     ≡ memory_form_after x p m
 unfolding memory_form_after
@@ -180,11 +178,11 @@ targets_same o x to w t v u a iw iv h =
 
 module _ (o x : Object) (to : ℕ → ℕ × ℕ) (a : AreSent o x to) (e : Entered) (c b : Context) (h : Beside o to e c b)
   where
-    -- contexts beside each other after an instruction
+    -- contexts that correspond after an instruction
     abbrev R : Instr → Context → Context → Type 0
     R i = Beside o to (entered_after i e)
 
-    -- so with rows
+    -- rows that correspond
     abbrev B : Instr → Instr → Type 0
     B i j = Both (R i) (row o c i) (row x b j)
 
@@ -310,7 +308,7 @@ module _ (o x : Object) (to : ℕ → ℕ × ℕ) (a : AreSent o x to) (e : Ente
     read_same : (p r : ℕ) → not (is_some (finite.get e p)) ≡ true → (p == r) ≡ true → typed b r ≡ typed c r
     read_same p r f k = subst (λ n. typed b n ≡ typed c n) (eqb-true p r k) (sym (free_at o to e c b p h f))
 
-    -- so are all registers that are read
+    -- all registers that are read are known alike
     reads_same : (p q : Option ℕ) → both_free e p q ≡ true → (r : ℕ) → is_one_of p q r ≡ true → typed b r ≡ typed c r
     reads_same (Some p) (Some q) f r k = by_test (p == r) refl
       where
@@ -344,7 +342,7 @@ module _ (o x : Object) (to : ℕ → ℕ × ℕ) (a : AreSent o x to) (e : Ente
         (subst (λ k. Both (R i) (write_row r c (gives o c i) y.failing) k) (sym z.row_is)
         (wrote_beside i r w n (gives o c i) (gives x b i) y.failing z.failing same))
 
-    -- a row of a module's instruction that the walk passes, beside that of the linked object's
+    -- a row of a module's instruction that the walk passes, compared with that of the linked object's
     pub row_beside : (i j : Instr) → is_traced o e i ≡ true → IsInstrOf o x to i j →
         Both (Beside o to (entered_after i e)) (row o c i) (row x b j)
     row_beside (Mov rd v basic) j f is = mov_by rd v basic.refs basic.base j (code_claimed basic) refl is

@@ -19,7 +19,7 @@ use Rattle.ft_typing.specs.Premise.{Premise}
 use Rattle.ft_types.specs.Spellable.{subst_of, before, substs_of, IsSubst, Cover}
 use Rattle.ft_isa.specs.BasicTypes.{code}
 use Rattle.ft_typing.specs.TypedWord.{code_type_at, HasType, has_type}
-use Rattle.ft_typing.specs.TypingRow.{Outcome, Goes, Ends, Fails, need}
+use Rattle.ft_typing.specs.RowWords.{Outcome, Goes, Ends, Fails, need}
 use Rattle.ft_typing.proofs.TypedWords.{has_type_decides}
 use Rattle.ft_modules.specs.CodeWalk.{code_over}
 use Rattle.ft_modules.specs.declared.before.Before.{Before}
@@ -71,7 +71,7 @@ covered_first nodes rows first i is u e c =
     subst (λ (s : Option Subst). Cover nodes rows first (before s (substs_of is))) e c in
     subst (λ n. IsSubst nodes rows n u) (sym d.0.first_is) d.0
 
--- so does that of each instruction
+-- the substitution of each instruction takes rows of the table
 pub covered_subst : (nodes : List Node) (rows first n : ℕ) (is : List Instr) (i : Instr) (u : Subst) → subst_of i
     ≡ Some u →
     Cover nodes rows first (substs_of is) → slice_get is n ≡ Some i → IsSubst nodes rows u.first u

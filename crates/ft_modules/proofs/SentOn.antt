@@ -15,17 +15,17 @@ use Rattle.ft_modules.proofs.World.{at_address}
 
 -- CODE TYPES THAT SAY THE SAME
 
--- rows say what they say themselves
+-- register rows say the same as themselves
 rows_itself : (o : Object) (rs : List RegType) → AllZip (SameRow o o) rs rs
 rows_itself o [] = tt
 rows_itself o (r ∷ rs) = (record { reg = refl; colour = refl; basic = refl; tree = refl }, rows_itself o rs)
 
--- so do queue rows
+-- queue rows say the same as themselves
 pairs_itself : (o : Object) (rs : List (ℕ × ℕ)) → AllZip (SamePair o o) rs rs
 pairs_itself o [] = tt
 pairs_itself o (r ∷ rs) = (record { address = refl; value = refl }, pairs_itself o rs)
 
--- a code type says what it says itself
+-- a code type says the same as itself
 pub like_itself : (o : Object) (t : ℕ) → LikeTypes o t o t
 like_itself o t = record {
   ints = refl;

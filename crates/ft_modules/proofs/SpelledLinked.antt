@@ -175,7 +175,7 @@ changed_subst_by : (rd : Reg) (v : Coloured) (b : Basic) (c : Option Change) →
 changed_subst_by rd v b None = refl
 changed_subst_by rd v b (Some c) = refl
 
--- nor does one that stays
+-- a `mov` that stays carries no substitution
 changed_mov_subst : (cs : List Change) (rd : Reg) (v : Coloured) (b : Basic) (t : Option ℕ) →
     subst_of (changed_mov cs rd v b t) ≡ None
 changed_mov_subst cs rd v b None = refl

@@ -57,7 +57,7 @@ tree_raised ns ms k n y a b s e = tree_below ns ms k (suc n) n y a b s (omega ar
 
 -- CODE TYPES
 
--- a list beside its raised one
+-- a relation between each element and its image holds of a list and the list of images
 zip_map : {X : Type 0} (R : X → X → Type 0) (f : X → X) (xs : List X) →
     ((n : ℕ) (y : X) → slice_get xs n ≡ Some y → R y (f y)) → AllZip R xs (map f xs)
 zip_map R f [] h = tt
@@ -90,15 +90,15 @@ module _ (o x : Object) (k : Before) (cs : List Change) (spelled : IsSpellable o
       tree_at x.nodes (k.nodes + n) ≡ tree_at o.nodes n
   named_tree scope b bound n h = tree_raised o.nodes x.nodes k.nodes n h.node spelled.nodes nodes s.nodes h.found
 
-  -- so with integers
+  -- a named node of an integer stands for the same
   pub same_integer : (scope bound n : ℕ) → MayName o.nodes bound scope false n → SameInteger o x n (k.nodes + n)
   same_integer scope bound n h = ap integer_part (sym (named_tree scope false bound n h))
 
-  -- and memories
+  -- a named node of a memory stands for the same
   pub same_memory : (scope bound n : ℕ) → MayName o.nodes bound scope true n → SameMemory o x n (k.nodes + n)
   same_memory scope bound n h = ap memory_part (sym (named_tree scope true bound n h))
 
-  -- it has the same scope
+  -- a named node has the same scope
   pub same_scope : (scope : ℕ) (b : Bool) (bound n : ℕ) → MayName o.nodes bound scope b n → scope_of o n
       ≡ scope_of x (k.nodes + n)
   same_scope scope b bound n h = ap (λ (y : Option Node). unwrap_or (option_map scope_of_node y) 0) h.found
@@ -140,7 +140,7 @@ module _ (o x : Object) (k : Before) (cs : List Change) (spelled : IsSpellable o
 
   -- SUBSTITUTIONS
 
-  -- and the same form
+  -- a named node has the same form
   form_raised : (n : ℕ) → IsNodeIn o.nodes 128 false n → integer_form_of o n ≡ integer_form_of x (k.nodes + n)
   form_raised n h = form_same o x n (k.nodes + n) (same_integer 128 (length o.nodes) n h)
 

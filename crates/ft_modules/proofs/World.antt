@@ -1,5 +1,5 @@
--- What the run needs of modules and of the object that they are linked to, and when a module's state corresponds to one
--- of the linked object's.
+-- What the run needs of modules and of the object that they are linked into, and when a module's state corresponds to
+-- one of the linked object's.
 use Rattle.std.proofs.Common.{◌≡◌, inl, ℕ, zero, suc, ◌+◌, ◌-◌, Bool, true, false, cond, ◌==◌, List, [], ◌∷◌, drop}
 use Rattle.std.proofs.Common.{slice_get, Option, Some, None, refl, sym, ap, ◌∙◌, subst, arith}
 use Rattle.std.specs.Prelude.{All}
@@ -99,7 +99,7 @@ pub data SameFetched (f g : Option Instr) : Type 0 where
   none_fetched : f ≡ None → g ≡ None → SameFetched f g
   both_fetched : (i j : Instr) → f ≡ Some i → g ≡ Some j → SameFetched f g
 
--- a running module's state, beside a running state of the linked object
+-- a running module's state corresponds to a running state of the linked object
 pub record Stands (modules : List Object) (joins : List Link) (x : Object) (world : World modules joins x)
     (a : InModule) (t : State) : Type 0 where
   pub object : Object
@@ -176,11 +176,11 @@ plain_known false t y u h k e = k e
 all_rest : (r : RegType) (rs : List RegType) → All HasPlainRow (r ∷ rs) → All HasPlainRow rs
 all_rest r rs h = λ k d lt. h (suc k) d (omega (arith, lt))
 
--- and of the first
+-- what holds of all rows holds of the first
 all_first : (r : RegType) (rs : List RegType) → All HasPlainRow (r ∷ rs) → HasPlainRow r
 all_first r rs h = h 0 r (omega arith)
 
--- so after these rows
+-- registers without code types stay so after plain rows
 plain_registers : (o : Object) (m : TypedRegisters) (rows : List RegType) →
     ((r : ℕ) (y : Typed) → finite.get m r ≡ Some y → y.basic.base ≡ Int) → All HasPlainRow rows → (r : ℕ) (y : Typed) →
     finite.get (registers_after o m rows) r ≡ Some y → y.basic.base ≡ Int

@@ -6,7 +6,8 @@ use Rattle.ft_isa.specs.declared.instr.Instr.TheVariants.{JmpG, JmpB, Mov, St, H
 use Rattle.ft_isa.specs.declared.instr.Subst.{Subst}
 use Rattle.ft_static.specs.declared.node.Shape.TheVariants as shape
 use Rattle.ft_types.specs.declared.object.Object.{Object}
-use Rattle.ft_typing.specs.Examples.{blue, five, green, int_cell, nothing_known, one_block, out, r0, r1, r2, r32, r33, stores_five, stores_variable, takes_address, variable_held}
+use Rattle.ft_typing.specs.Examples.{blue, green, int_cell, nothing_known, one_block, out, r0, r1, r2, r32, r33, stores_five, takes_address}
+use Rattle.ft_typing.specs.JumpExamples.{five, stores_variable, variable_held}
 use Rattle.ft_isa.specs.BasicTypes.{code, int, ref}
 use Rattle.ft_link_map.specs.declared.link_map.Ask.{Ask}
 use Rattle.ft_link_map.specs.declared.link_map.LinkMap.{LinkMap}

@@ -22,14 +22,14 @@ pub record InModule : Type 0 where
 abbrev pub link_at : List Object → List Link → ℕ → ℕ → Option Link
 link_at modules joins m a = find (λ (l : Link). (l.module_of == m) && (a == code_address (start_in modules l.module_of l.block))) joins
 
--- both counters become those of the exported block
+-- where a link sends a machine: both counters become the exported block's address
 abbrev pub sent_by : List Object → InModule → Option Link → InModule
 sent_by modules x None = x
 sent_by modules x (Some l) =
     let a = code_address (start_in modules l.to_module l.to_block) in
     record { number = l.to_module; state = record x.state { pc_green = a; pc_blue = a } }
 
--- by what is fetched
+-- where a machine is sent, by what is fetched
 abbrev pub sent_unfetched : List Object → List Link → InModule → Option Instr → InModule
 sent_unfetched modules joins x (Some i) = x
 sent_unfetched modules joins x None = if x.state.pc_green == x.state.pc_blue then sent_by modules x (link_at modules joins x.number x.state.pc_green) else x
@@ -69,7 +69,7 @@ pub modules_ran-zero : (linkage : LinkMap) (first : Object) (others : List Objec
 unfolding modules_ran
 modules_ran-zero linkage first others = refl
 
--- one more step
+-- the run after one more step
 pub modules_ran-add_one : (linkage : LinkMap) (first : Object) (others : List Object) (n : ℕ) → modules_ran linkage first others (n + 1) ≡ (let r = modules_ran linkage first others n in after_sent (first ∷ others) r.outputs (sent (first ∷ others) (links linkage) r.at))
 unfolding modules_ran
 modules_ran-add_one linkage first others n = rw add-one refl

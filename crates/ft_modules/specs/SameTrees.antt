@@ -6,7 +6,7 @@ use Rattle.ft_types.specs.declared.object.Object.{Object}
 use Rattle.ft_types.specs.declared.object.RegType.{RegType}
 use Rattle.ft_types.specs.Objects.{reg_rows, queue_rows, ints_of, memory_of}
 use Rattle.ft_typing.specs.TypedWord.{same_basic}
-use Rattle.ft_typing.specs.TypingRow.{same_colour}
+use Rattle.ft_typing.specs.RowWords.{same_colour}
 
 -- whether two nodes stand for the same integer
 abbrev pub same_integers : Object → Object → ℕ → ℕ → Bool
@@ -16,7 +16,7 @@ same_integers o x n m = same_integer (integer_at (trees o.nodes) n) (integer_at 
 abbrev pub same_row : Object → Object → RegType → RegType → Bool
 same_row o x r q = (r.reg.number == q.reg.number) && same_colour r.colour q.colour && same_basic r.basic q.basic && same_integers o x r.expr q.expr
 
--- whether two lists of register rows do
+-- whether two lists of register rows say the same
 abbrev pub same_rows : Object → Object → List RegType → List RegType → Bool
 same_rows o x [] [] = true
 same_rows o x [] (q ∷ qs) = false

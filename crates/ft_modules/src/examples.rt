@@ -6,7 +6,8 @@ ghost use Rattle.ft_isa.specs.declared.colour.Colour.TheVariants.{Blue, Green};
 ghost use Rattle.ft_static.specs.declared.node.Shape.TheVariants as shape;
 ghost use Rattle.ft_isa.specs.declared.instr.Instr.TheVariants.{Halt, JmpB, JmpG, Mov};
 ghost use Rattle.ft_typing.specs.Accepted.{Refused, refusal};
-ghost use Rattle.ft_typing.specs.Examples.{blue, green, jumps, nothing_known, one_block, r0, r1, r32, r33, stores_five, takes_address, two_blocks, variable_held};
+ghost use Rattle.ft_typing.specs.Examples.{blue, green, nothing_known, one_block, r0, r1, r32, r33, stores_five, takes_address};
+ghost use Rattle.ft_typing.specs.JumpExamples.{jumps, two_blocks, variable_held};
 ghost use Rattle.ft_types.specs.Objects.{block_instrs};
 ghost use Rattle.ft_typing.specs.declared.why.Why.TheVariants as premise;
 ghost use Rattle.ft_isa.specs.BasicTypes.{code, int};
@@ -15,9 +16,9 @@ ghost use Rattle.ft_modules.specs.Examples.{caller, go, hands_address_over, hold
 ghost use Rattle.ft_modules.specs.Linked.{linked};
 ghost use Rattle.ft_modules.specs.LinkRefusals.{Cells, CodeOf, Missing, NoBlock, Rows, Stub, Types, link_refusal};
 
-/// The object that two modules link to: the jump to the stub goes to the exported block, whose code type it claims; and
-/// if the entry block is imported, the exported block is the entry. The numbers of the second module's nodes, code
-/// types, blocks and substitution rows are raised, and those of cells are not.
+/// The object that two modules are linked into: the jump to the stub goes to the exported block, whose code type it
+/// claims; and if the entry block is imported, the exported block is the entry. The numbers of the second module's
+/// nodes, code types, blocks and substitution rows are raised, and those of cells are not.
 pub fn examples_of_linking()
     ensures instrs { (linked (importing 1) caller (storer ∷ [])).instrs ≡ Mov r1 (green 6) (code 1) ∷ Mov r33 (blue 6) (code 1) ∷ JmpG r1 ∷ JmpB r33 no_rows ∷ Halt ∷ stores_five }
     ensures accepted { refusal (linked (importing 1) caller (storer ∷ [])) ≡ None }

@@ -1,4 +1,4 @@
-//! Modules, and what they link to, as definitions and laws.
+//! Modules, and the objects that they are linked into, as definitions and laws.
 //!
 //! A module is an accepted object. `specs/Linked.antt` defines the object that a map makes of modules,
 //! `specs/LinkRefusals.antt` why it makes none, and `specs/ModulesRun.antt` the run that goes from module

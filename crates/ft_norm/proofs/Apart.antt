@@ -1,4 +1,4 @@
--- Polynomials that differ by a constant: the terms beside their constants are the same.
+-- Polynomials that differ by a constant: the terms other than their constants are the same.
 use Rattle.std.proofs.Common.{ℕ, ◌≡◌, ◌≢◌, ◌+◌, ◌-◌, ◌%◌, ◌^◌, ◌<◌, ◌==◌, Bool, true, false, if◌then◌else◌, List, []}
 use Rattle.std.proofs.Common.{◌∷◌, refl, sym, ap, ◌∙◌, subst, arith, lit<, true≢false, Decides}
 use Rattle.std.proofs.Math.Nat.{mod-lt, mod-eq_of_lt}
@@ -65,7 +65,7 @@ constant_word : (ts : List Term) → AreTerms ts → constant_among ts < 2 ^ 64
 constant_word [] h = lit< tt
 constant_word (t ∷ ts) h = first_split (λ c us. c < 2 ^ 64) (size t.atoms) t.coefficient [] [] (λ e. h.2) (λ n. lit< tt)
 
--- what a monomial gets of terms: of their constant and of the others
+-- what terms contribute to a monomial: what their constant and the others contribute
 weigh_split : (fs : List Form) (k : Monomial) (ts : List Term) → AreTerms ts
     → weigh (share k) (polynomial_form fs ts) % 2 ^ 64
     ≡ (share k one (constant_among ts) + weigh (share k) (polynomial_form fs (others ts))) % 2 ^ 64
@@ -94,7 +94,7 @@ module _ (fs : List Form) (ps qs : List Term) (a : AreOver fs ps) (b : AreOver f
   difference_rises = rises_total (polynomial_form fs ps) (negation (polynomial_form fs qs)) (form_rises fs ps a.terms)
       (rises_negation (polynomial_form fs qs) (form_rises fs qs b.terms))
 
-  -- what a monomial gets of it
+  -- what it contributes to a monomial
   weigh_difference : (k : Monomial) → (weigh (share k) difference + weigh (share k) (polynomial_form fs qs)) % 2 ^ 64
       ≡ weigh (share k) (polynomial_form fs ps) % 2 ^ 64
   weigh_difference k =

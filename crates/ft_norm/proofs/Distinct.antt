@@ -10,6 +10,7 @@ use Rattle.std.proofs.lemmas.Option.{slice_get_within, get_or_from_slice_get}
 use Rattle.ft_isa.proofs.Lists.{get_front}
 use Rattle.ft_static.specs.Form.{Atom, Form, integer_form, polynomial_of}
 use Rattle.ft_static.specs.NormalForm.{alone, degree}
+use Rattle.ft_static.proofs.SameTrees.{shape_decides}
 use Rattle.ft_norm.specs.declared.entry.LinearTerm.{LinearTerm}
 use Rattle.ft_norm.specs.declared.entry.Term.{Term}
 use Rattle.ft_norm.specs.declared.entry.Entry.{Entry}
@@ -25,13 +26,13 @@ use Rattle.ft_norm.proofs.Forms.{entry_agree, push_agrees, form_at, forms_onto-p
 use Rattle.ft_norm.proofs.HeldForms.{grown, keeps_itself, keeps_push}
 use Rattle.ft_norm.proofs.Linear.{linear_degree, linears_itself}
 use Rattle.ft_norm.proofs.Lists.{slice_get-push}
-use Rattle.ft_norm.proofs.SameTerms.{factor_decides, linears_decide, packed_lists_decide, terms_decide}
+use Rattle.ft_norm.proofs.SameTerms.{linears_decide, packed_lists_decide, terms_decide}
 use Rattle.ft_norm.proofs.Packing.{have_small_unpacked, packed_itself}
-use Rattle.ft_norm.proofs.Single.{alone_is, degree_over, one_factor, one_integer, one_memory, one_polynomial}
+use Rattle.ft_norm.proofs.Single.{alone_is, degree_over, one_integer, one_memory, one_node, one_polynomial}
 
 -- equal entries have one form
 pub same_entry : (fs : List Form) (a b : Entry) → (entry.ghosts).eq a b ≡ true → entry_form fs a ≡ entry_form fs b
-same_entry fs (Lone a) (Lone b) h = ap (λ x. integer_form (alone (atom_form fs x))) ((factor_decides a b).0 h)
+same_entry fs (Lone a) (Lone b) h = ap (λ x. integer_form (alone (atom_form fs x))) ((shape_decides a b).0 h)
 same_entry fs (Linear ts) (Linear us) h = ap (λ xs. integer_form (polynomial_form fs (map full xs)))
     ((linears_decide ts.items us.items _ refl).0 h)
 same_entry fs (Packed ts) (Packed us) h = ap (λ xs. integer_form (polynomial_form fs (map unpacked xs)))
@@ -75,8 +76,8 @@ module _ (fs : List Form) (d : IsDistinct fs) where
   -- one form has one entry
   pub one_entry : (a b : Entry) → IsCanonical a → IsCanonical b → reach_of_entry fs a ≤ length fs →
       reach_of_entry fs b ≤ length fs → entry_form fs a ≡ entry_form fs b → (entry.ghosts).eq a b ≡ true
-  one_entry (Lone x) (Lone y) h k a b e = (factor_decides x y).1
-      (one_factor fs d x y a b (let p : alone (atom_form fs x) ≡ alone (atom_form fs y) = ap polynomial_of e in cc))
+  one_entry (Lone x) (Lone y) h k a b e = (shape_decides x y).1
+      (one_node fs d x y h k a b (let p : alone (atom_form fs x) ≡ alone (atom_form fs y) = ap polynomial_of e in cc))
   one_entry (Lone x) (Linear us) h k a b e = absurd
       (alone_linear (atom_form fs x) (map full us.items) k.0 b (linear_degree us.items) k.2 (ap polynomial_of e))
   one_entry (Linear ts) (Lone y) h k a b e = absurd

@@ -9,8 +9,8 @@ use Rattle.ft_isa.proofs.Lists.{get_front}
 use Rattle.ft_static.specs.Form.{Atom, Form, Monomial, Polynomial, Updates, integer_form, memory_form, polynomial_of}
 use Rattle.ft_static.specs.Form.{updates_of, nought, one, plus, times, unchanged, update}
 use Rattle.ft_static.specs.NormalForm.{alone, with_factor}
-use Rattle.ft_norm.specs.declared.entry.Factor.{Factor}
-use Rattle.ft_norm.specs.declared.entry.Factor.TheVariants.{Variable}
+use Rattle.ft_static.specs.declared.node.Shape.{Shape}
+use Rattle.ft_static.specs.declared.node.Shape.TheVariants.{Var}
 use Rattle.ft_norm.specs.declared.entry.Term.{Term}
 use Rattle.ft_norm.specs.declared.entry.Entry.{Entry}
 use Rattle.ft_norm.specs.Packing.{unpacked}
@@ -26,44 +26,44 @@ use Rattle.ft_norm.proofs.Lists.{slice_get-push}
 pub record Agree (n : ℕ) (fs gs : List Form) : Type 0 where
   pub below : (k : ℕ) → k < n → slice_get fs k ≡ slice_get gs k
 
--- so the same polynomials
+-- both lists have the same polynomials below n
 pub polynomials_agree : (n : ℕ) (fs gs : List Form) → Agree n fs gs → (k : ℕ) → k < n → polynomial_at fs k
     ≡ polynomial_at gs k
 polynomials_agree n fs gs h k l = ap (λ (o : Option Form). polynomial_of (unwrap_or o (integer_form nought)))
     (h.below k l)
 
--- and the same updates
+-- both lists have the same updates below n
 pub updates_agree : (n : ℕ) (fs gs : List Form) → Agree n fs gs → (k : ℕ) → k < n → updates_at fs k ≡ updates_at gs k
 updates_agree n fs gs h k l = ap (λ (o : Option Form). updates_of (unwrap_or o (integer_form nought))) (h.below k l)
 
--- a factor that names only what is below n is the same atom in both
-pub atom_agree : (n : ℕ) (fs gs hs : List Form) → Agree n fs gs → (a : Factor) → reach hs a ≤ n → atom_form fs a
+-- a node that names only what is below n is the same atom in both
+pub atom_agree : (n : ℕ) (fs gs hs : List Form) → Agree n fs gs → (a : Shape) → reach hs a ≤ n → atom_form fs a
     ≡ atom_form gs a
-atom_agree n fs gs hs h (Variable i) l = refl
+atom_agree n fs gs hs h (Var i) l = refl
 atom_agree n fs gs hs h a l = grind (arith, polynomials_agree n fs gs h, updates_agree n fs gs h)
 
--- so is one of a number
+-- the atom of a number that reaches no further than n is the same in both
 with_atom_agree : (n : ℕ) (fs gs hs : List Form) → Agree n fs gs → (x : ℕ) → atom_reach hs x ≤ n → (m : Monomial) →
     with_atom fs x m ≡ with_atom gs x m
 with_atom_agree n fs gs hs h zero l m = refl
 with_atom_agree n fs gs hs h (suc k) l m = ap (λ (p : Polynomial).
     with_factor (atom_of p) m) (polynomials_agree n fs gs h k (omega arith))
 
--- and monomials
+-- a monomial that names only what is below n is the same in both
 pub monomial_agree : (n : ℕ) (fs gs hs : List Form) → Agree n fs gs → (xs : List ℕ) → reach_of_atoms hs xs ≤ n →
     monomial_form fs xs ≡ monomial_form gs xs
 monomial_agree n fs gs hs h [] l = refl
 monomial_agree n fs gs hs h (x ∷ xs) l = with_atom_agree n fs gs hs h x (omega arith) (monomial_form fs xs)
     ∙ ap (with_atom gs x) (monomial_agree n fs gs hs h xs (omega arith))
 
--- and terms
+-- terms that name only what is below n are the same in both
 pub terms_agree : (n : ℕ) (fs gs hs : List Form) → Agree n fs gs → (ts : List Term) → reach_of_terms hs ts ≤ n →
     polynomial_form fs ts ≡ polynomial_form gs ts
 terms_agree n fs gs hs h [] l = refl
 terms_agree n fs gs hs h (t ∷ ts) l = let a = monomial_agree n fs gs hs h t.atoms (omega arith) in
     let b = terms_agree n fs gs hs h ts (omega arith) in rw (a, b) refl
 
--- and entries
+-- an entry that names only what is below n is the same in both
 pub entry_agree : (n : ℕ) (fs gs hs : List Form) → Agree n fs gs → (e : Entry) → reach_of_entry hs e ≤ n →
     entry_form fs e ≡ entry_form gs e
 entry_agree n fs gs hs h (Lone a) l = ap (λ b. integer_form (alone b)) (atom_agree n fs gs hs h a l)
@@ -135,8 +135,8 @@ pub polynomial_read : (es : List Entry) (i : ℕ) (e x : Entry) → NamesEarlier
 polynomial_read es i e x h l r k = sym (ap (λ (o : Option Form). polynomial_of (unwrap_or o (integer_form nought)))
     (form_read es i e x h l r k))
 
--- that of an atom is the term of its number
-pub lone_read : (es : List Entry) (i : ℕ) (e : Entry) (a : Factor) → NamesEarlier es → i < length es → e
+-- the polynomial of an atom is the term of its number
+pub lone_read : (es : List Entry) (i : ℕ) (e : Entry) (a : Shape) → NamesEarlier es → i < length es → e
     ≡ get_or es i e → e ≡ Lone a → polynomial_form (forms_of es) (alone_term (i + 1) ∷ [])
     ≡ polynomial_at (forms_of es) i
 lone_read es i e a h l r k = let p : polynomial_at (forms_of es) i ≡ alone (atom_form (forms_of es) a) =
@@ -168,13 +168,13 @@ memory_reach_agree n m fs gs h l k i r = go (is_memory_form (slice_get fs i)) (i
     go true c e r = rw e r
     go false c e r = absurd (omega arith)
 
--- and so are all that a factor names
-reach_agree : (n m : ℕ) (fs gs : List Form) → Agree n fs gs → n ≤ length fs → m ≤ n → (a : Factor) → reach fs a ≤ m →
+-- and so are all that a node names
+reach_agree : (n m : ℕ) (fs gs : List Form) → Agree n fs gs → n ≤ length fs → m ≤ n → (a : Shape) → reach fs a ≤ m →
     reach gs a ≤ m
-reach_agree n m fs gs h l k (Variable i) r = r
+reach_agree n m fs gs h l k (Var i) r = r
 reach_agree n m fs gs h l k a r = omega (arith, integer_reach_agree n m fs gs h l k, memory_reach_agree n m fs gs h l k)
 
--- so is one that is an atom's
+-- the same for a part that is an atom's
 atom_reach_agree : (n m : ℕ) (fs gs : List Form) → Agree n fs gs → n ≤ length fs → m ≤ n → (x : ℕ) →
     atom_reach fs x ≤ m → atom_reach gs x ≤ m
 atom_reach_agree n m fs gs h l k zero r = r
@@ -185,21 +185,21 @@ atom_reach_agree n m fs gs h l k (suc i) r = go (is_atom_form (slice_get fs i)) 
     go true c e r = rw e r
     go false c e r = absurd (omega arith)
 
--- that a monomial names
+-- the same for the atoms that a monomial names
 atoms_reach_agree : (n m : ℕ) (fs gs : List Form) → Agree n fs gs → n ≤ length fs → m ≤ n → (xs : List ℕ) →
     reach_of_atoms fs xs ≤ m → reach_of_atoms gs xs ≤ m
 atoms_reach_agree n m fs gs h l k [] r = r
 atoms_reach_agree n m fs gs h l k (x ∷ xs) r = let a = atom_reach_agree n m fs gs h l k x (omega arith) in
     let b = atoms_reach_agree n m fs gs h l k xs (omega arith) in omega arith
 
--- that terms name
+-- the same for the atoms that terms name
 terms_reach_agree : (n m : ℕ) (fs gs : List Form) → Agree n fs gs → n ≤ length fs → m ≤ n → (ts : List Term) →
     reach_of_terms fs ts ≤ m → reach_of_terms gs ts ≤ m
 terms_reach_agree n m fs gs h l k [] r = r
 terms_reach_agree n m fs gs h l k (t ∷ ts) r = let a = atoms_reach_agree n m fs gs h l k t.atoms (omega arith) in
     let b = terms_reach_agree n m fs gs h l k ts (omega arith) in omega arith
 
--- that an entry names
+-- the same for the parts that an entry names
 entry_reach_agree : (n m : ℕ) (fs gs : List Form) → Agree n fs gs → n ≤ length fs → m ≤ n → (e : Entry) →
     reach_of_entry fs e ≤ m → reach_of_entry gs e ≤ m
 entry_reach_agree n m fs gs h l k (Lone a) r = reach_agree n m fs gs h l k a r
@@ -249,7 +249,7 @@ integer_reached fs n i l r = go (slice_get fs i) refl r
         Some (integer_form (polynomial_of (unwrap_or q (integer_form nought))))) (sym e)
     go (Some (memory_form u)) e r = absurd (omega arith)
 
--- or a memory's
+-- a part that reaches no further than the list is a memory's
 pub memory_reached : (fs : List Form) (n i : ℕ) → n ≤ length fs → memory_reach fs i ≤ n → IsMemoryAt fs i
 memory_reached fs n i l r = go (slice_get fs i) refl r
   where
@@ -260,7 +260,7 @@ memory_reached fs n i l r = go (slice_get fs i) refl r
     go (Some (memory_form u)) e r = e ∙ ap (λ (q : Option Form).
         Some (memory_form (updates_of (unwrap_or q (integer_form nought))))) (sym e)
 
--- or that of a single atom
+-- a part that reaches no further than the list is that of a single atom
 pub atom_reached : (fs : List Form) (n i : ℕ) → n ≤ length fs → atom_reach fs (suc i) ≤ n → IsAtomAt fs i
 atom_reached fs n i l r = go (slice_get fs i) refl r
   where
@@ -295,7 +295,7 @@ pub integer_reaches : (fs : List Form) (i : ℕ) (p : Polynomial) → slice_get 
     integer_reach fs i ≡ i + 1
 integer_reaches fs i p e = rw e (omega arith)
 
--- so does a memory's
+-- a memory's reaches just beyond itself
 pub memory_reaches : (fs : List Form) (i : ℕ) (u : Updates) → slice_get fs i ≡ Some (memory_form u) → memory_reach fs i
     ≡ i + 1
 memory_reaches fs i u e = rw e (omega arith)
@@ -307,7 +307,7 @@ pub link : (es : List Entry) (m : ℕ) (e : Entry) (at value older : ℕ) → Na
     (updates_at (forms_of es) older)
 link es m e at value older h l r k = updates_read es m e (Update at value older) h l r k
 
--- it names earlier entries, each of its sort
+-- one link of a memory form names earlier entries, each of the required sort
 pub link_sorts : (es : List Entry) (m : ℕ) (e : Entry) (at value older : ℕ) → NamesEarlier es → m < length es → e
     ≡ get_or es m e → e ≡ Update at value older
     → max (max (integer_reach (forms_of es) at) (integer_reach (forms_of es) value)) (memory_reach (forms_of es) older)
@@ -315,7 +315,7 @@ pub link_sorts : (es : List Entry) (m : ℕ) (e : Entry) (at value older : ℕ) 
 link_sorts es m e at value older h l r k = let x = h m e l in let q : get_or es m e ≡ Update at value older = sym r
     ∙ k in rw q at x
 
--- so only earlier ones
+-- one link names only earlier entries
 pub link_reach : (es : List Entry) (m : ℕ) (e : Entry) (at value older : ℕ) → NamesEarlier es → m < length es → e
     ≡ get_or es m e → e ≡ Update at value older → max (max at value) older + 1 ≤ m
 link_reach es m e at value older h l r k = let x = link_sorts es m e at value older h l r k in omega (arith, x)
@@ -326,7 +326,7 @@ pub link_address : (es : List Entry) (m : ℕ) (e : Entry) (at value older : ℕ
 link_address es m e at value older h l r k = let x = link_sorts es m e at value older h l r k in
     let n = length-forms_of es in integer_reached (forms_of es) m at (omega arith) (omega (arith, x))
 
--- so is its value
+-- the value of one link is an integer's
 pub link_value : (es : List Entry) (m : ℕ) (e : Entry) (at value older : ℕ) → NamesEarlier es → m < length es → e
     ≡ get_or es m e → e ≡ Update at value older → IsIntegerAt (forms_of es) value
 link_value es m e at value older h l r k = let x = link_sorts es m e at value older h l r k in

@@ -90,7 +90,7 @@ keeps_both fs gs hs j k = keeps_from fs hs (λ (f : Form) (x : Normal) h. k.form
 pub integers_kept : (fs gs : List Normal) (xs : List Form) → Keeps fs gs → AreIntegers fs xs → AreIntegers gs xs
 integers_kept fs gs xs k a = λ (i : ℕ) (f : Form) h. k.integers_stay f (a i f h)
 
--- with their polynomials
+-- the polynomials of integers stay
 pub polynomials_kept : (fs gs : List Normal) (xs : List Form) → Keeps fs gs → AreIntegers fs xs → polynomials gs xs
     ≡ polynomials fs xs
 polynomials_kept fs gs [] k a = refl

@@ -3,8 +3,7 @@ use Rattle.std.proofs.Common.{ℕ, suc, zero, ◌≡◌, ◌≢◌, List, [], �
 use Rattle.std.specs.Ordering.{ordering_reverse}
 use Rattle.std.specs.declared.cmp.Ordering.{Ordering}
 use Rattle.std.specs.declared.cmp.Ordering.TheVariants.{Less, Equal, Greater}
-use Rattle.ft_static.specs.Form.{Form, Atom, Monomial, factors, one, times}
-use Rattle.ft_static.specs.FormOrder.{cmp_atom}
+use Rattle.ft_static.specs.Form.{Form, Atom, Monomial, factors, one, times, cmp_atom}
 use Rattle.ft_static.specs.NormalForm.{join, with_factor}
 use Rattle.ft_static.proofs.Cases.{by_cases}
 use Rattle.ft_static.proofs.Spelled.{atom_equal, cmp_atom_total}

@@ -62,7 +62,7 @@ pub constant_sum : (p q : Polynomial) → constant_of (total p q) ≡ constant_o
 constant_sum p q = if_cases (λ r. constant_of (total p q) ≡ constant_of r) (nat_le (terms (total p q)) 64) (total p q)
     (alone (operation_atom Add p q)) (λ e. refl) (λ e. large_is_none (total p q) e)
 
--- no atom makes the empty monomial
+-- without atoms the monomial is the empty one
 pub no_atom : (fs : List Normal) (xs : List ℕ) → size xs ≡ 0 → monomial_form fs xs ≡ one
 no_atom fs [] e = refl
 no_atom fs (zero ∷ xs) e = no_atom fs xs (omega (arith, e))
@@ -78,13 +78,13 @@ no_constant : (m : Monomial) (c : ℕ) → 0 < factors m → None ≡ constant_o
 no_constant one c l = absurd (omega arith)
 no_constant (times a m) c l = refl
 
--- some atom
+-- a monomial with some atom is not constant
 pub some_atom_constant : (fs : List Normal) (xs : List ℕ) (c : ℕ) → (size xs ≡ 0 → ⊥) → None
     ≡ constant_of (plus (monomial_form fs xs) c nought)
 some_atom_constant fs xs c h = no_constant (monomial_form fs xs) c (let e = factors-monomial_form fs xs in
     omega (arith, e, h))
 
--- no terms make nothing
+-- without terms the polynomial is the empty one
 nothing : (fs : List Normal) (q : List Term) → length q ≡ 0 → polynomial_form fs q ≡ nought
 nothing fs [] e = refl
 nothing fs (t ∷ q) e = absurd (omega (arith, e))
@@ -120,7 +120,7 @@ pub sum_small : (fs : List Normal) (a b x y : Polynomial) (s : List Term) → Ar
 sum_small fs a b x y s o v e f l = norm_add_small a b (polynomial_form fs s) (length s) (v
     ∙ (ap (λ z. total z y) e ∙ ap (total a) f)) (terms_over fs s o) l
 
--- and beyond it
+-- terms of a sum, beyond the limit
 pub sum_large : (fs : List Normal) (a b x y : Polynomial) (s : List Term) → AreOver fs s → polynomial_form fs s
     ≡ total x y → x ≡ a → y ≡ b → 64 < length s → alone (operation_atom Add a b) ≡ norm_add a b
 sum_large fs a b x y s o v e f l = norm_add_large a b (polynomial_form fs s) (length s) (v
@@ -134,7 +134,7 @@ product_large a b x y t h k e f =
     let n : (nat_le (terms a * terms b) 64 && nat_le (degree a + degree b) 4) ≡ false = rw (sym e, sym f) (sym h ∙ k) in
     rw n refl
 
--- and one within them
+-- a product within the limits
 pub product_small : (a b x y s : Polynomial) (t : Bool) → t
     ≡ (nat_le (terms x * terms y) 64 && nat_le (degree x + degree y) 4) → t ≡ true → x ≡ a → y ≡ b → s
     ≡ add_products x y nought → s ≡ norm_mul a b

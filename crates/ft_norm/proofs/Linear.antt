@@ -1,4 +1,4 @@
--- Terms of at most one atom, beside the terms that they stand for.
+-- Terms of at most one atom, and the terms that they stand for.
 use Rattle.std.proofs.Common.{ℕ, suc, zero, Option, None, Some, ◌≡◌, ◌≢◌, ◌+◌, ◌<◌, ◌≤◌, List, [], ◌∷◌, ◌++◌, get_or}
 use Rattle.std.proofs.Common.{length, take, refl, sym, ap, ◌∙◌, arith, map}
 use Rattle.std.specs.Prelude.{IfNone}
@@ -11,7 +11,7 @@ use Rattle.ft_norm.proofs.Numbers.{last_number}
 use Rattle.ft_norm.proofs.Ordered.{term_ordered}
 use Rattle.ft_norm.proofs.Sums.{taken_more}
 
--- they are known by those
+-- such terms are known by the terms that they stand for
 full_itself : (x y : LinearTerm) → full x ≡ full y → x ≡ y
 full_itself x y e =
     let a : x.atom ≡ y.atom = ap (λ (t : Term). get_or t.atoms 3 0) e in
@@ -19,7 +19,7 @@ full_itself x y e =
     ap (λ z. let t : LinearTerm = record { atom = z; coefficient = x.coefficient } in t) a
     ∙ ap (λ z. let t : LinearTerm = record { atom = y.atom; coefficient = z } in t) c
 
--- so are lists of them
+-- lists of such terms are known by the terms that they stand for
 pub linears_itself : (xs ys : List LinearTerm) → map full xs ≡ map full ys → xs ≡ ys
 linears_itself [] [] e = refl
 linears_itself [] (y ∷ ys) e = cc
@@ -51,7 +51,7 @@ term_degree [] i d l = absurd (omega (arith, l))
 term_degree (t ∷ ts) zero d l = omega arith
 term_degree (t ∷ ts) (suc i) d l = let h = term_degree ts i d (omega (arith, l)) in omega (arith, h)
 
--- the same of a term that was read
+-- the same for a term that was read
 pub read_degree : (ts : List Term) (i : ℕ) (t : Term) → i < length ts → t ≡ get_or ts i t → size t.atoms ≤ greatest ts
 read_degree ts i t l r = let e = ap (λ (u : Term). size u.atoms) r in let h = term_degree ts i t l in
     omega (arith, e, h)

@@ -6,10 +6,8 @@ use Rattle.std.proofs.lemmas.Bool.Decides.{Decides-eqb}
 use Rattle.indexmap.specs.IndexMap.{IndexMap, get}
 use Rattle.ft_static.specs.Expression.{integer, word}
 use Rattle.ft_static.specs.Form.{Form as Normal, Polynomial, Updates, integer_form, memory_form, nought, polynomial_of}
-use Rattle.ft_static.specs.Form.{updates_of, unchanged, update, updates}
-use Rattle.ft_static.specs.FormOrder.{same_polynomial}
-use Rattle.ft_static.specs.FormUnder.{form_of, form_under, integer_in, memory_in, updates_or}
-use Rattle.ft_static.specs.NormalForm.{norm_upd}
+use Rattle.ft_static.specs.Form.{updates_of, unchanged, update, updates, same_polynomial}
+use Rattle.ft_static.specs.NormalForm.{norm_upd, form_of, form_under, integer_in, memory_in, updates_or}
 use Rattle.ft_static.specs.NodeParts.{EachPart, renamed}
 use Rattle.ft_static.specs.NodeRules.{AreNodes, IsShape, MayName, is_memory}
 use Rattle.ft_static.specs.NodeTree.{tree_at, trees}
@@ -37,7 +35,7 @@ memory_shape : (ps : List Polynomial) (u : Updates) (fs : List Normal) (s : Shap
 memory_shape ps u fs (shape.Word w) e = cc
 memory_shape ps u fs s e = cc
 
--- an update adds one at the most
+-- an update adds at most one
 pub updates-norm_upd : (u : Updates) (p v : Polynomial) → updates (norm_upd u p v) ≤ updates u + 1
 updates-norm_upd unchanged p v = omega arith
 updates-norm_upd (update a w u) p v = go (same_polynomial a p) refl
@@ -109,7 +107,7 @@ module _ (ps : List Polynomial) (u : Updates) (ns : List Node) (h : AreNodes ns)
     made_memory k scope a f m e = s.each a f e ∙ ap Some (memory_tree a m.node m.found m.sort
         ∙ ap memory_form (sym (memory_in_tree k scope a m)))
 
-  -- the parts that were made are of their sorts
+  -- the parts that were made are of the required sorts
   pub parts_sorts : {S : Type 0} (m : IndexMap ℕ Form S) (fs : List Normal) → Stands fs (get nat_eq m) →
       (k scope : ℕ) (x p : Shape) → IsShape ns k scope x → AreMade m x p → HaveSorts fs p
   parts_sorts m fs s k scope x p i e = subst (HaveSorts fs) (sym e.named) (
@@ -158,7 +156,7 @@ module _ (ps : List Polynomial) (u : Updates) (ns : List Node) (h : AreNodes ns)
   node_made m fs s k x p f e = parts_form m fs s k x.scope x.shape p (h.each k x f).shape e
       ∙ sym (node_form ps u ns k x h f)
 
-  -- a memory has as many updates as the variable's, and one for each lower node at the most
+  -- a memory has at most as many updates as the memory variable, and one more for each lower node
   shape_count : (k scope : ℕ) → ((m : ℕ) → m < k → (x : Node) → slice_get ns m ≡ Some x →
       updates (updates_of (tree_form m)) ≤ updates u + m) → (s : Shape) → IsShape ns k scope s →
       updates (updates_of (form_of ps u tree_forms s)) ≤ updates u + k

@@ -4,7 +4,7 @@ use Rattle.std.proofs.Common.{ap, ◌∙◌}
 use Rattle.std.specs.Prelude.{IfOk}
 use Rattle.indexmap.specs.IndexMap.{IsUnchanged, get}
 use Rattle.ft_static.specs.Form.{Form as Normal, Polynomial, Updates, updates}
-use Rattle.ft_static.specs.FormUnder.{form_under}
+use Rattle.ft_static.specs.NormalForm.{form_under}
 use Rattle.ft_static.specs.NodeRules.{AreNodes, is_memory}
 use Rattle.ft_static.specs.NodeTree.{tree_at}
 use Rattle.ft_static.specs.declared.node.Node.{Node}
@@ -64,7 +64,7 @@ pub record Tells (ns : List Node) (fs gs : List Normal) (ints : List Form) (memo
     pub of_memory : (x : Node) → slice_get ns n ≡ Some x → is_memory x.shape ≡ true → IsMemory gs f
     pub count : updates (updates_held gs f) ≤ updates (updates_held fs memory) + n
 
--- it is of the node's sort, and a memory has as many updates as the variable's, and one for each lower node at the most
+-- it is of the node's sort, and has at most as many updates as the memory variable, and one more for each lower node
 pub told : (ns : List Node) (h : AreNodes ns) (fs gs : List Normal) (ints : List Form) (memory : Form) (n : ℕ)
     (f : Form) (x : Node) → slice_get ns n ≡ Some x → held gs f
     ≡ Some (form_under (polynomials fs ints) (updates_held fs memory) (tree_at ns n)) → Tells ns fs gs ints memory n f

@@ -111,12 +111,12 @@ term_ordered [] i d h l = absurd (omega arith)
 term_ordered (t ∷ ts) zero d h l = h.0
 term_ordered (t ∷ ts) (suc i) d h l = term_ordered ts i d h.4 (omega arith)
 
--- the same of a term that was read
+-- the same for a term that was read
 pub read_ordered : (ts : List Term) (t : Term) (i : ℕ) → AreTerms ts → i < length ts → t ≡ get_or ts i t →
     IsMonomial t.atoms
 read_ordered ts t i h l r = let P : Term → Type 0 = λ u. IsMonomial u.atoms in subst P (sym r) (term_ordered ts i t h l)
 
--- and a word as its coefficient
+-- a term that was read has a word as its coefficient
 pub term_word : (ts : List Term) (i : ℕ) (d : Term) → AreTerms ts → i < length ts → (get_or ts i d).coefficient < 2 ^ 64
 term_word [] i d h l = absurd (omega arith)
 term_word (t ∷ ts) zero d h l = h.2
@@ -135,13 +135,13 @@ search_there ts xs t k o l e g = record {
   same = λ d. atoms_equal (get_or ts k d).atoms xs (read_compares ts xs t k o l e d ∙ g);
 }
 
--- it goes on after a lower term
+-- a search goes on after a lower term
 pub search_after : (ts : List Term) (xs : List ℕ) (t : Term) (k : ℕ) (o : Ordering) → k < length ts → o
     ≡ cmp_atoms (get_or ts k t).atoms xs → o ≡ Less
     → (d : Term) (j : ℕ) → j + 1 ≡ k + 1 → cmp_atoms (get_or ts j d).atoms xs ≡ Less
 search_after ts xs t k o l e g d j q = let s : j ≡ k = omega (arith, q) in rw s (read_compares ts xs t k o l e d ∙ g)
 
--- and before a greater one
+-- a search goes on before a greater term
 pub search_before : (ts : List Term) (xs : List ℕ) (t : Term) (k : ℕ) (o : Ordering) → k < length ts → o
     ≡ cmp_atoms (get_or ts k t).atoms xs → o ≡ Greater
     → (d : Term) → k < length ts → cmp_atoms xs (get_or ts k d).atoms ≡ Less

@@ -1,4 +1,4 @@
--- Packed terms, beside the terms that they stand for.
+-- Packed terms, and the terms that they stand for.
 use Rattle.std.proofs.Common.{ℕ, suc, zero, ◌≡◌, ◌<◌, ◌+◌, ◌*◌, ◌/◌, ◌%◌, ◌^◌, List, [], ◌∷◌, ◌++◌, get_or, length}
 use Rattle.std.proofs.Common.{refl, ap, arith, map}
 use Rattle.ft_norm.specs.declared.entry.Term.{Term}
@@ -47,7 +47,7 @@ packed_known p q h k e =
     (parts_known p.first q.first a u.0) (parts_known p.second q.second b u.1) (parts_known p.third q.third c u.2) w.0
     w.1
 
--- so have lists of them
+-- a list of terms has one packed form
 pub packed_itself : (ps qs : List PackedTerm) → ArePacked ps → ArePacked qs → map unpacked ps ≡ map unpacked qs → ps
     ≡ qs
 packed_itself [] [] h k e = refl
@@ -62,7 +62,7 @@ packed_itself (p ∷ ps) (q ∷ qs) h k e =
 small_unpacked : (p : PackedTerm) → IsPacked p → AreSmall (unpacked p).atoms
 small_unpacked p h = (omega arith, (omega arith, (omega arith, (omega (arith, h.first, h.second, h.third), tt))))
 
--- so have those of packed terms
+-- the atoms of packed terms have small numbers
 pub have_small_unpacked : (ps : List PackedTerm) → ArePacked ps → HaveSmall (map unpacked ps)
 have_small_unpacked [] h = tt
 have_small_unpacked (p ∷ ps) h = (small_unpacked p h.0, have_small_unpacked ps h.1)

@@ -1,9 +1,8 @@
 -- In an interner one form has one number.
 use Rattle.std.proofs.Common.{◌≡◌, ◌↔◌, ◌==◌, List, Option, Some, sym, ap, ◌∙◌, subst, IsTrue, inl, inr}
 use Rattle.std.proofs.lemmas.Bool.Decides.{Decides-eqb}
-use Rattle.ft_static.specs.Form.{Form as Normal, integer_form, memory_form}
+use Rattle.ft_static.specs.Form.{Form as Normal, integer_form, memory_form, form_denotation}
 use Rattle.ft_static.specs.Expression.{Expression, HasWords, IsLawful, Valuation, denotation}
-use Rattle.ft_static.specs.FormValue.{form_denotation}
 use Rattle.ft_static.specs.NormalForm.{norm}
 use Rattle.ft_static.proofs.Denote.{norm_denotes}
 use Rattle.ft_norm.specs.declared.entry.Entry.{Entry}

@@ -1,33 +1,24 @@
--- The tests of factors and of terms for equality find the same ones.
-use Rattle.std.proofs.Common.{◌≡◌, Bool, List, refl, ap, ◌∙◌, Decides, arith}
-use Rattle.std.proofs.lemmas.Bool.Decides.{nat_tests, Decides-and, Decides-eqb, Decides-like}
+-- The tests of terms for equality find the same ones.
+use Rattle.std.proofs.Common.{◌≡◌, Bool, List, refl, ap, ◌∙◌, Decides}
+use Rattle.std.proofs.lemmas.Bool.Decides.{Decides-and, Decides-eqb, Decides-like}
 use Rattle.std.proofs.lemmas.Slice.Eq.{slice_eq-Decides}
 use lib.Pointwise.{pointwise}
-use Rattle.ft_isa.proofs.Decided.{op_decides}
-use Rattle.ft_norm.specs.declared.entry.Factor.{Factor}
-use Rattle.ft_norm.specs.declared.entry.Factor.TheVariants.{Variable}
 use Rattle.ft_norm.specs.declared.entry.LinearTerm.{LinearTerm}
 use Rattle.ft_norm.specs.declared.entry.Term.{Term}
 use Rattle.ft_norm.specs.declared.packed.PackedTerm.{PackedTerm}
-use Rattle.ft_norm.specs.contracts.entry.FactorPartialEq.TheImpl as factor
 use Rattle.ft_norm.specs.contracts.entry.LinearTermPartialEq.TheImpl as linear
 use Rattle.ft_norm.specs.contracts.entry.TermPartialEq.TheImpl as term
 use Rattle.ft_norm.proofs.Packing.{rebuilt}
 use Rattle.ft_norm.specs.contracts.packed.PackedTermPartialEq.TheImpl as packed
 
--- the test of two factors
-pub factor_decides : (a b : Factor) → Decides ((factor.ghosts).eq a b) (a ≡ b)
-factor_decides (Variable i) (Variable j) = Decides-like _ (λ e. ap Variable e) (λ e. cc) (Decides-eqb i j)
-factor_decides a b = (λ t. grind (arith, nat_tests, op_decides), λ e. grind (arith, nat_tests, op_decides))
-
--- that of two terms
+-- the test of two terms
 term_decides : (a b : Term) → Decides ((term.ghosts).eq a b) (a ≡ b)
 term_decides a b = Decides-like _ (λ h. ap (λ x. let t : Term = record { atoms = x; coefficient = a.coefficient } in
     t) h.0 ∙ ap (λ x. let t : Term = record { atoms = b.atoms; coefficient = x } in t) h.1)
     (λ e. (ap (λ (t : Term). t.atoms) e, ap (λ (t : Term). t.coefficient) e))
     (Decides-and _ _ (slice_eq-Decides Decides-eqb a.atoms b.atoms _ refl) (Decides-eqb a.coefficient b.coefficient))
 
--- and of two terms of at most one atom
+-- the test of two terms of at most one atom
 linear_decides : (a b : LinearTerm) → Decides ((linear.ghosts).eq a b) (a ≡ b)
 linear_decides a b = Decides-like _ (λ h. ap (λ x. let t : LinearTerm = record {
   atom = x;
@@ -37,7 +28,7 @@ linear_decides a b = Decides-like _ (λ h. ap (λ x. let t : LinearTerm = record
     (λ e. (ap (λ (t : LinearTerm). t.atom) e, ap (λ (t : LinearTerm). t.coefficient) e))
     (Decides-and _ _ (Decides-eqb a.atom b.atom) (Decides-eqb a.coefficient b.coefficient))
 
--- and of two packed terms
+-- the test of two packed terms
 packed_decides : (a b : PackedTerm) → Decides ((packed.ghosts).eq a b) (a ≡ b)
 packed_decides a b = Decides-like _ (λ h. rebuilt a.first a.second a.third a.high a.low b.first b.second b.third b.high
     b.low h.0 h.1.0 h.1.1.0 h.1.1.1.0 h.1.1.1.1)
@@ -53,7 +44,7 @@ packed_decides a b = Decides-like _ (λ h. rebuilt a.first a.second a.third a.hi
     (Decides-and _ _ (Decides-eqb a.third b.third)
     (Decides-and _ _ (Decides-eqb a.high b.high) (Decides-eqb a.low b.low)))))
 
--- those of lists of them
+-- the tests of lists of terms
 pub terms_decide : (xs ys : List Term) (r : Bool) → r ≡ pointwise (term.ghosts).eq xs ys → Decides r (xs ≡ ys)
 terms_decide = slice_eq-Decides term_decides
 

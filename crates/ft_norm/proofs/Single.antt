@@ -9,15 +9,14 @@ use Rattle.std.proofs.lemmas.List.{take_more}
 use Rattle.std.specs.declared.cmp.Ordering.TheVariants.{Less, Equal, Greater}
 use Rattle.ft_static.specs.Coefficient.{count, share}
 use Rattle.ft_static.specs.Form.{Atom, Form, Monomial, Polynomial, factors, integer_form, memory_form, nought, one}
-use Rattle.ft_static.specs.Form.{plus, terms, times}
-use Rattle.ft_static.specs.FormOrder.{cmp_atom, cmp_monomial}
+use Rattle.ft_static.specs.Form.{plus, terms, times, cmp_atom, cmp_monomial, has_atom}
 use Rattle.ft_static.specs.NormalForm.{add_term, alone, by_order, constant_of, degree, led_by, with_factor}
 use Rattle.ft_static.proofs.Cases.{by_cases, if_cases}
 use Rattle.ft_static.proofs.Counts.{count_join}
 use Rattle.ft_static.proofs.Spelled.{atom_equal, cmp_atom_total, cmp_monomial_total, monomial_equal}
 use Rattle.ft_static.proofs.Coefficients.{order_split}
-use Rattle.ft_norm.specs.declared.entry.Factor.{Factor}
-use Rattle.ft_norm.specs.declared.entry.Factor.TheVariants.{Variable}
+use Rattle.ft_static.specs.declared.node.Shape.{Shape}
+use Rattle.ft_static.specs.declared.node.Shape.TheVariants.{Var}
 use Rattle.ft_norm.specs.declared.entry.Term.{Term}
 use Rattle.ft_norm.specs.Held.{polynomial_at, updates_at}
 use Rattle.ft_norm.specs.Entries.{IsDistinct, alone_term, atom_at, atom_form, atom_reach, greatest, integer_reach}
@@ -143,12 +142,12 @@ degree_add m c (plus n d p) l w = by_cases (λ q. degree q ≡ max (factors m) (
     (λ e. absurd (w.0 (monomial_equal m n e)))
     (λ e. let h = degree_add m c p l w.1 in omega (arith, h))
 
--- what a monomial gets of terms
+-- what terms contribute to a monomial
 abbrev gives : List Form → Monomial → List Term → ℕ
 gives fs k [] = 0
 gives fs k (t ∷ ts) = share k (monomial_form fs t.atoms) t.coefficient + gives fs k ts
 
--- it gets the same of their polynomial
+-- the polynomial of terms contributes the same to a monomial as the terms
 pub weigh_form : (fs : List Form) (k : Monomial) (ts : List Term) → weigh (share k) (polynomial_form fs ts) % 2 ^ 64
     ≡ gives fs k ts % 2 ^ 64
 weigh_form fs k [] = refl
@@ -158,12 +157,12 @@ weigh_form fs k (t ∷ ts) =
     ∙ mods_both (share k m t.coefficient) (share k m t.coefficient) (weigh (share k) (polynomial_form fs ts))
     (gives fs k ts) refl (weigh_form fs k ts)
 
--- what another monomial gets
+-- a term contributes nothing to another monomial
 share_other : (k m : Monomial) (c : ℕ) → k ≢ m → share k m c ≡ 0
 share_other k m c h = order_split _ (cmp_monomial k m) (λ o. rw o refl) (λ o. absurd (h (monomial_equal k m o))) (λ o.
     rw o refl)
 
--- what the same one gets
+-- a term contributes its coefficient to its own monomial
 share_same : (m : Monomial) (c : ℕ) → share m m c ≡ c
 share_same m c = rw (tied_itself cmp_monomial_total m) refl
 
@@ -181,13 +180,13 @@ module _ (fs : List Form) (d : IsDistinct fs) where
   one_memory p r a b e = d.one p r (memory_form (updates_at fs r)) (memory_reached fs (length fs) p (omega arith) a
       ∙ ap (λ x. Some (memory_form x)) e) (memory_reached fs (length fs) r (omega arith) b)
 
-  -- one atom has one factor
-  pub one_factor : (a b : Factor) → reach fs a ≤ length fs → reach fs b ≤ length fs → atom_form fs a ≡ atom_form fs b →
-      a ≡ b
-  one_factor (Variable i) (Variable j) a b e = let t : i ≡ j = cc in ap Variable t
-  one_factor x y a b e = grind (arith, one_integer, one_memory)
+  -- one atom has one node
+  pub one_node : (x y : Shape) → has_atom x ≡ true → has_atom y ≡ true → reach fs x ≤ length fs →
+      reach fs y ≤ length fs → atom_form fs x ≡ atom_form fs y → x ≡ y
+  one_node (Var i) (Var j) h k a b e = let t : i ≡ j = cc in ap Var t
+  one_node x y h k a b e = grind (arith, one_integer, one_memory)
 
-  -- and one number
+  -- one atom has one number
   one_atom : (i j : ℕ) → atom_reach fs (suc i) ≤ length fs → atom_reach fs (suc j) ≤ length fs → atom_at fs i
       ≡ atom_at fs j → i ≡ j
   one_atom i j a b e = d.one i j (integer_form (alone (atom_at fs j))) (atom_reached fs (length fs) i (omega arith) a
@@ -234,7 +233,7 @@ module _ (fs : List Form) (d : IsDistinct fs) where
       let t : Less ≡ Equal = sym o ∙ (ap (cmp_atoms xs) (sym (one_monomial xs ys h k a b e))
       ∙ tied_itself nat_list_cmp_total xs) in cc
 
-  -- a monomial below those of terms is none of theirs
+  -- a monomial below those of terms is not among them
   misses_form : (xs : List ℕ) (ts : List Term) → IsMonomial xs → reach_of_atoms fs xs ≤ length fs → AreTerms ts →
       reach_of_terms fs ts ≤ length fs → Precedes xs ts → Misses (monomial_form fs xs) (polynomial_form fs ts)
   misses_form xs [] h a k b p = tt
@@ -243,7 +242,7 @@ module _ (fs : List Form) (d : IsDistinct fs) where
       (monomials_apart xs t.atoms h k.0 a (omega arith) p)
       (misses_form xs ts h a k.4 (omega arith) (precedes_through xs t.atoms ts p k.3))
 
-  -- nor does it get anything of them
+  -- terms contribute nothing to a monomial below theirs
   pub gives_none : (xs : List ℕ) (ts : List Term) → IsMonomial xs → reach_of_atoms fs xs ≤ length fs → AreTerms ts →
       reach_of_terms fs ts ≤ length fs → Precedes xs ts → gives fs (monomial_form fs xs) ts ≡ 0
   gives_none xs [] h a k b p = refl
@@ -324,7 +323,7 @@ greatest-append : (xs ys : List Term) → greatest (xs ++ ys) ≡ max (greatest 
 greatest-append [] ys = omega arith
 greatest-append (x ∷ xs) ys = let h = greatest-append xs ys in omega (arith, h)
 
--- with one more term
+-- the greatest degree with one more term
 pub greatest_more : (xs : List Term) (x : Term) (i n : ℕ) → i < length xs → x ≡ get_or xs i x → n
     ≡ greatest (take i xs) → max n (size x.atoms) ≡ greatest (take (i + 1) xs)
 greatest_more xs x i n l r e =
@@ -340,7 +339,7 @@ greatest_all [] (suc i) h = refl
 greatest_all (x ∷ xs) zero h = absurd (omega (arith, h))
 greatest_all (x ∷ xs) (suc i) h = ap (max (size x.atoms)) (greatest_all xs i (omega (arith, h)))
 
--- that is the degree
+-- the greatest degree is that of the polynomial
 pub degree_over : (fs : List Form) (ts : List Term) → AreOver fs ts → degree (polynomial_form fs ts) ≡ greatest ts
 degree_over fs [] h = refl
 degree_over fs (t ∷ ts) h =

@@ -133,33 +133,33 @@ reach-append : (fs : List Form) (xs ys : List Term) (n : ℕ) → reach_of_terms
 reach-append fs [] ys n h k = k
 reach-append fs (x ∷ xs) ys n h k = let r = reach-append fs xs ys n (omega arith) k in omega arith
 
--- nor do the first ones
+-- the first terms name no more than all
 reach-take : (fs : List Form) (xs : List Term) (i n : ℕ) → reach_of_terms fs xs ≤ n → reach_of_terms fs (take i xs) ≤ n
 reach-take fs [] zero n h = omega arith
 reach-take fs [] (suc i) n h = omega arith
 reach-take fs (x ∷ xs) zero n h = omega arith
 reach-take fs (x ∷ xs) (suc i) n h = let r = reach-take fs xs i n (omega arith) in omega arith
 
--- nor do the last ones
+-- the last terms name no more than all
 reach-drop : (fs : List Form) (xs : List Term) (i n : ℕ) → reach_of_terms fs xs ≤ n → reach_of_terms fs (drop i xs) ≤ n
 reach-drop fs [] zero n h = omega arith
 reach-drop fs [] (suc i) n h = omega arith
 reach-drop fs (x ∷ xs) zero n h = h
 reach-drop fs (x ∷ xs) (suc i) n h = reach-drop fs xs i n (omega arith)
 
--- nor do they without one
+-- the terms without one name no more
 pub reach-remove : (fs : List Form) (xs : List Term) (i n : ℕ) → reach_of_terms fs xs ≤ n →
     reach_of_terms fs (take i xs ++ drop (suc i) xs) ≤ n
 reach-remove fs xs i n h = reach-append fs (take i xs) (drop (suc i) xs) n (reach-take fs xs i n h)
     (reach-drop fs xs (suc i) n h)
 
--- nor do they with one more
+-- the terms with one more stay within a bound on both
 pub reach-insert : (fs : List Form) (xs : List Term) (i n : ℕ) (v : Term) → reach_of_terms fs xs ≤ n →
     reach_of_atoms fs v.atoms ≤ n → reach_of_terms fs (take i xs ++ v ∷ drop i xs) ≤ n
 reach-insert fs xs i n v h k = reach-append fs (take i xs) (v ∷ drop i xs) n (reach-take fs xs i n h) (let r =
     reach-drop fs xs i n h in omega arith)
 
--- nor do they with another one
+-- the terms with another one in a place stay within a bound on both
 pub reach-set : (fs : List Form) (xs : List Term) (i n : ℕ) (v : Term) → reach_of_terms fs xs ≤ n →
     reach_of_atoms fs v.atoms ≤ n → reach_of_terms fs (set xs i v) ≤ n
 reach-set fs [] i n v h k = h
@@ -173,7 +173,7 @@ term_reach fs [] d k l = absurd (omega arith)
 term_reach fs (x ∷ xs) d zero l = omega arith
 term_reach fs (x ∷ xs) d (suc k) l = let h = term_reach fs xs d k (omega arith) in omega arith
 
--- nor does one that was read
+-- a term that was read names no more than all of them
 pub term_reach_read : (fs : List Form) (xs : List Term) (a : Term) (k : ℕ) → k < length xs → a ≡ get_or xs k a →
     reach_of_atoms fs a.atoms ≤ reach_of_terms fs xs
 term_reach_read fs xs a k l ra = let P : Term → ℕ = λ t. reach_of_atoms fs t.atoms in let e = ap P ra in
@@ -189,7 +189,7 @@ pub taken_more : (xs cs : List Term) (x : Term) (i : ℕ) → cs ≡ take i xs �
     ++ x ∷ [] ≡ take (i + 1) xs
 taken_more xs cs x i e l r = ap (λ ys. ys ++ x ∷ []) e ∙ (ap (λ y. take i xs ++ y ∷ []) r ∙ sym (take_more xs i x l))
 
--- or is negated
+-- one more term is negated
 pub negated_more : (xs cs : List Term) (x : Term) (i : ℕ) → cs ≡ map negated_term (take i xs) → i < length xs → x
     ≡ get_or xs i x → cs ++ negated_term x ∷ [] ≡ map negated_term (take (i + 1) xs)
 negated_more xs cs x i e l r = ap (λ ys. ys ++ negated_term x ∷ []) e

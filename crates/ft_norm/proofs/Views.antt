@@ -25,7 +25,7 @@ packed_full ps ts h n e = n (subst HaveSmall e (have_small_unpacked ps h))
 pub atom_full : (x : ℕ) (ts : List Term) → 2 ≤ greatest ts → terms_of (Atom x) ≡ ts → ⊥
 atom_full x ts h e = let g = ap greatest e in let l = present_bound x in omega (arith, g, l, h)
 
--- a single atom is the terms of no view of more
+-- no view of more terms has the terms of a single atom
 pub atom_other : (x : ℕ) (q : Terms) → IsView q → ((y : ℕ) → q ≡ Atom y → ⊥) → ((us : _) → q ≡ Linear us → ⊥) →
     terms_of (Atom x) ≡ terms_of q → ⊥
 atom_other x (Atom y) v m n e = m y refl
@@ -33,7 +33,7 @@ atom_other x (Linear us) v m n e = n us refl
 atom_other x (Packed ps) v m n e = atom_full x (map unpacked ps.now) v.0 e
 atom_other x (Full ts) v m n e = atom_full x ts.now v.0 e
 
--- nor are terms of at most one atom
+-- nor those of terms of at most one atom
 pub linear_other : (xs : List LinearTerm) (q : Terms) → IsView q → ((y : ℕ) → q ≡ Atom y → ⊥) →
     ((us : _) → q ≡ Linear us → ⊥) → map full xs ≡ terms_of q → ⊥
 linear_other xs (Atom y) v m n e = m y refl
@@ -41,7 +41,7 @@ linear_other xs (Linear us) v m n e = n us refl
 linear_other xs (Packed ps) v m n e = linear_full xs (map unpacked ps.now) v.0 e
 linear_other xs (Full ts) v m n e = linear_full xs ts.now v.0 e
 
--- packed terms are those of no other view
+-- no other view has the terms of packed ones
 pub packed_other : (ps : List PackedTerm) (q : Terms) → (2 ≤ greatest (map unpacked ps)) × ArePacked ps → IsView q →
     ((us : _) → q ≡ Packed us → ⊥) → map unpacked ps ≡ terms_of q → ⊥
 packed_other ps (Atom x) h v n e = atom_full x (map unpacked ps) h.0 (sym e)
@@ -49,7 +49,7 @@ packed_other ps (Linear xs) h v n e = linear_full xs.now (map unpacked ps) h.0 (
 packed_other ps (Packed us) h v n e = n us refl
 packed_other ps (Full ts) h v n e = packed_full ps ts.now h.1 v.1 e
 
--- nor are terms with an atom of a great number
+-- nor those of terms with an atom of a great number
 pub full_other : (ts : List Term) (q : Terms) → (2 ≤ greatest ts) × (HaveSmall ts → ⊥) → IsView q →
     ((us : _) → q ≡ Full us → ⊥) → ts ≡ terms_of q → ⊥
 full_other ts (Atom x) h v n e = atom_full x ts h.0 (sym e)

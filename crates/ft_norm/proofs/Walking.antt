@@ -3,8 +3,7 @@ use Rattle.std.proofs.Common.{ℕ, ◌≡◌, ◌≢◌, ◌+◌, ◌<◌, ◌�
 use Rattle.std.proofs.Common.{◌∙◌, arith}
 use Rattle.std.proofs.lemmas.Option.{slice_get_within}
 use Rattle.ft_static.specs.Form.{Form, Polynomial, Updates, integer_form, memory_form, unchanged, update, updates}
-use Rattle.ft_static.specs.Form.{sel_atom}
-use Rattle.ft_static.specs.FormOrder.{same_polynomial}
+use Rattle.ft_static.specs.Form.{sel_atom, same_polynomial}
 use Rattle.ft_static.specs.NormalForm.{alone, norm_sel, norm_sub, norm_upd, constant_of, is_not_zero}
 use Rattle.ft_static.proofs.Equal.{equal_polynomials}
 use Rattle.ft_norm.specs.declared.entry.Entry.{Entry}
@@ -67,12 +66,12 @@ pub integer_bound : (es : List Entry) (i : ℕ) → IsIntegerAt (forms_of es) i 
 integer_bound es i h = let w = slice_get_within (forms_of es) i (integer_form (polynomial_at (forms_of es) i)) h in
     let l = length-forms_of es in omega arith
 
--- so is one that is a memory's
+-- a place that is a memory's is within the entries
 pub memory_bound : (es : List Entry) (i : ℕ) → IsMemoryAt (forms_of es) i → i < length es
 memory_bound es i h = let w = slice_get_within (forms_of es) i (memory_form (updates_at (forms_of es) i)) h in
     let l = length-forms_of es in omega arith
 
--- and it reaches within them
+-- a memory's place reaches within the entries
 pub memory_reached_at : (es : List Entry) (i : ℕ) → IsMemoryAt (forms_of es) i →
     memory_reach (forms_of es) i ≤ length (forms_of es)
 memory_reached_at es i h = let w = slice_get_within (forms_of es) i (memory_form (updates_at (forms_of es) i)) h in
@@ -84,7 +83,7 @@ pub older_reach : (es : List Entry) (m : ℕ) (e : Entry) (a v k : ℕ) → AreE
 older_reach es m e a v k h l r q = let x = link_sorts es m e a v k h.earlier l r q in let n = length-forms_of es in
     omega (arith, x, n)
 
--- it has one update less
+-- an older memory has one update fewer
 pub older_count : (es : List Entry) (m : ℕ) (e : Entry) (a v k : ℕ) → AreEntries es → m < length es → e
     ≡ get_or es m e → e ≡ Update a v k → updates (updates_at (forms_of es) m) ≡ updates (updates_at (forms_of es) k) + 1
 older_count es m e a v k h l r q = ap updates (link es m e a v k h.earlier l r q) ∙ omega arith

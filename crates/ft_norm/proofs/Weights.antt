@@ -6,10 +6,8 @@ use Rattle.std.proofs.lemmas.Nat.{mul-mod_first, mul-mod_second}
 use Rattle.std.proofs.lemmas.Cmp.{tied_itself}
 use Rattle.std.specs.declared.cmp.Ordering.TheVariants.{Less}
 use Rattle.ft_static.specs.Coefficient.{share}
-use Rattle.ft_static.specs.Form.{Monomial, Polynomial, nought, plus}
-use Rattle.ft_static.specs.FormOrder.{cmp_monomial}
+use Rattle.ft_static.specs.Form.{Monomial, Polynomial, nought, plus, cmp_monomial, Below}
 use Rattle.ft_static.specs.NormalForm.{add_multiple, add_products, add_term, join, led_by, negation, total}
-use Rattle.ft_static.specs.Proper.{Below}
 use Rattle.ft_static.proofs.Cases.{by_cases, if_cases}
 use Rattle.ft_static.proofs.Proper.{below_more, turned, below_led, below_negation}
 use Rattle.ft_static.proofs.Spelled.{cmp_monomial_total, monomial_equal}
@@ -35,7 +33,7 @@ rises_led : (m : Monomial) (c : ℕ) (p : Polynomial) → c < 2 ^ 64 → Below m
 rises_led m c p l b w = if_cases (λ q. Rises q) (c == 0) p (plus m c p) (λ e. w) (λ e.
     ((let n = eqb-false c 0 e in omega arith), l, b, w))
 
--- so does a term added
+-- a term added keeps the order
 pub rises_add : (m : Monomial) (c : ℕ) (p : Polynomial) → c < 2 ^ 64 → Rises p → Rises (add_term m c p)
 rises_add m c nought l w = rises_led m c nought l tt tt
 rises_add m c (plus n d p) l w = by_cases (λ q. Rises q) (cmp_monomial m n) (led_by m c (plus n d p))
@@ -49,13 +47,13 @@ pub rises_total : (p q : Polynomial) → Rises p → Rises q → Rises (total p 
 rises_total nought q h k = k
 rises_total (plus m c p) q h k = rises_total p (add_term m c q) h.3 (rises_add m c q h.1 k)
 
--- so do the products with one term
+-- the products with one term, added, keep the order
 pub rises_multiple : (m : Monomial) (c : ℕ) (p q : Polynomial) → Rises q → Rises (add_multiple m c p q)
 rises_multiple m c nought q k = k
 rises_multiple m c (plus n d p) q k = rises_multiple m c p (add_term (join m n) ((c * d) % 2 ^ 64) q)
     (rises_add (join m n) ((c * d) % 2 ^ 64) q (mod-lt _ (lit< tt)) k)
 
--- and all products
+-- all products, added, keep the order
 pub rises_products : (p q r : Polynomial) → Rises r → Rises (add_products p q r)
 rises_products nought q r k = k
 rises_products (plus m c p) q r k = rises_products p q (add_multiple m c q r) (rises_multiple m c q r k)
@@ -112,7 +110,7 @@ module _ (f : Monomial → ℕ → ℕ) (l : IsLinear f) where
   weigh_total nought q = rw zero-add refl
   weigh_total (plus m c p) q = let x = weigh_total p (add_term m c q) in let y = weigh_add m c q in omega (arith, x, y)
 
--- what one monomial gets is linear
+-- contributions to one monomial are linear
 pub share_linear : (k : Monomial) → IsLinear (share k)
 share_linear k = record {
   none = λ m. order_split _ (cmp_monomial k m) (λ o. rw o refl) (λ o. rw o refl) (λ o. rw o refl);
@@ -169,7 +167,7 @@ module _ (f : Monomial → ℕ → ℕ) (l : IsLinear f) where
       (times_terms f q m c + times_terms f q m d) y x
       ∙ ap (λ t. t % 2 ^ 64) (omega arith)
 
-  -- so linear in the first one
+  -- a product is linear in its first factor
   pub terms_linear : (q : Polynomial) → IsLinear (times_terms f q)
   terms_linear q = record { none = no_times q; sum = sum_times q }
 
@@ -193,12 +191,12 @@ module _ (f : Monomial → ℕ → ℕ) (l : IsLinear f) where
       x ∙ (mods_both (weigh (times_terms f q) p) (weigh (times_terms f q) p) _ (times_terms f q m c + weigh f r) refl y
       ∙ ap (λ t. t % 2 ^ 64) (omega arith))
 
--- what a lower monomial gets
+-- a polynomial contributes nothing to a lower monomial
 weigh_below : (k : Monomial) (p : Polynomial) → Rises p → Below k p → weigh (share k) p ≡ 0
 weigh_below k nought h b = refl
 weigh_below k (plus n d p) h b = rw (b, zero-add) (weigh_below k p h.3 (below_more k n p b h.2))
 
--- what the first monomial gets
+-- a polynomial contributes its first coefficient to its first monomial
 pub weigh_first : (m : Monomial) (c : ℕ) (p : Polynomial) → Rises (plus m c p) → weigh (share m) (plus m c p) ≡ c
 weigh_first m c p h = rw (tied_itself cmp_monomial_total m, weigh_below m p h.3 h.2) (omega arith)
 
@@ -242,11 +240,11 @@ negated_word c = let l : c % 2 ^ 64 < 2 ^ 64 = mod-lt c (lit< tt) in
     refl (sym (mod-mod c (2 ^ 64))) ∙ (let e : 2 ^ 64 - c % 2 ^ 64 + c % 2 ^ 64 ≡ 2 ^ 64 = omega (arith, l) in
     ap (λ t. t % 2 ^ 64) e))
 
--- what a monomial gets of a term and of its negation
+-- what a term and its negation contribute to a monomial
 pub share_negation : (k m : Monomial) (c : ℕ) → (share k m ((2 ^ 64 - c % 2 ^ 64) % 2 ^ 64) + share k m c) % 2 ^ 64 ≡ 0
 share_negation k m c = order_split _ (cmp_monomial k m) (λ o. rw o refl) (λ o. rw o (negated_word c)) (λ o. rw o refl)
 
--- and of a polynomial and of its negation
+-- what a polynomial and its negation contribute to a monomial
 pub weigh_negation : (k : Monomial) (p : Polynomial) → (weigh (share k) (negation p) + weigh (share k) p) % 2 ^ 64 ≡ 0
 weigh_negation k nought = refl
 weigh_negation k (plus m c p) =

@@ -1,10 +1,10 @@
 -- The forms that a list of entries stands for.
 use Rattle.std.specs.Prelude.{ℕ, zero, suc, ◌+◌, ◌^◌, ◌≡◌, ◌≢◌, ◌<◌, ◌≤◌, Bool, true, false, if◌then◌else◌, List, [], ◌∷◌, ◌++◌, Option, None, Some, max, length, map, slice_get, slice_index_or}
-use Rattle.ft_static.specs.Form.{Form, integer_form, memory_form, Atom, Monomial, Polynomial, variable_atom, operation_atom, sel_atom, rem_atom, one, times, nought, plus, unchanged, update}
+use Rattle.ft_static.specs.Form.{Form, integer_form, memory_form, Atom, Monomial, Polynomial, atom_over, has_atom, variable_atom, one, times, nought, plus, unchanged, update}
 use Rattle.ft_static.specs.NormalForm.{add_term, alone, with_factor}
+use Rattle.ft_static.specs.NodeParts.{greatest_part}
+use Rattle.ft_static.specs.declared.node.Shape.{Shape}
 use Rattle.ft_norm.specs.Held.{polynomial_at, updates_at}
-use Rattle.ft_norm.specs.declared.entry.Factor.{Factor}
-use Rattle.ft_norm.specs.declared.entry.Factor.TheVariants.{Variable, Operation, Sel, Rem}
 use Rattle.ft_norm.specs.declared.entry.LinearTerm.{LinearTerm}
 use Rattle.ft_norm.specs.declared.entry.Term.{Term}
 use Rattle.ft_norm.specs.declared.entry.Entry.{Entry}
@@ -12,12 +12,9 @@ use Rattle.ft_norm.specs.declared.entry.Entry.TheVariants as entry
 use Rattle.ft_norm.specs.Orders.{AreTerms}
 use Rattle.ft_norm.specs.Packing.{ArePacked, HaveSmall, unpacked}
 
--- the atom of a factor, if the forms of the entries are these
-abbrev pub atom_form : List Form → Factor → Atom
-atom_form fs (Variable i) = variable_atom i
-atom_form fs (Operation o p q) = operation_atom o (polynomial_at fs p) (polynomial_at fs q)
-atom_form fs (Sel m p) = sel_atom (updates_at fs m) (polynomial_at fs p)
-atom_form fs (Rem p m) = rem_atom (polynomial_at fs p) m
+-- the atom of a node over entries, if their forms are these
+abbrev pub atom_form : List Form → Shape → Atom
+atom_form fs x = atom_over (polynomial_at fs) (updates_at fs) x
 
 -- the atom of a polynomial that consists of it
 abbrev pub atom_of : Polynomial → Atom
@@ -81,11 +78,11 @@ is_memory_form None = false
 is_memory_form (Some (integer_form p)) = false
 is_memory_form (Some (memory_form u)) = true
 
--- one more than the number of a part that must be an integer's form; one of the other sort is beyond the list
+-- one more than the number of a part that must be an integer's form; beyond the list if the form there is not one
 abbrev pub integer_reach : List Form → ℕ → ℕ
 integer_reach fs i = i + 1 + (if is_integer_form (slice_get fs i) then 0 else length fs)
 
--- the same of a part that must be a memory's form
+-- the same for a part that must be a memory's form
 abbrev pub memory_reach : List Form → ℕ → ℕ
 memory_reach fs i = i + 1 + (if is_memory_form (slice_get fs i) then 0 else length fs)
 
@@ -94,29 +91,31 @@ abbrev pub is_atom_form : Option Form → Bool
 is_atom_form (Some (integer_form (plus (times a one) (suc zero) nought))) = true
 is_atom_form o = false
 
--- the same of a number of an atom
+-- the same for the number of an atom
 abbrev pub atom_reach : List Form → ℕ → ℕ
 atom_reach fs zero = 0
 atom_reach fs (suc k) = k + 1 + (if is_atom_form (slice_get fs k) then 0 else length fs)
 
--- one more than the greatest number that a factor names, each of its sort
-abbrev pub reach : List Form → Factor → ℕ
-reach fs (Variable i) = 0
-reach fs (Operation o p q) = max (integer_reach fs p) (integer_reach fs q)
-reach fs (Sel m p) = max (memory_reach fs m) (integer_reach fs p)
-reach fs (Rem p m) = integer_reach fs p
+-- the same of a part of this sort
+abbrev pub part_reach : List Form → Bool → ℕ → ℕ
+part_reach fs true i = memory_reach fs i
+part_reach fs false i = integer_reach fs i
 
--- the same of the atoms of a monomial
+-- one more than the greatest number that a node names, each of its sort
+abbrev pub reach : List Form → Shape → ℕ
+reach fs x = greatest_part (part_reach fs) x
+
+-- the same for the atoms of a monomial
 abbrev pub reach_of_atoms : List Form → List ℕ → ℕ
 reach_of_atoms fs [] = 0
 reach_of_atoms fs (x ∷ xs) = max (atom_reach fs x) (reach_of_atoms fs xs)
 
--- the same of terms
+-- the same for terms
 abbrev pub reach_of_terms : List Form → List Term → ℕ
 reach_of_terms fs [] = 0
 reach_of_terms fs (t ∷ ts) = max (reach_of_atoms fs t.atoms) (reach_of_terms fs ts)
 
--- the same of an entry
+-- the same for an entry
 abbrev pub reach_of_entry : List Form → Entry → ℕ
 reach_of_entry fs (entry.Atom a) = reach fs a
 reach_of_entry fs (entry.Linear ts) = reach_of_terms fs (map full ts.items)
@@ -125,7 +124,7 @@ reach_of_entry fs (entry.Full ts) = reach_of_terms fs ts.items
 reach_of_entry fs entry.Unchanged = 0
 reach_of_entry fs (entry.Update at value older) = max (max (integer_reach fs at) (integer_reach fs value)) (memory_reach fs older)
 
--- each entry names only earlier ones, each of its sort
+-- each entry names only earlier ones, each of the required sort
 abbrev pub NamesEarlier : List Entry → Type 0
 NamesEarlier es = (k : ℕ) (e : Entry) → k < length es → reach_of_entry (forms_of es) (slice_index_or es k e) ≤ k
 
@@ -162,14 +161,14 @@ greatest (t ∷ ts) = max (size t.atoms) (greatest ts)
 
 -- an entry as an interner keeps it
 abbrev pub IsCanonical : Entry → Type 0
-IsCanonical (entry.Atom a) = Unit {0}
+IsCanonical (entry.Atom a) = has_atom a ≡ true
 IsCanonical (entry.Linear ts) = AreTerms (map full ts.items) × (length ts.items ≤ 64) × ((k : ℕ) → map full ts.items ≢ alone_term (k + 1) ∷ [])
 IsCanonical (entry.Packed ts) = AreTerms (map unpacked ts.items) × (length ts.items ≤ 64) × (2 ≤ greatest (map unpacked ts.items)) × ArePacked ts.items
 IsCanonical (entry.Full ts) = AreTerms ts.items × (length ts.items ≤ 64) × (2 ≤ greatest ts.items) × (HaveSmall ts.items → ⊥)
 IsCanonical entry.Unchanged = Unit {0}
 IsCanonical (entry.Update at value older) = Unit {0}
 
--- so are all entries
+-- each entry is as an interner keeps it
 abbrev pub AreCanonical : List Entry → Type 0
 AreCanonical es = (k : ℕ) (e : Entry) → k < length es → IsCanonical (slice_index_or es k e)
 

@@ -16,31 +16,31 @@ updates_at fs i = updates_of (unwrap_or (slice_get fs i) (integer_form nought))
 abbrev pub held : List Normal → Form → Option Normal
 held fs f = slice_get fs f.0
 
--- the polynomial that it stands for
+-- the polynomial that a `Form` stands for
 abbrev pub polynomial : List Normal → Form → Polynomial
 polynomial fs f = polynomial_at fs f.0
 
--- the updates that it stands for
+-- the updates that a `Form` stands for
 abbrev pub updates_held : List Normal → Form → Updates
 updates_held fs f = updates_at fs f.0
 
--- the list holds it, and it stands for an integer
+-- the list holds a `Form`, and it stands for an integer
 pub record IsInteger (fs : List Normal) (f : Form) : Type 0 where
   pub found : held fs f ≡ Some (integer_form (polynomial fs f))
 
--- the list holds it, and it stands for a memory
+-- the list holds a `Form`, and it stands for a memory
 pub record IsMemory (fs : List Normal) (f : Form) : Type 0 where
   pub found : held fs f ≡ Some (memory_form (updates_held fs f))
 
--- the list holds it
+-- the list holds a `Form`
 abbrev pub IsHeld : List Normal → Form → Type 0
 IsHeld fs f = IsInteger fs f ⊎ IsMemory fs f
 
--- each of these is held and stands for an integer
+-- each of these forms is held and stands for an integer
 abbrev pub AreIntegers : List Normal → List Form → Type 0
 AreIntegers fs xs = (i : ℕ) (f : Form) → slice_get xs i ≡ Some f → IsInteger fs f
 
--- the polynomials that these stand for
+-- the polynomials that these forms stand for
 abbrev pub polynomials : List Normal → List Form → List Polynomial
 polynomials fs xs = map (polynomial fs) xs
 

@@ -6,11 +6,11 @@ use Rattle.std.specs.declared.cmp.Ordering.{Ordering}
 use Rattle.std.specs.declared.cmp.Ordering.TheVariants.{Less}
 use Rattle.ft_norm.specs.declared.entry.Term.{Term}
 
--- the atoms of two monomials: by the first numbers that differ
+-- compares the atoms of two monomials, by the first numbers that differ
 abbrev pub cmp_atoms : List ℕ → List ℕ → Ordering
 cmp_atoms = slice_cmp nat_cmp
 
--- a number is not above the first of these
+-- a number is not above the first of these numbers
 abbrev pub Leads : ℕ → List ℕ → Type 0
 Leads x [] = Unit {0}
 Leads x (y ∷ ys) = x ≤ y

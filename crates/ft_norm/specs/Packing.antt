@@ -28,7 +28,7 @@ abbrev pub AreSmall : List ℕ → Type 0
 AreSmall [] = Unit {0}
 AreSmall (x ∷ xs) = (x < 2 ^ 24) × AreSmall xs
 
--- so are all atoms of these terms
+-- each atom of these terms is below 2^24
 abbrev pub HaveSmall : List Term → Type 0
 HaveSmall [] = Unit {0}
 HaveSmall (t ∷ ts) = AreSmall t.atoms × HaveSmall ts

@@ -16,7 +16,7 @@ terms_of (view.Linear ts) = map full ts.now
 terms_of (view.Packed ts) = map unpacked ts.now
 terms_of (view.Full ts) = ts.now
 
--- they are kept as entries keep them
+-- the terms are kept as entries keep them
 abbrev pub IsView : Terms → Type 0
 IsView (view.Atom x) = 0 < x
 IsView (view.Linear ts) = Unit {0}
@@ -32,7 +32,7 @@ pub record IsThere (ts : List Term) (xs : List ℕ) (i : ℕ) : Type 0 where
   pub within : i < length ts
   pub same : (t : Term) → (slice_index_or ts i t).atoms ≡ xs
 
--- where it keeps the order, if there is none
+-- the place where such a term keeps the order, if there is none yet
 pub record IsPlace (ts : List Term) (xs : List ℕ) (i : ℕ) : Type 0 where
   pub within : i ≤ length ts
   pub after : (t : Term) (j : ℕ) → j + 1 ≡ i → cmp_atoms (slice_index_or ts j t).atoms xs ≡ Less

@@ -22,7 +22,7 @@ pub fn place_of_atom(terms: &[Term]) -> Option<u32>
     }
 }
 
-/// The same of one term.
+/// The same for one term.
 fn place_of_one(term: Term) -> Option<u32>
     requires { AreTerms (term ∷ []) }
     ensures atom { IfSome result (λ k. term ≡ alone_term (k + 1)) }

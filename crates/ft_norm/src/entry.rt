@@ -6,7 +6,7 @@ ghost use Rattle.ft_static.specs.NormalForm.{constant};
 ghost use Rattle.ft_norm.specs.Entries.{entry_form, full, size};
 
 use crate::packed::PackedTerm;
-use ft_isa::Op;
+use ft_static::Shape;
 use smallvec::SmallVec;
 
 /// The maximum number of monomials of a polynomial.
@@ -15,17 +15,7 @@ pub const MONOMIALS: usize = 64;
 /// The maximum number of atoms of a monomial.
 pub const ATOMS: usize = 4;
 
-/// An atom: a variable, an operation on the forms of these numbers, the word of a memory there, or the
-/// remainder of a form by a length.
-#[derive(Clone, Copy, PartialEq, Eq, Hash)]
-pub enum Factor {
-    Variable(u8),
-    Operation(Op, u32, u32),
-    Sel(u32, u32),
-    Rem(u32, u32),
-}
-
-/// The atoms of a monomial, in increasing order of their numbers, and zeros before them. The atom that entry k is has
+/// The atoms of a monomial, in increasing order of their numbers, and zeros before them. An atom that is entry k has
 /// the number k + 1.
 pub type Atoms = [u32; ATOMS];
 
@@ -67,12 +57,12 @@ impl LinearTerm {
     }
 }
 
-/// A form: an atom with the coefficient 1; the terms of any other polynomial in increasing order, if each has at most
-/// one atom, or if one has more, packed if their atoms have small numbers; or the memory variable without or with a
-/// newest update over an older entry. An atom and a constant need no memory of their own.
+/// A form: an atom with the coefficient 1, as a node over the forms of its parts; the terms of any other polynomial in increasing order, if each has at most
+/// at most one atom, else `Packed` if their atoms have small numbers, else `Full`; the memory variable; or an update of
+/// an older entry. An atom and a constant need no memory of their own.
 #[derive(Drop, PartialEq, Eq, Hash)]
 pub enum Entry {
-    Atom(Factor),
+    Atom(Shape),
     Linear(SmallVec<LinearTerm, 1>),
     Packed(Vec<PackedTerm>),
     Full(Vec<Term>),

@@ -1,28 +1,26 @@
 //! The interner.
 ghost use Rattle.std.specs.Prelude.{◌≡◌, ◌↔◌, ◌+◌, ◌*◌, ◌<◌, ◌≤◌, [], Some, IfOk, IsTrue, length, slice_get, true, false};
 ghost use Rattle.ft_static.specs.Expression.{Expression, HasWords, IsLawful, Valuation, denotation};
-ghost use Rattle.ft_static.specs.Form.{integer_form, memory_form, unchanged, updates, variable_atom};
-ghost use Rattle.ft_static.specs.FormUnder.{form_under};
+ghost use Rattle.ft_static.specs.Form.{has_atom, integer_form, memory_form, unchanged, updates, variable_atom};
 ghost use Rattle.ft_static.specs.NodeRules.{AreNodes, is_memory};
 ghost use Rattle.ft_static.specs.NodeTree.{tree_at};
-ghost use Rattle.ft_static.specs.NormalForm.{alone, constant, norm, norm_add, norm_folded, norm_mul, norm_op, norm_rem, norm_sel, norm_sub, norm_upd};
+ghost use Rattle.ft_static.specs.NormalForm.{alone, constant, form_under, norm, norm_op, norm_rem, norm_sel, norm_upd};
 ghost use Rattle.ft_static.specs.declared.node.Node.{Node as Numbered};
 ghost use Rattle.ft_norm.specs.Held.{AreIntegers, IsHeld, IsInteger, IsMemory, Keeps, held, polynomial, polynomials, updates_held};
 ghost use Rattle.ft_norm.specs.Entries.{IsCanonical, atom_form, entry_form, polynomial_form, reach, reach_of_entry, reach_of_terms};
 ghost use Rattle.ft_norm.specs.Orders.{AreTerms};
+ghost use Rattle.ft_norm.specs.Parts.{HaveSorts, form_of_parts, updates_of_parts};
 ghost use Rattle.ft_norm.specs.Terms.{AreOver, terms_of};
 
 use crate::built::{entry_of, place_of_atom};
-use crate::entry::{Entry, Factor, LinearTerm, MONOMIALS, Term, is_word};
+use crate::entry::{Entry, LinearTerm, Term, is_word};
 use crate::form::Form;
 use crate::keys::Keys;
-use crate::product::{is_small, product_terms};
 use crate::substitution::Memo;
-use crate::sum::{difference_terms, negated_terms, sum_terms};
 use crate::terms::{Terms, terms_at};
 use crate::walk::{Walk, below_newest, constant_in, walk_from};
-use ft_isa::{NoMemory, Op, Steps, apply};
-use ft_static::Nodes;
+use ft_isa::{NoMemory, Op, Steps};
+use ft_static::{Nodes, Shape};
 use indexmap::IndexSet;
 use smallvec::SmallVec;
 use std::alloc::{AllocError, Global};
@@ -40,7 +38,7 @@ const FORMS: usize = 4_294_967_294;
 /// out or that many are held; everything that was held stays, even then.
 #[derive(Drop)]
 pub struct Interner {
-    alloc: Global,
+    pub(crate) alloc: Global,
     entries: IndexSet<Entry, Keys>,
     /// Where a word may be among the entries, by its remainder. This is tried before the table.
     recent: [u32; RECENT],
@@ -105,7 +103,7 @@ impl Interner {
         ensures form { IfOk result (λ f. held self.new f ≡ Some (integer_form (alone (variable_atom i)))) }
         ensures sort { IfOk result (λ f. IsInteger self.new f) }
     {
-        let form = self.alone(Factor::Variable(i))?;
+        let form = self.alone(Shape::Var(i))?;
         Ok(form)
     }
 
@@ -147,7 +145,7 @@ impl Interner {
     {
         let form = match constant_in(self.terms(a)) {
             Some(c) => self.constant(c % u64::from(length))?,
-            None => self.alone(Factor::Rem(a.0, length))?,
+            None => self.alone(Shape::Rem { a: a.0, length })?,
         };
         Ok(form)
     }
@@ -168,7 +166,10 @@ impl Interner {
     {
         let form = match walk_from(self.entries.as_slice(), memory.0, at.0, steps) {
             Walk::Value(value) => Form(value),
-            Walk::Stop(older) => self.alone(Factor::Sel(older, at.0))?,
+            Walk::Stop(older) => self.alone(Shape::Sel {
+                memory: older,
+                at: at.0,
+            })?,
         };
         Ok(form)
     }
@@ -259,7 +260,7 @@ impl Interner {
     }
 
     /// The terms of an integer.
-    fn terms(&self, form: Form) -> Terms<'_>
+    pub(crate) fn terms(&self, form: Form) -> Terms<'_>
         requires { IsInteger self.now form }
         ensures form { polynomial_form self.now (terms_of result) ≡ polynomial self.now form }
         ensures over { AreOver self.now (terms_of result) }
@@ -269,7 +270,7 @@ impl Interner {
     }
 
     /// The form of these terms.
-    fn integer(&mut self, terms: &[Term]) -> Result<Form, AllocError>
+    pub(crate) fn integer(&mut self, terms: &[Term]) -> Result<Form, AllocError>
         requires terms { AreTerms terms.now }
         requires reach { reach_of_terms self.old terms.now ≤ length self.old }
         requires count { length terms.now ≤ 64 }
@@ -286,7 +287,7 @@ impl Interner {
     }
 
     /// The form of a word.
-    fn constant(&mut self, w: u64) -> Result<Form, AllocError>
+    pub(crate) fn constant(&mut self, w: u64) -> Result<Form, AllocError>
         ensures kept { Keeps self.old self.new }
         ensures form { IfOk result (λ f. held self.new f ≡ Some (integer_form (constant w))) }
     {
@@ -302,86 +303,47 @@ impl Interner {
         self.intern(Entry::Linear(terms))
     }
 
-    /// The form of an atom with the coefficient 1.
-    fn alone(&mut self, factor: Factor) -> Result<Form, AllocError>
-        requires { reach self.old factor ≤ length self.old }
+    /// The form of an atom with the coefficient 1, as a node over the forms of its parts.
+    pub(crate) fn alone(&mut self, shape: Shape) -> Result<Form, AllocError>
+        requires atom { has_atom shape ≡ true }
+        requires reach { reach self.old shape ≤ length self.old }
         ensures kept { Keeps self.old self.new }
-        ensures form { IfOk result (λ f. held self.new f ≡ Some (integer_form (alone (atom_form self.old factor)))) }
+        ensures form { IfOk result (λ f. held self.new f ≡ Some (integer_form (alone (atom_form self.old shape)))) }
     {
-        self.intern(Entry::Atom(factor))
+        self.intern(Entry::Atom(shape))
     }
+}
 
-    /// The form of a sum. If one of the two is 0, it is the other.
-    fn add(&mut self, a: Form, b: Form) -> Result<Form, AllocError>
-        requires first { IsInteger self.old a }
-        requires second { IsInteger self.old b }
-        ensures kept { Keeps self.old self.new }
-        ensures form { IfOk result (λ f. held self.new f ≡ Some (integer_form (norm_add (polynomial self.old a) (polynomial self.old b)))) }
-    {
-        let p = self.terms(a);
-        let q = self.terms(b);
-        if q.is_empty() {
-            return Ok(a);
-        }
-        if p.is_empty() {
-            return Ok(b);
-        }
-        let sum = sum_terms(self.alloc, p, q)?;
-        if sum.len() <= MONOMIALS {
-            return self.integer(sum.as_slice());
-        }
-        self.alone(Factor::Operation(Op::Add, a.0, b.0))
-    }
-
-    /// The form of a difference. The negation becomes a form of its own only if the atom refers to it.
-    fn sub(&mut self, a: Form, b: Form) -> Result<Form, AllocError>
-        requires first { IsInteger self.old a }
-        requires second { IsInteger self.old b }
-        ensures kept { Keeps self.old self.new }
-        ensures form { IfOk result (λ f. held self.new f ≡ Some (integer_form (norm_sub (polynomial self.old a) (polynomial self.old b)))) }
-    {
-        let p = self.terms(a);
-        let q = self.terms(b);
-        if q.is_empty() {
-            return Ok(a);
-        }
-        let difference = difference_terms(self.alloc, p, q)?;
-        if difference.len() <= MONOMIALS {
-            return self.integer(difference.as_slice());
-        }
-        let negated = negated_terms(self.alloc, q, 0)?;
-        let negation = self.integer(negated.as_slice())?;
-        self.alone(Factor::Operation(Op::Add, a.0, negation.0))
-    }
-
-    /// The form of a product.
-    fn mul(&mut self, a: Form, b: Form) -> Result<Form, AllocError>
-        requires first { IsInteger self.old a }
-        requires second { IsInteger self.old b }
-        ensures kept { Keeps self.old self.new }
-        ensures form { IfOk result (λ f. held self.new f ≡ Some (integer_form (norm_mul (polynomial self.old a) (polynomial self.old b)))) }
-    {
-        let p = self.terms(a);
-        let q = self.terms(b);
-        if !is_small(p, q) {
-            return self.alone(Factor::Operation(Op::Mul, a.0, b.0));
-        }
-        let product = product_terms(self.alloc, p, q)?;
-        self.integer(product.as_slice())
-    }
-
-    /// The form of an operation that is not a polynomial: its result if both are constants, else the atom.
-    fn folded(&mut self, op: Op, a: Form, b: Form) -> Result<Form, AllocError>
-        requires first { IsInteger self.old a }
-        requires second { IsInteger self.old b }
-        ensures kept { Keeps self.old self.new }
-        ensures form { IfOk result (λ f. held self.new f ≡ Some (integer_form (norm_folded op (polynomial self.old a) (polynomial self.old b)))) }
-    {
-        let c = constant_in(self.terms(a));
-        let d = constant_in(self.terms(b));
-        match (c, d) {
-            (Some(c), Some(d)) => self.constant(apply(op, c, d)),
-            _ => self.alone(Factor::Operation(op, a.0, b.0)),
-        }
+/// The form of a node with these forms, by their numbers, in the places of its parts. A variable beyond
+/// `ints` is the word 0.
+pub(crate) fn form_from<L: Ledger>(
+    forms: &mut Interner,
+    parts: Shape,
+    ints: &[Form],
+    memory: Form,
+    steps: &mut Steps<L>,
+) -> Result<Form, NoMemory>
+    requires parts { HaveSorts forms.old parts }
+    requires ints { AreIntegers forms.old ints.now }
+    requires memory { IsMemory forms.old memory }
+    ensures kept { Keeps forms.old forms.new }
+    ensures form { IfOk result (λ f. held forms.new f ≡ Some (form_of_parts (polynomials forms.old ints.now) (updates_held forms.old memory) forms.old parts)) }
+    ensures steps { steps.new ≤ steps.old + updates_of_parts forms.old parts }
+{
+    match parts {
+        Shape::Word(w) => forms.word(w),
+        Shape::Var(i) => match ints.get(i as usize) {
+            Some(form) => Ok(*form),
+            None => forms.word(0),
+        },
+        Shape::Op { op, a, b } => forms.op(op, Form(a), Form(b)),
+        Shape::Sel { memory: m, at } => forms.sel(Form(m), Form(at), steps),
+        Shape::Memory => Ok(memory),
+        Shape::Upd {
+            memory: m,
+            at,
+            value,
+        } => forms.upd(Form(m), Form(at), Form(value)),
+        Shape::Rem { a, length } => forms.rem(Form(a), length),
     }
 }

@@ -12,6 +12,7 @@ mod entry;
 mod form;
 mod interner;
 mod keys;
+mod operations;
 mod packed;
 mod parts;
 mod product;

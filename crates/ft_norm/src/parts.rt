@@ -8,7 +8,7 @@ use crate::form::Form;
 use ft_static::Shape;
 use indexmap::IndexMap;
 
-/// The number of the form of node `n`, or `n` where none was made.
+/// The number of the form of node `n`, or `n` if none was made.
 fn part(made: &IndexMap<u32, Form>, n: u32) -> Result<u32, u32>
     ensures number { IfOk result (λ i. i ≡ number_in made.now n) }
     ensures made { IfOk result (λ i. IsMade made.now n) }
@@ -20,7 +20,7 @@ fn part(made: &IndexMap<u32, Form>, n: u32) -> Result<u32, u32>
     }
 }
 
-/// A node of this shape with the numbers of their forms in the places of its parts; or a number of which no form was
+/// A node of this shape with the numbers of its parts' forms in the places of the parts; or a node of which no form was
 /// made, below every bound of the parts.
 pub fn parts_of(made: &IndexMap<u32, Form>, shape: Shape) -> Result<Shape, u32>
     ensures made { IfOk result (AreMade made.now shape) }

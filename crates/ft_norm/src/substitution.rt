@@ -2,15 +2,14 @@
 ghost use Rattle.std.specs.Prelude.{◌≡◌, ◌+◌, ◌*◌, ◌<◌, ◌≤◌, IfOk, IfSome, List, None, Some, false, length, nat_eq, slice_get, true};
 ghost use Rattle.indexmap.specs.IndexMap.{get};
 ghost use Rattle.ft_static.specs.Form.{Form as Normal, updates};
-ghost use Rattle.ft_static.specs.FormUnder.{form_of, form_under};
+ghost use Rattle.ft_static.specs.NormalForm.{form_of, form_under};
 ghost use Rattle.ft_static.specs.NodeRules.{AreNodes, is_memory};
 ghost use Rattle.ft_static.specs.NodeTree.{tree_at};
 ghost use Rattle.ft_static.specs.declared.node.Node.{Node as Numbered};
 ghost use Rattle.ft_norm.specs.Held.{AreIntegers, IsInteger, IsMemory, Keeps, held, polynomials, updates_held};
-ghost use Rattle.ft_norm.specs.Parts.{HaveSorts, form_of_parts, updates_of_parts};
 
 use crate::form::Form;
-use crate::interner::Interner;
+use crate::interner::{Interner, form_from};
 use crate::parts::parts_of;
 use ft_isa::{NoMemory, Steps};
 use ft_static::{Nodes, Shape};
@@ -21,8 +20,8 @@ use std::sync::ledger::Ledger;
 /// For how many nodes a cleared memo keeps its memory.
 const FEW: usize = 64;
 
-/// The forms of the nodes that were made so far, while the same forms are substituted for the variables. It serves many
-/// calls: a node is made at most once.
+/// The forms that were made of nodes so far, while the same forms are substituted for the variables. It serves many
+/// calls: the form of a node is made at most once.
 #[derive(Drop)]
 pub struct Memo {
     alloc: Global,
@@ -44,44 +43,10 @@ fn leaf(shape: Shape, ints: &[Form], memory: Form) -> Option<Form>
     }
 }
 
-/// The form of a node with these forms, by their numbers, in the places of its parts. A variable beyond
-/// `ints` is the word 0.
-fn form_from<L: Ledger>(
-    forms: &mut Interner,
-    parts: Shape,
-    ints: &[Form],
-    memory: Form,
-    steps: &mut Steps<L>,
-) -> Result<Form, NoMemory>
-    requires parts { HaveSorts forms.old parts }
-    requires ints { AreIntegers forms.old ints.now }
-    requires memory { IsMemory forms.old memory }
-    ensures kept { Keeps forms.old forms.new }
-    ensures form { IfOk result (λ f. held forms.new f ≡ Some (form_of_parts (polynomials forms.old ints.now) (updates_held forms.old memory) forms.old parts)) }
-    ensures steps { steps.new ≤ steps.old + updates_of_parts forms.old parts }
-{
-    match parts {
-        Shape::Word(w) => forms.word(w),
-        Shape::Var(i) => match ints.get(i as usize) {
-            Some(form) => Ok(*form),
-            None => forms.word(0),
-        },
-        Shape::Op { op, a, b } => forms.op(op, Form(a), Form(b)),
-        Shape::Sel { memory: m, at } => forms.sel(Form(m), Form(at), steps),
-        Shape::Memory => Ok(memory),
-        Shape::Upd {
-            memory: m,
-            at,
-            value,
-        } => forms.upd(Form(m), Form(at), Form(value)),
-        Shape::Rem { a, length } => forms.rem(Form(a), length),
-    }
-}
-
 impl Memo {
     ghost use Rattle.ft_norm.specs.Memos.{IsFresh, Remembers};
 
-    /// No node is made yet.
+    /// No form has been made yet.
     pub fn new(alloc: Global) -> Memo
         ensures { IsFresh result }
     {
@@ -91,7 +56,7 @@ impl Memo {
         }
     }
 
-    /// Forgets the nodes that were made. The memory of a few is kept for others, so that this takes no
+    /// Forgets the forms that were made. The memory of a few is kept for others, so that this takes no
     /// longer than it took to make them.
     pub fn clear(&mut self)
         ensures { IsFresh self.new }
@@ -104,8 +69,8 @@ impl Memo {
     }
 
     /// The form of node `n` after `ints[i]` is substituted for integer variable `i`, and `memory` for the memory
-    /// variable, as `Interner::under` gives it. What was made before is not made again. A variable and a node that was
-    /// made before take no memory. After an error what was made stays.
+    /// variable, as `Interner::under` gives it. What was made before is not made again. A variable, and a node whose
+    /// form was made before, take no memory. After an error the forms that were made stay.
     #[inline]
     pub fn form<N: Nodes, L: Ledger>(
         &mut self,
@@ -139,7 +104,7 @@ impl Memo {
         self.make(forms, nodes, n, ints, memory, steps)
     }
 
-    /// The form of a node that was not made before. Each node that its tree reaches and that was not
+    /// The form of a node that has none yet. Each node that its tree reaches and whose form was not
     /// made before is handled once, after its parts, without recursion.
     #[inline(never)]
     fn make<N: Nodes, L: Ledger>(

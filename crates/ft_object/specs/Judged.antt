@@ -9,7 +9,7 @@ abbrev pub IsError : DecodeError → Option ObjectError → Type 0
 IsError (Object e) broken = broken ≡ Some e
 IsError NoMemory broken = Unit {0}
 
--- no rule is broken, or an error is the first that is
+-- no rule is broken, or an error names the first broken one, unless memory ran out
 abbrev pub Judges : {X : Type 0} → Result X DecodeError → Option ObjectError → Type 0
 Judges (Ok x) broken = broken ≡ None
 Judges (Err e) broken = IsError e broken

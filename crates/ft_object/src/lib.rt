@@ -1,4 +1,4 @@
-//! Objects as bytes, read.
+//! Objects, read from bytes.
 //!
 //! The crate promises that `decode` returns the one object that bytes spell, or else the first rule of the
 //! format that they break, with its place. The format's definitions and laws are those of `ft_format`;

@@ -47,7 +47,7 @@ impl StoreQueue {
     pub fn copy_from(&mut self, other: &StoreQueue)
         ensures { self.new ≡ other.now }
     {
-        // The proof has from this that the other queue's pairs fit.
+        // This tells the proof that the other queue's pairs fit.
         let _len = other.pairs.len();
         let (front, back) = other.pairs.as_slices();
         self.pairs.clear();

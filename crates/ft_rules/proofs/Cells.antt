@@ -50,7 +50,7 @@ pub run_differs : (o : Object) (first m : ℕ) (h : CellHead) → 1 ≤ m → op
 unfolding run_type common_type
 run_differs o first m h l e f = rw (types_there o first (first + m) h (omega (arith, l)) e, f) refl
 
--- nor has one whose type no `ref` can refer to
+-- a run whose type no `ref` can refer to has no type
 pub run_is_full : (o : Object) (first m : ℕ) (h : CellHead) → 1 ≤ m → option_map cell_head_of (slice_get o.cells first)
     ≡ Some h → list_all (same_basic h.basic) (others_of o first m) ≡ true → 8 ≤ h.basic.refs → run_type o first m ≡ None
 unfolding run_type common_type
@@ -60,7 +60,7 @@ run_is_full o first m h l e f n = rw (
   le-ltb h.basic.refs 8 n,
 ) refl
 
--- another one has the type of its first cell
+-- any other run has the type of its first cell
 pub run_is_typed : (o : Object) (first m : ℕ) (h : CellHead) → 1 ≤ m → option_map cell_head_of (slice_get o.cells first)
     ≡ Some h → list_all (same_basic h.basic) (others_of o first m) ≡ true → h.basic.refs < 8 → run_type o first m
     ≡ Some h.basic

@@ -12,7 +12,8 @@ use Rattle.ft_isa.specs.declared.instr.Instr.{Instr}
 use Rattle.ft_types.specs.Spellable.{IsBase}
 use Rattle.ft_contexts.specs.declared.register.RegForm.{RegForm}
 use Rattle.ft_types.specs.declared.object.Object.{Object}
-use Rattle.ft_typing.specs.TypingRow.{Outcome, Goes, Ends, is_empty, row}
+use Rattle.ft_typing.specs.TypingRow.{row}
+use Rattle.ft_typing.specs.RowWords.{Outcome, Goes, Ends, is_empty}
 use Rattle.ft_rules.specs.declared.why.RuleError.{RuleError}
 use Rattle.ft_rules.specs.declared.why.RuleError.TheVariants.{NoMemory}
 use Rattle.ft_rules.specs.declared.why.Next.{Next}
@@ -199,7 +200,7 @@ pub row_on : (o : Object) (fs gs hs : List Normal) (c d : Context) (i : Instr) (
     Answers (row o (context_in fs c) i) hs d r
 row_on o fs gs hs c d i r k h a = subst (λ (x : Defined). Answers (row o x i) hs d r) (context_stays fs gs c k h) a
 
--- so does what it grows to
+-- what a context grows to stays if the list of forms has grown
 pub grows_on : (fs gs hs : List Normal) (c d : Context) → Keeps fs gs → HoldsForms fs c → Grows gs hs c d →
     Grows fs hs c d
 grows_on fs gs hs c d k h g =
@@ -208,7 +209,7 @@ grows_on fs gs hs c d k h g =
     let q = ap (λ (x : Defined). length x.queue) e in
     record { memory = omega (arith, m, g.memory); queue = λ l. g.queue (omega (arith, q, l)) }
 
--- and its steps
+-- a bound on the steps of such a row stays
 pub steps_on : (o : Object) (fs gs : List Normal) (c : Context) (i : Instr) (s t : ℕ) → Keeps fs gs → HoldsForms fs c →
     t ≤ s + rule_cost o (context_in gs c) i → t ≤ s + rule_cost o (context_in fs c) i
 steps_on o fs gs c i s t k h l = subst (λ (x : Defined). t ≤ s + rule_cost o x i) (context_stays fs gs c k h) l

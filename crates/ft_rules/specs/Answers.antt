@@ -3,7 +3,7 @@ use Rattle.std.specs.Prelude.{◌≡◌, ◌+◌, ◌*◌, ◌≤◌, ℕ, List,
 use Rattle.ft_isa.specs.declared.instr.Instr.{Instr}
 use Rattle.ft_static.specs.Form.{Form as Normal, updates}
 use Rattle.ft_types.specs.declared.object.Object.{Object}
-use Rattle.ft_typing.specs.TypingRow.{Outcome, Goes, Ends, Fails}
+use Rattle.ft_typing.specs.RowWords.{Outcome, Goes, Ends, Fails}
 use Rattle.ft_rules.specs.declared.why.RuleError.{RuleError}
 use Rattle.ft_rules.specs.declared.why.RuleError.TheVariants.{Refused, NoMemory}
 use Rattle.ft_rules.specs.declared.why.Next.{Next}
@@ -44,7 +44,7 @@ pub record Grows (fs gs : List Normal) (c d : Context) : Type 0 where
   pub memory : updates (context_in gs d).memory ≤ updates (context_in fs c).memory + 1
   pub queue : length (context_in fs c).queue ≤ 8 → length (context_in gs d).queue ≤ 8
 
--- the most steps that a row takes
+-- a bound on the steps of a row
 abbrev pub rule_cost : Object → Defined → Instr → ℕ
 rule_cost o c (JmpB rd subst) = 210 * tree_cost o (length o.nodes)
 rule_cost o c (BzB rz rd subst) = 210 * tree_cost o (length o.nodes)

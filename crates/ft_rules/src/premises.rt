@@ -4,7 +4,7 @@ ghost use Rattle.ft_static.specs.Form.{Form as Normal, Polynomial};
 ghost use Rattle.ft_norm.specs.Held.{IsInteger, polynomial};
 ghost use Rattle.ft_typing.specs.Context.{FormPair, Typed, typed};
 ghost use Rattle.ft_types.specs.Spellable.{IsBase};
-ghost use Rattle.ft_typing.specs.TypingRow.{Outcome, for_code, for_conditional, for_oldest, for_ref, for_target, for_typed, for_zero, need};
+ghost use Rattle.ft_typing.specs.RowWords.{Outcome, for_code, for_conditional, for_oldest, for_ref, for_target, for_typed, for_zero, need};
 ghost use Rattle.ft_types.specs.declared.object.Object.{Object};
 ghost use Rattle.ft_contexts.specs.Contexts.{HoldsForms, NamesTypes, context_in, pair_in, pending_count, typed_in};
 ghost use Rattle.ft_rules.specs.Answers.{Passes};
@@ -16,7 +16,7 @@ use ft_norm::Form;
 use ft_typing::Why;
 
 /// A premise that is a test.
-#[tactic(auto, unfolding(ft_typing::specs::TypingRow::need))]
+#[tactic(auto, unfolding(ft_typing::specs::RowWords::need))]
 pub fn need(why: Why, holds: bool) -> Result<(), RuleError>
     ensures passes { (next : Outcome) → Passes (need why holds next) (λ _. next) result }
     ensures holds { OnOk result (IsTrue holds) }
@@ -29,7 +29,7 @@ pub fn need(why: Why, holds: bool) -> Result<(), RuleError>
 }
 
 /// What is known of a register that is read.
-#[tactic(auto, unfolding(ft_typing::specs::TypingRow::for_typed))]
+#[tactic(auto, unfolding(ft_typing::specs::RowWords::for_typed))]
 pub fn typed(context: &Context, r: Reg) -> Result<RegForm, RuleError>
     ensures passes { (fs : List Normal) (next : Typed → Outcome) → Passes (for_typed (typed (context_in fs context.now) r.number) next) (λ s. next (typed_in fs s)) result }
     ensures held { (fs : List Normal) → HoldsForms fs context.now → IfOk result (λ s. IsInteger fs s.form) }
@@ -42,7 +42,7 @@ pub fn typed(context: &Context, r: Reg) -> Result<RegForm, RuleError>
 }
 
 /// The basic type to which a `ref` refers.
-#[tactic(auto, unfolding(ft_typing::specs::TypingRow::for_ref_over))]
+#[tactic(auto, unfolding(ft_typing::specs::RowWords::for_ref_over))]
 pub fn referred(basic: Basic) -> Result<Basic, RuleError>
     ensures passes { (next : Basic → Outcome) → Passes (for_ref basic next) next result }
     ensures base { IfOk result (λ b. b.base ≡ basic.base) }
@@ -57,7 +57,7 @@ pub fn referred(basic: Basic) -> Result<Basic, RuleError>
 }
 
 /// The code type of which a word is an address.
-#[tactic(auto, unfolding(ft_typing::specs::TypingRow::for_code_over))]
+#[tactic(auto, unfolding(ft_typing::specs::RowWords::for_code_over))]
 pub fn code_type(basic: Basic) -> Result<u16, RuleError>
     ensures passes { (next : ℕ → Outcome) → Passes (for_code basic next) next result }
     ensures named { (types : ℕ) → IsBase types basic.base → IfOk result (λ t. t < types) }
@@ -72,7 +72,7 @@ pub fn code_type(basic: Basic) -> Result<u16, RuleError>
 }
 
 /// Nothing, if d is 0.
-#[tactic(auto, unfolding(ft_typing::specs::TypingRow::for_zero))]
+#[tactic(auto, unfolding(ft_typing::specs::RowWords::for_zero))]
 pub fn zero(context: &Context) -> Result<(), RuleError>
     ensures { (fs : List Normal) (next : Outcome) → Passes (for_zero (context_in fs context.now).d next) (λ _. next) result }
 {
@@ -83,7 +83,7 @@ pub fn zero(context: &Context) -> Result<(), RuleError>
 }
 
 /// The code type and the form of d, if d is a target.
-#[tactic(auto, unfolding(ft_typing::specs::TypingRow::for_target))]
+#[tactic(auto, unfolding(ft_typing::specs::RowWords::for_target))]
 pub fn target(context: &Context) -> Result<(u16, Form), RuleError>
     ensures passes { (fs : List Normal) (next : ℕ → Polynomial → Outcome) → Passes (for_target (context_in fs context.now).d next) (λ x. next x.0 (polynomial fs x.1)) result }
     ensures held { (fs : List Normal) → HoldsForms fs context.now → IfOk result (λ x. IsInteger fs x.1) }
@@ -94,8 +94,8 @@ pub fn target(context: &Context) -> Result<(u16, Form), RuleError>
     }
 }
 
-/// The test, the code type and the form of d, if d is a target or 0 by a test.
-#[tactic(auto, unfolding(ft_typing::specs::TypingRow::for_conditional))]
+/// The test, the code type and the form of d, if a test decides whether d is a target or 0.
+#[tactic(auto, unfolding(ft_typing::specs::RowWords::for_conditional))]
 pub fn conditional(context: &Context) -> Result<(Form, u16, Form), RuleError>
     ensures passes { (fs : List Normal) (next : Polynomial → ℕ → Polynomial → Outcome) → Passes (for_conditional (context_in fs context.now).d next) (λ x. next (polynomial fs x.0) x.1 (polynomial fs x.2)) result }
     ensures held { (fs : List Normal) → HoldsForms fs context.now → IfOk result (λ x. IsInteger fs x.0 × IsInteger fs x.2) }
@@ -111,7 +111,7 @@ pub fn conditional(context: &Context) -> Result<(Form, u16, Form), RuleError>
 }
 
 /// The oldest pair of the static queue.
-#[tactic(auto, unfolding(ft_typing::specs::TypingRow::for_oldest))]
+#[tactic(auto, unfolding(ft_typing::specs::RowWords::for_oldest))]
 pub fn oldest(context: &Context) -> Result<(Form, Form), RuleError>
     ensures passes { (fs : List Normal) (next : FormPair → List FormPair → Outcome) → Passes (for_oldest (context_in fs context.now).queue next) (λ e. next (pair_in fs e) (drop 1 (context_in fs context.now).queue)) result }
     ensures held { (fs : List Normal) → HoldsForms fs context.now → IfOk result (λ e. IsInteger fs e.0 × IsInteger fs e.1) }

@@ -1,13 +1,12 @@
 //! What typing rows read from a context, and the premises that each read has, in order.
 ghost use Rattle.std.specs.Prelude.{◌≡◌, ◌<◌, ◌==◌, ◌&&◌, IfOk, List, ℕ, length};
-ghost use Rattle.ft_static.specs.Form.{Form as Normal, Polynomial};
-ghost use Rattle.ft_static.specs.FormOrder.{same_polynomial};
+ghost use Rattle.ft_static.specs.Form.{Form as Normal, Polynomial, same_polynomial};
 ghost use Rattle.ft_norm.specs.Held.{IsInteger, polynomial};
 ghost use Rattle.ft_typing.specs.Context.{Typed, typed};
 ghost use Rattle.ft_typing.specs.declared.why.Why.TheVariants as premise;
 ghost use Rattle.ft_types.specs.Spellable.{IsBase};
 ghost use Rattle.ft_typing.specs.TypedWord.{is_seen_as};
-ghost use Rattle.ft_typing.specs.TypingRow.{Outcome, for_code, for_ref, for_typed, need, same_colour};
+ghost use Rattle.ft_typing.specs.RowWords.{Outcome, for_code, for_ref, for_typed, need, same_colour};
 ghost use Rattle.ft_types.specs.declared.object.Object.{Object};
 ghost use Rattle.ft_rules.specs.Answers.{Passes};
 ghost use Rattle.ft_contexts.specs.Contexts.{HoldsForms, NamesTypes, context_in, typed_in};

@@ -291,7 +291,7 @@ fn branch_blue<P: Program, L: Ledger>(
 }
 
 /// The end of a run, which ends the block.
-#[tactic(auto, unfolding(ft_typing::specs::TypingRow::is_empty))]
+#[tactic(auto, unfolding(ft_typing::specs::RowWords::is_empty))]
 fn halt(context: &Context, forms: &Interner) -> Result<Next, RuleError>
     requires { HoldsForms forms.now context.now }
     ensures { (o : Object) → NamesTypes o context.now → Does (row o (context_in forms.now context.now) Instr.Halt) o forms.now forms.now context.now context.now result }
@@ -327,7 +327,7 @@ pub fn apply_rule<P: Program, L: Ledger>(
     apply_rule_over(ctx, &mut shared, forms, program, instr, steps)
 }
 
-/// The same, over what other instructions may have used before.
+/// The same, over what the blocks share, which other instructions may have used before.
 pub fn apply_rule_over<P: Program, L: Ledger>(
     ctx: &mut Context,
     shared: &mut Shared,

@@ -8,7 +8,8 @@ ghost use Rattle.ft_norm.specs.Held.{IsInteger, Keeps, held, polynomial};
 ghost use Rattle.ft_types.specs.Objects.{basic_of};
 ghost use Rattle.ft_types.specs.Spellable.{IsBase, IsRun, IsSpellable};
 ghost use Rattle.ft_typing.specs.TypedWord.{run_type, same_basic};
-ghost use Rattle.ft_typing.specs.TypingRow.{Outcome, for_run, row, run_form};
+ghost use Rattle.ft_typing.specs.TypingRow.{row};
+ghost use Rattle.ft_typing.specs.RowWords.{Outcome, for_run, run_form};
 ghost use Rattle.ft_contexts.specs.Contexts.{HoldsForms, NamesTypes, context_in};
 ghost use Rattle.ft_rules.specs.Answers.{Does, Passes};
 
@@ -71,7 +72,7 @@ fn referring(basic: Basic) -> Basic
 }
 
 /// The basic type of the addresses of a run's cells.
-#[tactic(auto, unfolding(ft_typing::specs::TypingRow::for_run))]
+#[tactic(auto, unfolding(ft_typing::specs::RowWords::for_run))]
 fn array<P: Program>(program: &P, first: u32, count: u32) -> Result<Basic, RuleError>
     requires spellable { IsSpellable (P.object program.now) }
     requires run { IsRun (length (P.object program.now).cells) first count }

@@ -3,7 +3,7 @@
 ghost use Rattle.std.specs.Prelude.{◌+◌, ◌*◌, ◌<◌, ◌≤◌, length};
 ghost use Rattle.ft_norm.specs.Held.{Keeps};
 ghost use Rattle.ft_types.specs.Spellable.{IsSpellable, IsSubst};
-ghost use Rattle.ft_typing.specs.TypingRow.{Outcome, leads};
+ghost use Rattle.ft_typing.specs.RowWords.{Outcome, leads};
 ghost use Rattle.ft_contexts.specs.Contexts.{HoldsForms, HoldsOwn, context_in};
 ghost use Rattle.ft_contexts.specs.Costs.{tree_cost};
 ghost use Rattle.ft_rules.specs.Answers.{Passes};
@@ -18,7 +18,7 @@ use ft_typing::Why;
 use std::sync::ledger::Ledger;
 
 /// The premises of a transfer to code type `t` by a substitution.
-#[tactic(auto, unfolding(ft_typing::specs::TypingRow::leads))]
+#[tactic(auto, unfolding(ft_typing::specs::RowWords::leads))]
 pub fn leads<P: Program, L: Ledger>(
     context: &Context,
     shared: &mut Shared,

@@ -172,7 +172,7 @@ writes_behind is front writers touchers blue None k = none_behind front (drop fr
 writes_behind is front writers touchers blue (Some r) k = ap (nat_lt front) (k.written_last r.number r.in_range)
     ∙ is_behind (writes (Some r.number)) is front
 
--- or reads or writes it
+-- one that waits reads or writes a register, if one is given
 pub meets_behind : (is : List Instr) (front : ℕ) (writers touchers : List ℕ) (blue : ℕ) (u : Option Reg) →
     IsKept is front writers touchers blue → nat_lt front (place_of touchers (number_of u))
     ≡ list_any (meets (number_of u)) (drop front is)
@@ -180,7 +180,7 @@ meets_behind is front writers touchers blue None k = none_behind front (drop fro
 meets_behind is front writers touchers blue (Some r) k = ap (nat_lt front) (k.touched_last r.number r.in_range)
     ∙ is_behind (meets (Some r.number)) is front
 
--- or is a blue store
+-- one that waits is a blue store
 pub blue_behind : (is : List Instr) (front : ℕ) (writers touchers : List ℕ) (blue : ℕ) →
     IsKept is front writers touchers blue → nat_lt front blue ≡ list_any is_blue_store (drop front is)
 blue_behind is front writers touchers blue k = ap (nat_lt front) k.blue_last ∙ is_behind is_blue_store is front

@@ -24,7 +24,7 @@ pub get_seam : (xs : List Instr) (y : Instr) (ys : List Instr) → slice_get (xs
 get_seam [] y ys = refl
 get_seam (x ∷ xs) y ys = get_seam xs y ys
 
--- what all have, one has
+-- a test that all pass is passed by one of them
 pub all_at : (test : Instr → Bool) (xs : List Instr) (k : ℕ) (x : Instr) → list_all test xs ≡ true → slice_get xs k
     ≡ Some x → test x ≡ true
 all_at test [] k x h e = cc

@@ -6,8 +6,8 @@ use Rattle.ft_exchange.specs.Exchange.{is_trailing, is_green_store, is_blue_stor
 use Rattle.ft_sched.specs.Inside.{Reaches, HasNone}
 
 -- the block goes from one place up to another, its code type has `rows` queue rows, and the code was the base when it
--- began. What is written, what waits and the rest come from the base by permitted exchanges, and none is left in the
--- first two; and this many pairs were queued and committed by what is written
+-- began. What is written, what waits and the rest come from the base by permitted exchanges, and no permitted exchange
+-- is left in the first two; this many pairs were queued and committed by what is written
 pub record Arranges (rows start past : ℕ) (base rest laid waiting : List Instr) (queued committed : ℕ) : Type 0 where
   pub begins : start ≤ length laid
   pub reached : Reaches rows start past base ((laid ++ waiting) ++ rest)

@@ -20,6 +20,6 @@ pub data Reaches (rows start past : ℕ) (is : List Instr) : List Instr → Type
   stays : Reaches rows start past is is
   exchanges : {js : List Instr} (k : ℕ) → Reaches rows start past is js → IsPermittedAt rows start past js k → Reaches rows start past is (exchanged js k)
 
--- none is left
+-- no permitted exchange is left
 abbrev pub HasNone : ℕ → ℕ → ℕ → List Instr → Type 0
 HasNone rows start past is = (k : ℕ) → IsPermittedAt rows start past is k → ⊥

@@ -16,7 +16,7 @@ abbrev pub laid_before : Object → ℕ → List Instr → List Instr
 laid_before o b laid = laid ++ drop (boundary o b) o.instrs
 
 -- the blocks below b are written: followed by the object's own code they come from the object by permitted exchanges,
--- and none is left in them
+-- and no permitted exchange is left in them
 pub record IsUpTo (o : Object) (b : ℕ) (laid : List Instr) : Type 0 where
   pub laid_to : length laid ≡ boundary o b
   pub comes : ComesFrom o (with_instrs o (laid_before o b laid))

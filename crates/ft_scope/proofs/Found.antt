@@ -1,4 +1,4 @@
--- What names name, as declarations are added.
+-- What names refer to, as declarations are added.
 use Rattle.std.proofs.Common.{◌≡◌, ℕ, ◌+◌, ◌*◌, ◌<◌, ◌≤◌, Bool, true, false, cond, List, [], ◌∷◌, ◌++◌, length, Option}
 use Rattle.std.proofs.Common.{Some, None, is_some, refl, sym, ap, ◌∙◌, subst, arith}
 use Rattle.std.specs.Option.{option_map}
@@ -34,7 +34,7 @@ cond_or false s x y o h = h
 abbrev last : ℕ → ℕ → Declared → List ℕ → Option Slot
 last c v d text = cond (bytes_eq (declared_name d).text text) (Some (slot_at c v d)) None
 
--- what one more declaration names
+-- what a name refers to after one more declaration
 found_push : (c v : ℕ) (ds : List Declared) (d : Declared) (text : List ℕ) → found_after c v (ds ++ d ∷ []) text
     ≡ or_else (found_after c v ds text) (last (c + cell_count ds) (v + variable_count ds) d text)
 found_push c v [] (cell n w) text =
@@ -158,7 +158,7 @@ count_within (array n l at w ∷ ds) h =
     let fine = length_fine l at (wrong_length ds) h in
     omega (arith, count_within ds fine.1, length_few l fine.0)
 
--- what a name names is there
+-- what a name refers to exists
 pub found_fits : (c v : ℕ) (ds : List Declared) (text : List ℕ) (s : Slot) → wrong_length ds ≡ None →
     found_after c v ds text ≡ Some s → AnyFits (c + cell_count ds) (v + variable_count ds) s
 found_fits c v [] text s ok h = absurd (nothing h)

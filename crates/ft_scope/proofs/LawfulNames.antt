@@ -31,7 +31,7 @@ use Rattle.ft_scope.proofs.Found.{length_fine, length_few}
 cell_byte : (b : ℕ) → is_name_byte b ≡ true → is_cell_byte b ≡ true
 cell_byte b e = ap (λ x. x || (b == 91 || b == 93)) e
 
--- so may lists of them
+-- lists of such bytes are allowed in a name of a cell
 cell_bytes : (bs : List ℕ) → list_all is_name_byte bs ≡ true → list_all is_cell_byte bs ≡ true
 cell_bytes [] e = refl
 cell_bytes (b ∷ bs) e =
@@ -43,7 +43,7 @@ digit_byte : (c : ℕ) → 48 ≤ c → c ≤ 57 → is_name_byte c ≡ true
 digit_byte c low high = or_right (is_letter c) (is_digit c)
     (and_from (nat_le 48 c) (nat_le c 57) (le-leb 48 c low) (le-leb c 57 high))
 
--- so may digits
+-- digits are allowed in a name
 digit_bytes : (ds : List ℕ) → AllDigits 10 ds → list_all is_name_byte ds ≡ true
 digit_bytes [] d = refl
 digit_bytes (c ∷ cs) d =
@@ -165,7 +165,7 @@ not_equal x y e f = true≢false (sym ((bytes_eq-Decides x y).1 f) ∙ e)
 apart : (x y t : List ℕ) → base x ≡ t → bytes_eq t (base y) ≡ false → x ≢ y
 apart x y t e f g = not_equal t (base y) f (sym e ∙ ap base g)
 
--- so do names with unlike places
+-- names with unlike places differ
 places_differ : (t : List ℕ) (k j : ℕ) → k < j → j < 2 ^ 64 → cell_name t (Some k) ≢ cell_name t (Some j)
 places_differ t k j less small e =
     let digits = append_cancel_left (t ++ codes "[") (decimal k) (decimal j) (append_cancel_right (t ++ codes "["

@@ -191,7 +191,7 @@ unrefused : (e : ℕ → SourceError) (o : Option ℕ) (other : Result Program S
 unrefused e (Some at) other p h = cc
 unrefused e None other p h = (refl, h)
 
--- so it is of the program that a tree is
+-- what a tree is resolved to is its program
 resolved_program : (t : SyntaxTree) (p : Program) → resolved t ≡ Ok p → IsResolved t p
 resolved_program t p e =
     let first = unrefused errors.Twice (repeated [] t.decls)

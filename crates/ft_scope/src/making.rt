@@ -8,7 +8,7 @@ ghost use Rattle.ft_scope.specs.Made.{Made};
 use ft_syntax::{Decl, SourceError};
 use std::alloc::Global;
 
-/// The maximum cells of an array.
+/// The maximum number of cells of an array.
 const LENGTH_LIMIT: u64 = 1_024;
 
 /// The place of a declaration's length, if it is 0 or above 1,024.

@@ -1,6 +1,5 @@
 pub mod State
 pub mod Step
-pub mod StepTable
 pub mod Strike
 pub mod Run
 pub mod Agrees

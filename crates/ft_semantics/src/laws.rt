@@ -5,8 +5,7 @@ ghost use Rattle.ft_isa.specs.declared.plan.Wild.{Wild};
 ghost use Rattle.ft_types.specs.declared.object.Object.{Object};
 ghost use Rattle.ft_semantics.specs.declared.status.Status.TheVariants.{Running};
 ghost use Rattle.ft_semantics.specs.State.{State};
-ghost use Rattle.ft_semantics.specs.Step.{step, quiet};
-ghost use Rattle.ft_semantics.specs.StepTable.{IsTheTable, IsStopped};
+ghost use Rattle.ft_semantics.specs.Step.{step, quiet, IsTheTable, IsStopped};
 
 /// The step of a running machine is the table of steps: whatever the object, the state and the
 /// answers left to wild loads, exactly one row of the table applies, and the step is that row's.

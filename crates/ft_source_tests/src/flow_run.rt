@@ -67,7 +67,7 @@ impl FlowRun {
         set(&mut self.pairs, usize::from(p), word);
     }
 
-    /// On to the first step of a block.
+    /// Goes on to the first step of a block.
     fn go(&mut self, to: u32) {
         self.block = to as usize;
         self.index = 0;

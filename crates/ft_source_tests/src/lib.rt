@@ -2,7 +2,7 @@
 //! to.
 //!
 //! The crate has only tests, since a crate with tests is proved twice. Outputs were worked out by hand, and a
-//! plain interpreter runs the flows, beside the definition that the contract of `lower` cites.
+//! plain interpreter, independent of the definition that the contract of `lower` cites, runs the flows.
 #![tactic(auto)]
 
 #[cfg(test)]

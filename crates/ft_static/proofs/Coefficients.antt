@@ -6,10 +6,9 @@ use Rattle.std.specs.declared.cmp.Ordering.{Ordering}
 use Rattle.std.specs.declared.cmp.Ordering.TheVariants.{Less, Equal, Greater}
 use Rattle.std.proofs.lemmas.Bool.{eqb-true}
 use Rattle.std.proofs.lemmas.Cmp.{tied_itself}
-use Rattle.ft_static.specs.Form.{factors, Monomial, Polynomial, nought, plus}
-use Rattle.ft_static.specs.FormOrder.{cmp_monomial}
+use Rattle.ft_static.specs.Form.{factors, Monomial, Polynomial, nought, plus, cmp_monomial, Below, IsProperMonomial}
+use Rattle.ft_static.specs.Form.{IsProper}
 use Rattle.ft_static.specs.NormalForm.{join, degree, led_by, add_term, total, add_multiple, add_products}
-use Rattle.ft_static.specs.Proper.{Below, IsProperMonomial, IsProper}
 use Rattle.ft_static.specs.Coefficient.{coefficient, share, share_of_multiple, share_of_products}
 use Rattle.ft_static.proofs.Spelled.{cmp_monomial_total, monomial_equal}
 use Rattle.ft_static.proofs.Cases.{by_cases, if_cases}

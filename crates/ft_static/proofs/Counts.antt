@@ -2,8 +2,7 @@
 use Rattle.std.proofs.Common.{◌≡◌, ℕ, suc, ◌+◌, refl, ap, ◌∙◌, arith}
 use Rattle.std.specs.declared.cmp.Ordering.{Ordering}
 use Rattle.std.specs.declared.cmp.Ordering.TheVariants.{Less, Equal, Greater}
-use Rattle.ft_static.specs.Form.{Atom, Monomial, one, times}
-use Rattle.ft_static.specs.FormOrder.{cmp_atom}
+use Rattle.ft_static.specs.Form.{Atom, Monomial, one, times, cmp_atom}
 use Rattle.ft_static.specs.NormalForm.{by_order, with_factor, join}
 use Rattle.ft_static.specs.Coefficient.{count}
 use Rattle.ft_static.proofs.Cases.{by_cases}

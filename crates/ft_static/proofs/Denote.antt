@@ -3,15 +3,14 @@ use Rattle.std.proofs.Common.{◌≡◌, ◌↔◌, true, ℕ, List, map, Some, 
 use Rattle.ft_static.specs.Expression.{Expression, integer, memory, Valuation, IsLawful, HasWords, denotation}
 use Rattle.ft_static.specs.Expression.{denoted_word, denoted_memory}
 use Rattle.ft_static.specs.Form.{Polynomial, Updates, integer_form, memory_form, polynomial_of, updates_of}
-use Rattle.ft_static.specs.FormUnder.{form_of, form_under}
-use Rattle.ft_static.specs.FormValue.{form_denotation}
+use Rattle.ft_static.specs.Form.{form_denotation}
 use Rattle.ft_static.specs.NodeRules.{AreNodes}
 use Rattle.ft_static.specs.NodeTree.{tree_at, trees}
-use Rattle.ft_static.specs.NormalForm.{norm, norm_integer, norm_memory, same}
+use Rattle.ft_static.specs.NormalForm.{norm, norm_integer, norm_memory, same, form_of, form_under}
 use Rattle.ft_static.specs.declared.node.Node.{Node}
 use Rattle.ft_static.proofs.Equal.{equal_polynomials, equal_updates}
 use Rattle.ft_static.proofs.NodeTrees.{tree_at-row}
-use Rattle.ft_static.proofs.FormsDenote.{norm_value, value_norm_memory}
+use Rattle.ft_static.proofs.FormRows.{norm_value, value_norm_memory}
 use Rattle.ft_static.proofs.Under.{form_of-map}
 
 -- a form denotes what its expression does

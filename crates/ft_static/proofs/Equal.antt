@@ -5,9 +5,8 @@ use Rattle.std.specs.Ordering.{is_eq}
 use Rattle.std.specs.declared.cmp.Ordering.{Ordering}
 use Rattle.std.specs.declared.cmp.Ordering.TheVariants.{Less, Equal, Greater}
 use Rattle.std.proofs.lemmas.Cmp.{tied_itself}
-use Rattle.ft_static.specs.Form.{Atom, Monomial, Polynomial, Updates}
-use Rattle.ft_static.specs.FormOrder.{cmp_atom, cmp_monomial, cmp_polynomial, cmp_updates, same_polynomial}
-use Rattle.ft_static.specs.FormOrder.{same_updates}
+use Rattle.ft_static.specs.Form.{Atom, Monomial, Polynomial, Updates, cmp_atom, cmp_monomial, cmp_polynomial}
+use Rattle.ft_static.specs.Form.{cmp_updates, same_polynomial, same_updates}
 use Rattle.ft_static.proofs.Spelled.{cmp_atom_total, cmp_monomial_total, cmp_polynomial_total, cmp_updates_total}
 use Rattle.ft_static.proofs.Spelled.{atom_equal, monomial_equal, polynomial_equal, updates_equal}
 
@@ -41,7 +40,7 @@ equal_polynomials p q = (
 pub same_itself : (p : Polynomial) → same_polynomial p p ≡ true
 same_itself p = (equal_polynomials p p).1 refl
 
--- that of memory forms too
+-- memory forms are found the same exactly when they are equal
 pub equal_updates : (u w : Updates) → same_updates u w ≡ true ↔ u ≡ w
 equal_updates u w = (
   λ e. updates_equal u w (is_equal (cmp_updates u w) e),

@@ -16,7 +16,7 @@ names_variable = record {
   scope_within = lit≤ tt;
 }
 
--- and the word
+-- node 3 may name the word
 names_word : MayName nodes 3 1 false 2
 names_word = record {
   lower = lit< tt;
@@ -36,7 +36,7 @@ names_memory = record {
   scope_within = lit≤ tt;
 }
 
--- and the sum
+-- node 4 may name the sum
 names_sum : MayName nodes 4 1 false 3
 names_sum = record {
   lower = lit< tt;

@@ -8,9 +8,10 @@ pub mod Sums
 pub mod FormsDenote
 pub mod Proper
 pub mod Coefficients
-pub mod Under
 pub mod NodeParts
 pub mod NodeTrees
 pub mod SameTrees
+pub mod Under
+pub mod FormRows
 pub mod Denote
 pub mod Lawful

@@ -7,8 +7,8 @@ use Rattle.std.specs.declared.cmp.Ordering.TheVariants.{Less, Equal, Greater}
 use Rattle.std.proofs.lemmas.Bool.Decides.{nat_tests}
 use Rattle.ft_static.proofs.Spelled.{then_assoc}
 use Rattle.ft_static.specs.Form.{Monomial, Polynomial, Updates, one, times, nought, plus, unchanged, update, factors}
-use Rattle.ft_static.specs.Form.{terms, updates, atoms, monomials, stores}
-use Rattle.ft_static.specs.FormOrder.{cmp_atom, cmp_monomial, cmp_polynomial, cmp_updates, cmp_lists, cmp_pairs}
+use Rattle.ft_static.specs.Form.{terms, updates, atoms, monomials, stores, cmp_atom, cmp_monomial, cmp_polynomial}
+use Rattle.ft_static.specs.Form.{cmp_updates, cmp_lists, cmp_pairs}
 
 -- the number of atoms
 length_atoms : (m : Monomial) → length (atoms m) ≡ factors m

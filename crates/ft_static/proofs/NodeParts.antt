@@ -3,11 +3,27 @@ use Rattle.std.proofs.Common.{◌≡◌, ℕ, Bool, true, false, if◌then◌els
 use Rattle.std.specs.List.{AllByRecursion}
 use Rattle.ft_static.specs.Expression.{Expression, integer, memory}
 use Rattle.ft_static.specs.NodeRules.{MayName, IsShape}
-use Rattle.ft_static.specs.NodeParts.{EachPart, renamed, parts, outline}
+use Rattle.ft_static.specs.NodeParts.{EachPart, renamed}
 use Rattle.ft_static.specs.NodeTree.{integer_at, memory_at, tree_of}
 use Rattle.ft_static.specs.declared.node.Node.{Node}
 use Rattle.ft_static.specs.declared.node.Shape.{Shape}
 use Rattle.ft_static.specs.declared.node.Shape.TheVariants as shape
+
+-- the parts in order
+abbrev pub parts : Shape → List (Bool × ℕ)
+parts (shape.Op op a b) = (false, a) ∷ (false, b) ∷ []
+parts (shape.Sel m a) = (true, m) ∷ (false, a) ∷ []
+parts (shape.Upd m a v) = (true, m) ∷ (false, a) ∷ (false, v) ∷ []
+parts (shape.Rem a m) = (false, a) ∷ []
+parts x = []
+
+-- a node with 0, 1 and 2 in the places of its parts
+abbrev pub outline : Shape → Shape
+outline (shape.Op op a b) = shape.Op op 0 1
+outline (shape.Sel m a) = shape.Sel 0 1
+outline (shape.Upd m a v) = shape.Upd 0 1 2
+outline (shape.Rem a m) = shape.Rem 0 m
+outline x = x
 
 -- the tree of a part
 abbrev pub part_tree : List Expression → Bool × ℕ → Expression

@@ -1,11 +1,15 @@
 -- Each node of a valid list stands for one tree, whose numbers are words and whose variables are within the node's
--- scope.
+-- scope; and tests find trees the same exactly where they are equal.
 use Rattle.std.proofs.Common.{ℕ, suc, zero, ◌≡◌, ◌<◌, ◌≤◌, ◌+◌, true, false, List, [], ◌∷◌, ◌++◌, length, get_or}
-use Rattle.std.proofs.Common.{slice_get, Some, refl, sym, ap, ◌∙◌, arith, subst, Bool}
+use Rattle.std.proofs.Common.{slice_get, Some, refl, sym, ap, ◌∙◌, arith, subst, Bool, ◌==◌, eqb-true, eq-eqb}
 use Rattle.std.proofs.lemmas.List.{get_or_append_left, get_or_push, length_push}
+use Rattle.std.proofs.lemmas.Bool.{and_parts, and_from}
+use Rattle.ft_isa.specs.Operations.{op_code, op_of}
+use Rattle.ft_isa.specs.declared.op.Op.{Op}
+use Rattle.ft_isa.proofs.Operations.{op_back}
 use Rattle.ft_static.specs.Expression.{Integer, Memory, Expression, word, variable, operation, sel, rem}
 use Rattle.ft_static.specs.Expression.{memory_variable, upd, integer, memory, HasWords, HasVariablesBelow, AreWords}
-use Rattle.ft_static.specs.Expression.{AreWordsOfMemory, IsWithin, IsMemoryWithin}
+use Rattle.ft_static.specs.Expression.{AreWordsOfMemory, IsWithin, IsMemoryWithin, same_integer, same_memory}
 use Rattle.ft_static.specs.NodeRules.{is_memory, MayName, IsShape, AreNodes}
 use Rattle.ft_static.specs.NodeParts.{EachPart, renamed}
 use Rattle.ft_static.specs.NodeTree.{integer_part, memory_part, integer_at, memory_at, tree_of, trees_onto, trees}
@@ -22,7 +26,7 @@ OfParts P M (sel m a) = M m × P a
 OfParts P M (rem a n) = P a
 OfParts P M e = Unit {0}
 
--- and of each part of a memory
+-- this holds of each part of a memory, by its sort
 abbrev pub OfMemoryParts : (Integer → Type 0) → (Memory → Type 0) → Memory → Type 0
 OfMemoryParts P M (upd m a v) = M m × P a × P v
 OfMemoryParts P M m = Unit {0}
@@ -48,7 +52,7 @@ module _ (P : Integer → Type 0) (M : Memory → Type 0) (f : (e : Integer) →
   pub by_parts : OfAll P M
   by_parts = (whole, stored)
 
--- the same where a condition goes over to the parts
+-- the same where a condition passes to the parts
 pub by_parts_where : (C P : Integer → Type 0) (D M : Memory → Type 0) → ((e : Integer) → C e → OfParts C D e) →
     ((m : Memory) → D m → OfMemoryParts C D m) → ((e : Integer) → C e → OfParts P M e → P e) →
     ((m : Memory) → D m → OfMemoryParts P M m → M m) → OfAll (λ e. C e → P e) (λ m. D m → M m)
@@ -70,7 +74,7 @@ by_parts_where C P D M c d f g = by_parts (λ e. C e → P e) (λ m. D m → M m
 abbrev none : Expression
 none = integer (word 0)
 
--- what follows of a part from what holds of it in two ways holds of each
+-- if two facts of a part imply a third, and both hold of each part, so does the third
 pub each_part_both : (P Q R : Bool → ℕ → Type 0) → ((s : Bool) (k : ℕ) → P s k → Q s k → R s k) → (x : Shape) →
     EachPart P x → EachPart Q x → EachPart R x
 each_part_both P Q R f (shape.Op o a b) h g = (f false a h.0 g.0, f false b h.1 g.1)
@@ -79,7 +83,7 @@ each_part_both P Q R f (shape.Upd m a v) h g = (f true m h.0 g.0, f false a h.1 
 each_part_both P Q R f (shape.Rem a m) h g = f false a h g
 each_part_both P Q R f x h g = tt
 
--- so does what follows from what holds of it in one way
+-- the same with one fact that implies another
 pub each_part : (P R : Bool → ℕ → Type 0) → ((s : Bool) (k : ℕ) → P s k → R s k) → (x : Shape) → EachPart P x →
     EachPart R x
 each_part P R f x h = each_part_both P P R (λ s k p q. f s k p) x h h
@@ -215,7 +219,7 @@ shaped : (nodes : List Node) (n : ℕ) (x : Shape) → AreNodes nodes → HasSha
     ≡ tree_of (trees nodes) x
 shaped nodes n x h s = tree_at-row nodes n s.node h s.found ∙ ap (tree_of (trees nodes)) s.shape
 
--- and for no other
+-- a node stands for no other tree than its own
 pub stands_for_one : (nodes : List Node) (n : ℕ) (t : Expression) → AreNodes nodes → StandsFor nodes n t →
     tree_at nodes n ≡ t
 stands_for_one nodes _ _ h (word_node n w s) = shaped nodes n (shape.Word w) h s
@@ -249,7 +253,7 @@ mutual
   within_more (sel k a) m n l h = (memory_within_more k m n l h.0, within_more a m n l h.1)
   within_more (rem a k) m n l h = within_more a m n l h
 
-  -- those of a memory too
+  -- the same for the variables of a memory
   memory_within_more : (k : Memory) (m n : ℕ) → m ≤ n → IsMemoryWithin m k → IsMemoryWithin n k
   memory_within_more memory_variable m n l h = tt
   memory_within_more (upd k a v) m n l h = (
@@ -304,3 +308,56 @@ fits_below nodes (suc bound) n x h b f = subst (Fits x.scope) (sym (tree_at-row 
 pub tree_fits : (nodes : List Node) (n : ℕ) (x : Node) → AreNodes nodes → slice_get nodes n ≡ Some x →
     HasWords (tree_at nodes n) × HasVariablesBelow x.scope (tree_at nodes n)
 tree_fits nodes n x h f = fits_below nodes (suc n) n x h (omega arith) f
+
+-- TESTS
+
+-- operations with the same code are the same
+op_same : (o p : Op) → (op_code o == op_code p) ≡ true → o ≡ p
+op_same o p e = sym (op_back o) ∙ ap op_of (eqb-true _ _ e) ∙ op_back p
+
+mutual
+  -- integers that the test finds the same are equal
+  pub same_integer_is : (e f : Integer) → same_integer e f ≡ true → e ≡ f
+  same_integer_is (word v) (word w) e = ap word (eqb-true v w e)
+  same_integer_is (variable i) (variable j) e = ap variable (eqb-true i j e)
+  same_integer_is (operation o a b) (operation p c d) e =
+      let q = and_parts _ _ e in
+      let r = and_parts _ _ q.0 in
+      λ i. operation (op_same o p r.0 i) (same_integer_is a c r.1 i) (same_integer_is b d q.1 i)
+  same_integer_is (sel m a) (sel n c) e = let q = and_parts _ _ e in
+      λ i. sel (same_memory_is m n q.0 i) (same_integer_is a c q.1 i)
+  same_integer_is (rem a l) (rem c k) e = let q = and_parts _ _ e in
+      λ i. rem (same_integer_is a c q.1 i) (eqb-true l k q.0 i)
+  same_integer_is x y e = cc
+
+  -- memories that the test finds the same are equal
+  pub same_memory_is : (m n : Memory) → same_memory m n ≡ true → m ≡ n
+  same_memory_is memory_variable memory_variable e = refl
+  same_memory_is (upd m a b) (upd n c d) e =
+      let q = and_parts _ _ e in
+      let r = and_parts _ _ q.0 in
+      λ i. upd (same_memory_is m n r.0 i) (same_integer_is a c r.1 i) (same_integer_is b d q.1 i)
+  same_memory_is m n e = cc
+
+mutual
+  -- the test finds an integer the same as itself
+  integer_itself : (e : Integer) → same_integer e e ≡ true
+  integer_itself (word v) = eq-eqb v v refl
+  integer_itself (variable i) = eq-eqb i i refl
+  integer_itself (operation o a b) = and_from _ _ (and_from _ _ (eq-eqb (op_code o) (op_code o) refl)
+      (integer_itself a)) (integer_itself b)
+  integer_itself (sel m a) = and_from _ _ (memory_itself m) (integer_itself a)
+  integer_itself (rem a l) = and_from _ _ (eq-eqb l l refl) (integer_itself a)
+
+  -- the test finds a memory the same as itself
+  memory_itself : (m : Memory) → same_memory m m ≡ true
+  memory_itself memory_variable = refl
+  memory_itself (upd m a b) = and_from _ _ (and_from _ _ (memory_itself m) (integer_itself a)) (integer_itself b)
+
+-- the test finds equal integers the same
+pub integer_same : (e f : Integer) → e ≡ f → same_integer e f ≡ true
+integer_same e f h = subst (λ (z : Integer). same_integer e z ≡ true) h (integer_itself e)
+
+-- the test finds equal memories the same
+pub memory_same : (m n : Memory) → m ≡ n → same_memory m n ≡ true
+memory_same m n h = subst (λ (z : Memory). same_memory m z ≡ true) h (memory_itself m)

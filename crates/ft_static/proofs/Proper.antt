@@ -1,25 +1,17 @@
--- Sums and products of forms in order are in order.
+-- Sums, differences and products of forms in order are in order, and so are constants.
 use Rattle.std.proofs.Common.{ℕ, suc, ◌≡◌, ◌≢◌, ◌+◌, ◌*◌, ◌-◌, ◌%◌, ◌^◌, ◌<◌, ◌≤◌, ◌==◌, true, refl, sym, ap, ◌∙◌}
-use Rattle.std.proofs.Common.{arith, if◌then◌else◌, lit<, lit≤, nat_le, ◌&&◌}
+use Rattle.std.proofs.Common.{arith, lit<, lit≤, nat_le, ◌&&◌}
 use Rattle.std.proofs.Math.Nat.{mod-lt, mod-eq_of_lt}
-use Rattle.std.proofs.Common.{Option, Some, None, List, slice_index_or}
-use Rattle.ft_isa.specs.declared.op.Op.{Op}
-use Rattle.ft_isa.specs.declared.op.Op.TheVariants.{Add, Sub, Mul}
-use Rattle.ft_isa.specs.Words.{apply}
-use Rattle.ft_static.specs.Expression.{Integer, Memory, word, variable, operation, sel, rem, memory_variable, upd}
-use Rattle.ft_static.specs.NormalForm.{constant, constant_of, folded, norm_folded, norm_op, remainder, norm_rem}
-use Rattle.ft_static.specs.NormalForm.{norm_sel, norm_upd, norm_integer, norm_memory, is_not_zero}
 use Rattle.std.specs.Ordering.{ordering_reverse}
 use Rattle.std.specs.declared.cmp.Ordering.{Ordering}
 use Rattle.std.specs.declared.cmp.Ordering.TheVariants.{Less, Equal, Greater}
 use Rattle.std.proofs.lemmas.Bool.{eqb-false, leb-true, and_parts}
-use Rattle.ft_static.specs.Form.{factors, terms, Atom, Monomial, Polynomial, Updates, variable_atom, operation_atom}
-use Rattle.ft_static.specs.Form.{sel_atom, rem_atom, one, times, nought, plus, unchanged, update}
-use Rattle.ft_static.specs.FormOrder.{cmp_atom, cmp_monomial, same_polynomial}
-use Rattle.ft_static.specs.NormalForm.{with_factor, join, led_by, add_term, total, add_multiple, add_products, degree}
-use Rattle.ft_static.specs.NormalForm.{alone, negation, norm_add, norm_sub, norm_mul}
-use Rattle.ft_static.specs.Proper.{Leads, Below, IsProperAtom, IsProperMonomial, IsProper, AreProperUpdates, IsNormal}
-use Rattle.ft_static.specs.FormUnder.{norm_under, norm_memory_under}
+use Rattle.ft_isa.specs.declared.op.Op.TheVariants.{Add, Mul}
+use Rattle.ft_static.specs.NormalForm.{constant, with_factor, join, led_by, add_term, total, add_multiple, add_products}
+use Rattle.ft_static.specs.NormalForm.{degree, alone, negation, norm_add, norm_sub, norm_mul}
+use Rattle.ft_static.specs.Form.{factors, terms, Atom, Monomial, Polynomial, operation_atom, one, times, nought, plus}
+use Rattle.ft_static.specs.Form.{cmp_atom, cmp_monomial, Leads, Below, IsProperAtom, IsProperMonomial, IsProper}
+use Rattle.ft_static.specs.Form.{IsNormal}
 use Rattle.ft_static.proofs.Spelled.{cmp_atom_total, cmp_monomial_total}
 use Rattle.ft_static.proofs.Cases.{by_cases, if_cases}
 
@@ -117,7 +109,7 @@ pub proper_total : (p q : Polynomial) → IsProper p → IsProper q → IsProper
 proper_total nought q h k = k
 proper_total (plus m c p) q h k = proper_total p (add_term m c q) h.5 (proper_add_term m c q h.0 h.1 h.3 k)
 
--- and so are the products with one term
+-- the products with one term are in order
 pub proper_multiple : (m : Monomial) (c : ℕ) (p q : Polynomial) → IsProperMonomial m → factors m + degree p ≤ 4 →
     IsProper p → IsProper q → IsProper (add_multiple m c p q)
 proper_multiple m c nought q h f w v = v
@@ -126,7 +118,7 @@ proper_multiple m c (plus n d p) q h f w v =
     proper_multiple m c p (add_term (join m n) ((c * d) % 2 ^ 64) q) h (omega arith) w.5
     (proper_add_term (join m n) ((c * d) % 2 ^ 64) q (proper_join m n h w.0) (omega arith) (mod-lt _ (lit< tt)) v)
 
--- and all products
+-- all products are in order
 proper_products : (p q r : Polynomial) → degree p + degree q ≤ 4 → IsProper p → IsProper q → IsProper r →
     IsProper (add_products p q r)
 proper_products nought q r f h k w = w
@@ -193,101 +185,21 @@ proper_negation (plus m c p) h =
     let f : (2 ^ 64 - c % 2 ^ 64) % 2 ^ 64 ≡ 2 ^ 64 - c = rw e (mod-eq_of_lt (omega (arith, h.2, h.3))) in
     (h.0, h.1, rw f (omega (arith, h.3)), mod-lt _ (lit< tt), below_negation m p h.4, proper_negation p h.5)
 
--- and its number of monomials
+-- negation keeps the number of monomials
 terms_negation : (p : Polynomial) → terms (negation p) ≡ terms p
 terms_negation nought = refl
 terms_negation (plus m c p) = ap suc (terms_negation p)
 
 -- the form of sub is normal
-normal_sub : (p q : Polynomial) → IsNormal p → IsNormal q → IsNormal (norm_sub p q)
+pub normal_sub : (p q : Polynomial) → IsNormal p → IsNormal q → IsNormal (norm_sub p q)
 normal_sub p q h k = proper_norm_add p (negation q) h.0 (proper_negation q k.0) h.1 (rw (terms_negation q) k.1)
 
 -- a constant is normal
-normal_constant : (c : ℕ) → IsNormal (constant c)
+pub normal_constant : (c : ℕ) → IsNormal (constant c)
 normal_constant c = if_cases (λ t. IsNormal t) (c % 2 ^ 64 == 0) nought (plus one (c % 2 ^ 64) nought)
     (λ e. (tt, lit≤ tt))
     (λ e. ((tt, lit≤ tt, (let n = eqb-false (c % 2 ^ 64) 0 e in omega arith), mod-lt _ (lit< tt), tt, tt), lit≤ tt))
 
 -- a single atom is normal
-normal_alone : (a : Atom) → IsProperAtom a → IsNormal (alone a)
+pub normal_alone : (a : Atom) → IsProperAtom a → IsNormal (alone a)
 normal_alone a h = (proper_alone a h, lit≤ tt)
-
--- a folded constant is normal, and so is the atom
-normal_choice : (o : Op) (x y : Option ℕ) (a : Atom) → IsProperAtom a → IsNormal (folded o x y a)
-normal_choice o (Some c) (Some d) a h = normal_constant (apply o c d)
-normal_choice o None y a h = normal_alone a h
-normal_choice o (Some c) None a h = normal_alone a h
-
--- the form of an operation that folds is normal
-normal_folded : (o : Op) (p q : Polynomial) → IsNormal p → IsNormal q → IsNormal (norm_folded o p q)
-normal_folded o p q h k = normal_choice o (constant_of p) (constant_of q) (operation_atom o p q) (h.0, k.0, h.1, k.1)
-
--- the form of an operation is normal
-pub normal_op : (o : Op) (p q : Polynomial) → IsNormal p → IsNormal q → IsNormal (norm_op o p q)
-normal_op Add p q h k = proper_norm_add p q h.0 k.0 h.1 k.1
-normal_op Sub p q h k = normal_sub p q h k
-normal_op Mul p q h k = proper_norm_mul p q h.0 k.0 h.1 k.1
-normal_op o p q h k = normal_folded o p q h k
-
--- the form of rem is normal
-pub normal_rem : (p : Polynomial) (m : ℕ) → IsNormal p → IsNormal (norm_rem p m)
-normal_rem p m h = go (constant_of p)
-  where
-    go : (x : Option ℕ) → IsNormal (remainder x m (rem_atom p m))
-    go (Some c) = normal_constant (c % m)
-    go None = normal_alone (rem_atom p m) h
-
--- the form of a sel is normal
-pub normal_sel : (u : Updates) (p : Polynomial) → AreProperUpdates u → IsNormal p → IsNormal (norm_sel u p)
-normal_sel unchanged p h k = normal_alone (sel_atom unchanged p) (tt, k.0, k.1)
-normal_sel (update a v u) p h k = if_cases (λ t. IsNormal t) (same_polynomial a p) v
-    (if is_not_zero (constant_of (norm_sub p a)) then norm_sel u p else alone (sel_atom (update a v u) p))
-    (λ e. (h.2, h.3))
-    (λ e. if_cases (λ t. IsNormal t) (is_not_zero (constant_of (norm_sub p a))) (norm_sel u p)
-    (alone (sel_atom (update a v u) p)) (λ g. normal_sel u p h.4 k) (λ g.
-    normal_alone (sel_atom (update a v u) p) (h, k.0, k.1)))
-
--- the form of an upd is in order
-pub proper_upd : (u : Updates) (p v : Polynomial) → AreProperUpdates u → IsNormal p → IsNormal v →
-    AreProperUpdates (norm_upd u p v)
-proper_upd unchanged p v h k l = (k.0, k.1, l.0, l.1, tt)
-proper_upd (update a w u) p v h k l = if_cases (λ t. AreProperUpdates t) (same_polynomial a p) (update a v u)
-    (update p v (update a w u))
-    (λ e. (h.0, h.1, l.0, l.1, h.4))
-    (λ e. (k.0, k.1, l.0, l.1, h))
-
--- a normal form is a form in order
-mutual
-  -- the form of an integer is normal
-  pub norm_is_normal : (e : Integer) → IsNormal (norm_integer e)
-  norm_is_normal (word w) = normal_constant w
-  norm_is_normal (variable i) = normal_alone (variable_atom i) tt
-  norm_is_normal (operation o a b) = normal_op o (norm_integer a) (norm_integer b) (norm_is_normal a) (norm_is_normal b)
-  norm_is_normal (sel m a) = normal_sel (norm_memory m) (norm_integer a) (norm_memory_is_proper m) (norm_is_normal a)
-  norm_is_normal (rem a m) = normal_rem (norm_integer a) m (norm_is_normal a)
-
-  -- the form of a memory is in order
-  pub norm_memory_is_proper : (m : Memory) → AreProperUpdates (norm_memory m)
-  norm_memory_is_proper memory_variable = tt
-  norm_memory_is_proper (upd m a b) = proper_upd (norm_memory m) (norm_integer a) (norm_integer b)
-      (norm_memory_is_proper m) (norm_is_normal a) (norm_is_normal b)
-
-mutual
-  -- a form under normal forms is normal
-  pub under_is_normal : (e : Integer) (ps : List Polynomial) (u : Updates) →
-      ((i : ℕ) → IsNormal (slice_index_or ps i nought)) → AreProperUpdates u → IsNormal (norm_under e ps u)
-  under_is_normal (word w) ps u h k = normal_constant w
-  under_is_normal (variable i) ps u h k = h i
-  under_is_normal (operation o a b) ps u h k = normal_op o (norm_under a ps u) (norm_under b ps u)
-      (under_is_normal a ps u h k) (under_is_normal b ps u h k)
-  under_is_normal (sel m a) ps u h k = normal_sel (norm_memory_under m ps u) (norm_under a ps u)
-      (memory_under_is_proper m ps u h k) (under_is_normal a ps u h k)
-  under_is_normal (rem a m) ps u h k = normal_rem (norm_under a ps u) m (under_is_normal a ps u h k)
-
-  -- that of a memory is in order
-  pub memory_under_is_proper : (m : Memory) (ps : List Polynomial) (u : Updates) →
-      ((i : ℕ) → IsNormal (slice_index_or ps i nought)) → AreProperUpdates u →
-      AreProperUpdates (norm_memory_under m ps u)
-  memory_under_is_proper memory_variable ps u h k = k
-  memory_under_is_proper (upd m a b) ps u h k = proper_upd (norm_memory_under m ps u) (norm_under a ps u)
-      (norm_under b ps u) (memory_under_is_proper m ps u h k) (under_is_normal a ps u h k) (under_is_normal b ps u h k)

@@ -13,8 +13,7 @@ use Rattle.ft_isa.specs.declared.op.Op.{Op}
 use Rattle.ft_isa.specs.declared.op.Op.TheVariants.{Add}
 use Rattle.ft_static.specs.Form.{Form, integer_form, memory_form, factors, terms, updates, Atom, Monomial, Polynomial}
 use Rattle.ft_static.specs.Form.{Updates, variable_atom, operation_atom, sel_atom, rem_atom, one, times, nought, plus}
-use Rattle.ft_static.specs.Form.{unchanged, update}
-use Rattle.ft_static.specs.FormOrder.{operation_kind, cmp_atom, cmp_monomial, cmp_polynomial, cmp_updates}
+use Rattle.ft_static.specs.Form.{unchanged, update, operation_kind, cmp_atom, cmp_monomial, cmp_polynomial, cmp_updates}
 
 abbrev mutual
   -- an atom as a list of numbers
@@ -94,7 +93,7 @@ mutual
   lex_atom (operation_atom o p q) (rem_atom r m) xs ys = unlike _ _ _ _ (λ e. (other_kind o).2 (sym e))
   lex_atom a b xs ys = refl
 
-  -- so do monomials
+  -- the same for monomials
   pub lex_monomial : (a b : Monomial) (xs ys : List ℕ) → lex (spell_monomial a ++ xs) (spell_monomial b ++ ys)
       ≡ ordering_then (cmp_monomial a b) (lex xs ys)
   lex_monomial (times a m) (times b n) xs ys = simp (append_assoc, lex_atom a b, lex_monomial m n, then_assoc)
@@ -102,7 +101,7 @@ mutual
   lex_monomial one (times b n) xs ys = refl
   lex_monomial (times a m) one xs ys = refl
 
-  -- and polynomials
+  -- the same for polynomials
   pub lex_polynomial : (a b : Polynomial) (xs ys : List ℕ) → lex (spell_polynomial a ++ xs) (spell_polynomial b ++ ys)
       ≡ ordering_then (cmp_polynomial a b) (lex xs ys)
   lex_polynomial (plus m c p) (plus n d q) xs ys = simp (append_assoc, lex_monomial m n, lex_polynomial p q, then_assoc)
@@ -110,7 +109,7 @@ mutual
   lex_polynomial nought (plus n d q) xs ys = refl
   lex_polynomial (plus m c p) nought xs ys = refl
 
-  -- and memory forms
+  -- the same for memory forms
   pub lex_updates : (a b : Updates) (xs ys : List ℕ) → lex (spell_updates a ++ xs) (spell_updates b ++ ys)
       ≡ ordering_then (cmp_updates a b) (lex xs ys)
   lex_updates (update p v u) (update r w x) xs ys = simp (
@@ -158,15 +157,15 @@ agreeing R S e t = record {
 pub cmp_atom_total : IsTotalOrder cmp_atom
 cmp_atom_total = agreeing cmp_atom (on spell_atom lex) atom_spelled (on_texts spell_atom)
 
--- that of monomials
+-- the order of monomials is total
 pub cmp_monomial_total : IsTotalOrder cmp_monomial
 cmp_monomial_total = agreeing cmp_monomial (on spell_monomial lex) monomial_spelled (on_texts spell_monomial)
 
--- that of polynomials
+-- the order of polynomials is total
 pub cmp_polynomial_total : IsTotalOrder cmp_polynomial
 cmp_polynomial_total = agreeing cmp_polynomial (on spell_polynomial lex) polynomial_spelled (on_texts spell_polynomial)
 
--- that of memory forms
+-- the order of memory forms is total
 pub cmp_updates_total : IsTotalOrder cmp_updates
 cmp_updates_total = agreeing cmp_updates (on spell_updates lex) updates_spelled (on_texts spell_updates)
 

@@ -9,11 +9,10 @@ use Rattle.ft_isa.specs.declared.op.Op.TheVariants.{Add, Mul}
 use Rattle.ft_isa.specs.Words.{apply, IsWord}
 use Rattle.ft_static.specs.Expression.{word_at, Valuation, IsLawful}
 use Rattle.ft_static.specs.Form.{terms, Atom, Monomial, Polynomial, Updates, operation_atom, one, times, nought, plus}
-use Rattle.ft_static.specs.Form.{unchanged, update}
-use Rattle.ft_static.specs.FormOrder.{cmp_atom, cmp_monomial}
+use Rattle.ft_static.specs.Form.{unchanged, update, cmp_atom, cmp_monomial, value_atom, value_monomial}
+use Rattle.ft_static.specs.Form.{value_polynomial, value_updates}
 use Rattle.ft_static.specs.NormalForm.{with_factor, join, led_by, add_term, total, add_multiple, add_products, degree}
 use Rattle.ft_static.specs.NormalForm.{alone, norm_add, norm_mul}
-use Rattle.ft_static.specs.FormValue.{value_atom, value_monomial, value_polynomial, value_updates}
 use Rattle.ft_static.proofs.Cases.{by_cases, if_cases}
 use Rattle.ft_static.proofs.Words.{with_word_is_word}
 use Rattle.ft_static.proofs.Spelled.{monomial_equal}

@@ -1,24 +1,20 @@
 -- Forms after a substitution: what they denote, which expressions they belong to, and those of numbered nodes.
 use Rattle.std.proofs.Common.{ℕ, suc, zero, ◌≡◌, ◌<◌, List, [], ◌∷◌, ◌++◌, get_or, map, slice_index_or, refl, sym, ap}
 use Rattle.std.proofs.Common.{◌∙◌, subst}
-use Rattle.std.proofs.Math.Nat.{mod-eq_of_lt}
 use Rattle.std.proofs.lemmas.List.{map-append}
 use Rattle.ft_isa.specs.Words.{IsWord}
-use Rattle.ft_static.specs.Expression.{Integer, Memory, Expression, word, variable, rem, memory_variable, integer}
-use Rattle.ft_static.specs.Expression.{memory, Valuation, value, memory_value, IsLawful}
-use Rattle.ft_static.specs.Expression.{AreWords, AreWordsOfMemory, IsWithin, IsMemoryWithin, substitute}
+use Rattle.ft_static.specs.Expression.{Integer, Memory, Expression, word, variable, memory_variable, integer, memory}
+use Rattle.ft_static.specs.Expression.{Valuation, value, memory_value, IsLawful, IsWithin, IsMemoryWithin, substitute}
 use Rattle.ft_static.specs.Expression.{substitute_memory, valuation_after}
 use Rattle.ft_static.specs.NodeTree.{integer_part, memory_part, integer_at, memory_at, tree_of, trees_onto}
-use Rattle.ft_static.specs.Form.{polynomial_of, Polynomial, Updates, variable_atom, nought, unchanged}
-use Rattle.ft_static.specs.NormalForm.{alone, norm_integer, norm_memory}
-use Rattle.ft_static.specs.FormValue.{value_polynomial, value_updates, valuation_under}
-use Rattle.ft_static.specs.FormUnder.{norm_under, norm_memory_under, form_under, updates_or, integer_in, memory_in}
-use Rattle.ft_static.specs.FormUnder.{form_of, forms_of_nodes}
+use Rattle.ft_static.specs.Form.{polynomial_of, Polynomial, Updates, variable_atom, nought, unchanged, value_polynomial}
+use Rattle.ft_static.specs.Form.{valuation_under}
+use Rattle.ft_static.specs.NormalForm.{alone, norm_integer, norm_memory, norm_under, norm_memory_under, form_under}
+use Rattle.ft_static.specs.NormalForm.{updates_or, integer_in, memory_in, form_of, forms_of_nodes}
 use Rattle.ft_static.specs.declared.node.Node.{Node}
 use Rattle.ft_static.specs.declared.node.Shape.{Shape}
 use Rattle.ft_static.specs.declared.node.Shape.TheVariants as shape
 use Rattle.ft_static.proofs.NodeTrees.{OfAll, OfMemoryParts, OfParts, by_parts, by_parts_where}
-use Rattle.ft_static.proofs.FormsDenote.{value_op, value_rem, value_sel, value_upd, value_constant}
 use Rattle.ft_static.proofs.Sums.{value_polynomial_is_word, value_updates_are_words}
 
 -- what is at a place of a list after a function, with its value at the default
@@ -28,7 +24,7 @@ get_or-map f [] k d = refl
 get_or-map f (x ∷ xs) zero d = refl
 get_or-map f (x ∷ xs) (suc k) d = get_or-map f xs k d
 
--- what is put for the variables
+-- what is substituted for the variables
 module _ (es : List Integer) (m : Memory) where
   abbrev pub HasForm : Integer → Type 0
   HasForm e = norm_integer (substitute e es m) ≡ norm_under e (map norm_integer es) (norm_memory m)
@@ -75,36 +71,6 @@ valuation_under-lawful ps u s lawful = record {
       (value_polynomial_is_word (get_or ps i nought) s);
   memory = λ a. value_updates_are_words u s lawful a;
 }
-
--- the parts of an expression of words are of words
-words_of_parts : (e : Integer) → AreWords e → OfParts AreWords AreWordsOfMemory e
-words_of_parts (word w) h = tt
-words_of_parts (rem a n) h = h.0
-words_of_parts e h = h
-
-module _ (ps : List Polynomial) (u : Updates) (s : Valuation) (lawful : IsLawful s) where
-  abbrev pub Denotes : Integer → Type 0
-  Denotes e = value_polynomial (norm_under e ps u) s ≡ value e (valuation_under ps u s)
-
-  abbrev pub MemoryDenotes : Memory → Type 0
-  MemoryDenotes m = value_updates (norm_memory_under m ps u) s ≡ memory_value m (valuation_under ps u s)
-
-  -- the form of an expression under forms denotes what the expression does in the valuation under them
-  pub value_under : OfAll (λ e. AreWords e → Denotes e) (λ m. AreWordsOfMemory m → MemoryDenotes m)
-  value_under = by_parts_where AreWords Denotes AreWordsOfMemory MemoryDenotes words_of_parts split whole stored
-    where
-      split : (m : Memory) → AreWordsOfMemory m → OfMemoryParts AreWords AreWordsOfMemory m
-      split memory_variable h = h
-      split m h = h
-
-      whole : (e : Integer) → AreWords e → OfParts Denotes MemoryDenotes e → Denotes e
-      whole (word w) k h = value_constant w s ∙ mod-eq_of_lt k
-      whole (variable i) k h = sym (get_or-map (λ (p : Polynomial). value_polynomial p s) ps i nought)
-      whole e k h = simp (value_op, value_sel, value_rem) (cc)
-
-      stored : (m : Memory) → AreWordsOfMemory m → OfMemoryParts Denotes MemoryDenotes m → MemoryDenotes m
-      stored memory_variable k h = refl
-      stored m k h = simp value_upd (cc)
 
 module _ (n : ℕ) (ps : List Polynomial) (own : (i : ℕ) → i < n → slice_index_or ps i nought ≡ alone (variable_atom i))
   where

@@ -12,6 +12,10 @@ x = variable 0
 abbrev pub y : Integer
 y = variable 1
 
+-- one that comes after 64 others
+abbrev pub z : Integer
+z = variable 64
+
 abbrev pub add : Integer → Integer → Integer
 add a b = operation Add a b
 
@@ -56,11 +60,11 @@ sum_down i (suc n) = add (variable (i + suc n)) (sum_down i n)
 abbrev pub at_x : Memory
 at_x = upd memory_variable x (word 7)
 
--- then 8 at the address x + 1
+-- the same, and then 8 at the address x + 1
 abbrev pub past_x : Memory
 past_x = upd at_x (add x (word 1)) (word 8)
 
--- and then 8 at the address y
+-- the word 7 at the address x, and then 8 at the address y
 abbrev pub then_y : Memory
 then_y = upd at_x y (word 8)
 

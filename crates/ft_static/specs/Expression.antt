@@ -106,7 +106,7 @@ abbrev mutual
   substitute (sel m a) es k = sel (substitute_memory m es k) (substitute a es k)
   substitute (rem a m) es k = rem (substitute a es k) m
 
-  -- a memory with the same
+  -- a memory after the same substitution
   pub substitute_memory : Memory → List Integer → Memory → Memory
   substitute_memory memory_variable es k = k
   substitute_memory (upd m a b) es k = upd (substitute_memory m es k) (substitute a es k) (substitute b es k)
@@ -145,7 +145,7 @@ abbrev mutual
   same_integer (rem a l) (rem c k) = (l == k) && same_integer a c
   same_integer e f = false
 
-  -- whether two memories are
+  -- whether two memories are the same tree
   pub same_memory : Memory → Memory → Bool
   same_memory memory_variable memory_variable = true
   same_memory (upd m a b) (upd n c d) = same_memory m n && same_integer a c && same_integer b d

@@ -1,12 +1,8 @@
-pub mod NodeRules
 pub mod NodeParts
+pub mod NodeRules
 pub mod Expression
 pub mod NodeTree
 pub mod Form
-pub mod FormOrder
 pub mod NormalForm
-pub mod FormValue
-pub mod Proper
 pub mod Coefficient
-pub mod FormUnder
 pub mod Examples

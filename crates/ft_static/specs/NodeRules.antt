@@ -3,17 +3,14 @@ use Rattle.std.specs.Prelude.{◌≡◌, ℕ, ◌<◌, ◌≤◌, Bool, true, fa
 use Rattle.ft_isa.specs.Words.{IsWord}
 use Rattle.ft_static.specs.declared.node.Node.{Node}
 use Rattle.ft_static.specs.declared.node.Shape.{Shape}
-use Rattle.ft_static.specs.declared.node.Shape.TheVariants.{Word, Var, Op, Sel, Memory, Upd, Rem}
+use Rattle.ft_static.specs.declared.node.Shape.TheVariants.{Word, Var, Memory, Upd, Rem}
+use Rattle.ft_static.specs.NodeParts.{EachPart}
 
 -- whether a node stands for a memory; the others stand for integers
 abbrev pub is_memory : Shape → Bool
-is_memory (Word w) = false
-is_memory (Var i) = false
-is_memory (Op op a b) = false
-is_memory (Sel memory at) = false
 is_memory Memory = true
 is_memory (Upd memory at value) = true
-is_memory (Rem a m) = false
+is_memory x = false
 
 -- node m may be used as a node of this sort, below number n and within this scope
 pub record MayName (nodes : List Node) (n scope : ℕ) (memory : Bool) (m : ℕ) : Type 0 where
@@ -27,17 +24,14 @@ pub record MayName (nodes : List Node) (n scope : ℕ) (memory : Bool) (m : ℕ)
 abbrev pub IsLength : ℕ → Type 0
 IsLength m = (1 ≤ m) × (m ≤ 1024)
 
--- the rules for the shape of node n
+-- the rules for the shape of node n: it may name each part, and its own number is a word, a variable or a length
 abbrev pub IsShape : List Node → ℕ → ℕ → Shape → Type 0
 IsShape nodes n scope (Word w) = IsWord w
 IsShape nodes n scope (Var i) = i < scope
-IsShape nodes n scope (Op op a b) = MayName nodes n scope false a × MayName nodes n scope false b
-IsShape nodes n scope (Sel memory at) = MayName nodes n scope true memory × MayName nodes n scope false at
-IsShape nodes n scope Memory = Unit {0}
-IsShape nodes n scope (Upd memory at value) = MayName nodes n scope true memory × MayName nodes n scope false at × MayName nodes n scope false value
 IsShape nodes n scope (Rem a m) = MayName nodes n scope false a × IsLength m
+IsShape nodes n scope x = EachPart (MayName nodes n scope) x
 
--- node n obeys the rules: its scope is at most 128, and its parts are lower nodes of their sorts, within its scope
+-- node n obeys the rules: its scope is at most 128, and its parts are lower nodes of the right sort, within its scope
 pub record IsNode (nodes : List Node) (n : ℕ) (node : Node) : Type 0 where
   pub scope : node.scope ≤ 128
   pub shape : IsShape nodes n node.scope node.shape

@@ -1,13 +1,16 @@
--- The normal form of an expression, from the normal forms of its parts.
-use Rattle.std.specs.Prelude.{ℕ, ◌+◌, ◌*◌, ◌-◌, ◌%◌, ◌^◌, ◌==◌, Bool, true, false, if◌then◌else◌, ◌&&◌, Option, Some, None, nat_le, max}
+-- The normal form of an expression, from the normal forms of its parts; the same after forms are substituted for the
+-- variables, of a tree and of numbered nodes.
+use Rattle.std.specs.Prelude.{ℕ, ◌+◌, ◌*◌, ◌-◌, ◌%◌, ◌^◌, ◌==◌, Bool, true, false, if◌then◌else◌, ◌&&◌, Option, Some, None, nat_le, max, List, [], ◌∷◌, ◌++◌, slice_index_or}
 use Rattle.std.specs.declared.cmp.Ordering.{Ordering}
 use Rattle.std.specs.declared.cmp.Ordering.TheVariants.{Less, Equal, Greater}
 use Rattle.ft_isa.specs.declared.op.Op.{Op}
 use Rattle.ft_isa.specs.declared.op.Op.TheVariants.{Add, Sub, Mul}
 use Rattle.ft_isa.specs.Words.{apply}
 use Rattle.ft_static.specs.Expression.{Integer, Memory, Expression, word, variable, operation, sel, rem, memory_variable, upd, integer, memory}
-use Rattle.ft_static.specs.Form.{Form, integer_form, memory_form, factors, terms, Atom, Monomial, Polynomial, Updates, variable_atom, operation_atom, sel_atom, rem_atom, one, times, nought, plus, unchanged, update}
-use Rattle.ft_static.specs.FormOrder.{cmp_atom, cmp_monomial, same_polynomial, same_updates}
+use Rattle.ft_static.specs.Form.{Form, integer_form, memory_form, polynomial_of, factors, terms, Atom, Monomial, Polynomial, Updates, variable_atom, operation_atom, sel_atom, rem_atom, one, times, nought, plus, unchanged, update, cmp_atom, cmp_monomial, same_polynomial, same_updates}
+use Rattle.ft_static.specs.declared.node.Node.{Node}
+use Rattle.ft_static.specs.declared.node.Shape.{Shape}
+use Rattle.ft_static.specs.declared.node.Shape.TheVariants as shape
 
 -- the first, second or third by the result of a comparison
 abbrev pub by_order : {A : Type 0} → Ordering → A → A → A → A
@@ -39,12 +42,12 @@ abbrev pub total : Polynomial → Polynomial → Polynomial
 total nought q = q
 total (plus m c p) q = total p (add_term m c q)
 
--- q and each term of p times the term of m and c
+-- q plus each term of p times one term, m with the coefficient c
 abbrev pub add_multiple : Monomial → ℕ → Polynomial → Polynomial → Polynomial
 add_multiple m c nought q = q
 add_multiple m c (plus n d p) q = add_multiple m c p (add_term (join m n) ((c * d) % 2 ^ 64) q)
 
--- r and each term of p times each of q
+-- r plus each term of p times each term of q
 abbrev pub add_products : Polynomial → Polynomial → Polynomial → Polynomial
 add_products nought q r = r
 add_products (plus m c p) q r = add_products p q (add_multiple m c q r)
@@ -113,7 +116,7 @@ abbrev pub norm_upd : Updates → Polynomial → Polynomial → Updates
 norm_upd unchanged p v = update p v unchanged
 norm_upd (update a w u) p v = if same_polynomial a p then update a v u else update p v (update a w u)
 
--- an operation on p and q: a sum, a difference and a product by monomials, and any other folds
+-- an operation on p and q: add, sub and mul are computed by monomials; any other is folded
 abbrev pub norm_op : Op → Polynomial → Polynomial → Polynomial
 norm_op Add p q = norm_add p q
 norm_op Sub p q = norm_sub p q
@@ -153,3 +156,56 @@ abbrev pub same : Expression → Expression → Bool
 same (integer a) (integer b) = same_polynomial (norm_integer a) (norm_integer b)
 same (memory k) (memory m) = same_updates (norm_memory k) (norm_memory m)
 same a b = false
+
+-- AFTER A SUBSTITUTION
+
+abbrev mutual
+  -- the form of an integer after these are substituted for the integer variables and u for the memory variable
+  pub norm_under : Integer → List Polynomial → Updates → Polynomial
+  norm_under (word w) ps u = constant w
+  norm_under (variable i) ps u = slice_index_or ps i nought
+  norm_under (operation o a b) ps u = norm_op o (norm_under a ps u) (norm_under b ps u)
+  norm_under (sel m a) ps u = norm_sel (norm_memory_under m ps u) (norm_under a ps u)
+  norm_under (rem a m) ps u = norm_rem (norm_under a ps u) m
+
+  -- the form of a memory after the same substitution
+  pub norm_memory_under : Memory → List Polynomial → Updates → Updates
+  norm_memory_under memory_variable ps u = u
+  norm_memory_under (upd m a v) ps u = norm_upd (norm_memory_under m ps u) (norm_under a ps u) (norm_under v ps u)
+
+-- the form of an expression after the same substitution
+abbrev pub form_under : List Polynomial → Updates → Expression → Form
+form_under ps u (integer e) = integer_form (norm_under e ps u)
+form_under ps u (memory m) = memory_form (norm_memory_under m ps u)
+
+-- the updates of a memory's form; for an integer's form, the given ones
+abbrev pub updates_or : Updates → Form → Updates
+updates_or u (integer_form p) = u
+updates_or u (memory_form w) = w
+
+-- the polynomial of node n, if these are the forms of the nodes
+abbrev pub integer_in : List Form → ℕ → Polynomial
+integer_in fs n = polynomial_of (slice_index_or fs n (integer_form nought))
+
+-- the updates of node n
+abbrev pub memory_in : Updates → List Form → ℕ → Updates
+memory_in u fs n = updates_or u (slice_index_or fs n (integer_form nought))
+
+-- the form of a node of this shape, if its parts have these forms
+abbrev pub form_over : List Polynomial → Updates → (ℕ → Polynomial) → (ℕ → Updates) → Shape → Form
+form_over ps u p m (shape.Word w) = integer_form (constant w)
+form_over ps u p m (shape.Var i) = integer_form (slice_index_or ps i nought)
+form_over ps u p m (shape.Op o a b) = integer_form (norm_op o (p a) (p b))
+form_over ps u p m (shape.Sel k a) = integer_form (norm_sel (m k) (p a))
+form_over ps u p m shape.Memory = memory_form u
+form_over ps u p m (shape.Upd k a v) = memory_form (norm_upd (m k) (p a) (p v))
+form_over ps u p m (shape.Rem a n) = integer_form (norm_rem (p a) n)
+
+-- the same, if the forms of its parts are among these
+abbrev pub form_of : List Polynomial → Updates → List Form → Shape → Form
+form_of ps u fs x = form_over ps u (integer_in fs) (memory_in u fs) x
+
+-- the forms so far, and then those of these nodes in increasing order
+abbrev pub forms_of_nodes : List Polynomial → Updates → List Form → List Node → List Form
+forms_of_nodes ps u fs [] = fs
+forms_of_nodes ps u fs (n ∷ ns) = forms_of_nodes ps u (fs ++ form_of ps u fs n.shape ∷ []) ns

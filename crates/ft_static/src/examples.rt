@@ -2,13 +2,12 @@
 //! nothing: its clauses are computed from the definitions.
 ghost use Rattle.std.specs.Prelude.{◌≡◌, ◌-◌, ◌^◌, true, false, [], ◌∷◌};
 ghost use Rattle.ft_isa.specs.declared.op.Op.TheVariants.{And};
-ghost use Rattle.ft_static.specs.Examples.{x, y, add, sub, mul, ltu, eq, and, or, xor, shl, shr, sum_up, sum_down, at_x, past_x, then_y, nodes};
-ghost use Rattle.ft_static.specs.Expression.{integer, memory, word, variable, sel, rem, upd, memory_variable};
+ghost use Rattle.ft_static.specs.Examples.{x, y, z, add, sub, mul, ltu, eq, and, or, xor, shl, shr, sum_up, sum_down, at_x, past_x, then_y, nodes};
+ghost use Rattle.ft_static.specs.Expression.{integer, memory, word, sel, rem, upd, memory_variable};
 ghost use Rattle.ft_static.specs.Form.{integer_form, nought, one, operation_atom, plus, rem_atom, times, unchanged};
-ghost use Rattle.ft_static.specs.FormUnder.{form_under};
 ghost use Rattle.ft_static.specs.NodeRules.{AreNodes};
 ghost use Rattle.ft_static.specs.NodeTree.{tree_at};
-ghost use Rattle.ft_static.specs.NormalForm.{alone, constant, norm, norm_add, norm_integer, norm_rem, same};
+ghost use Rattle.ft_static.specs.NormalForm.{alone, constant, norm, norm_add, norm_integer, norm_rem, same, form_under};
 
 /// Words and variables.
 pub fn examples_of_words()
@@ -28,9 +27,9 @@ pub fn examples_of_sums()
     ensures difference_turned_round { same (integer (sub x y)) (integer (sub y x)) ≡ false }
     ensures sum_of_64 { same (integer (sum_up 0 63)) (integer (sum_down 0 63)) ≡ true }
     ensures sum_of_65 { same (integer (sum_up 0 64)) (integer (sum_down 0 64)) ≡ false }
-    ensures zeros_are_dropped_first { same (integer (add (sum_up 0 63) (sub (variable 64) x))) (integer (sum_up 1 63)) ≡ true }
+    ensures zeros_are_dropped_first { same (integer (add (sum_up 0 63) (sub z x))) (integer (sum_up 1 63)) ≡ true }
     ensures sum_less_itself { same (integer (sub (sum_up 0 63) (sum_up 0 63))) (integer (word 0)) ≡ true }
-    ensures difference_of_65 { same (integer (sub (sum_up 0 63) (variable 64))) (integer (add (sum_up 0 63) (mul (word (2 ^ 64 - 1)) (variable 64)))) ≡ true }
+    ensures difference_of_65 { same (integer (sub (sum_up 0 63) z)) (integer (add (sum_up 0 63) (mul (word (2 ^ 64 - 1)) z))) ≡ true }
 {}
 
 /// Products.

@@ -6,14 +6,10 @@ ghost use Rattle.ft_isa.specs.Words.{IsWord, apply};
 ghost use Rattle.ft_isa.specs.declared.op.Op.{Op};
 ghost use Rattle.ft_static.specs.Coefficient.{coefficient, count, share_of_products};
 ghost use Rattle.ft_static.specs.Expression.{Expression, HasVariablesBelow, HasWords, Integer, IsLawful, IsWithin, IsMemoryWithin, Memory, Valuation, AreWords, AreWordsOfMemory, denotation, integer_of, memory_value, substitute, substitute_memory, value, valuation_after, with_word, word_at};
-ghost use Rattle.ft_static.specs.Form.{Atom, Monomial, Polynomial, Updates, atoms, monomials, nought, stores, unchanged, variable_atom};
-ghost use Rattle.ft_static.specs.FormOrder.{cmp_atom, cmp_lists, cmp_monomial, cmp_pairs, cmp_polynomial, cmp_updates, same_polynomial, same_updates};
-ghost use Rattle.ft_static.specs.FormUnder.{form_of, form_under, forms_of_nodes, norm_memory_under, norm_under};
-ghost use Rattle.ft_static.specs.FormValue.{form_denotation, value_polynomial, value_updates, valuation_under};
+ghost use Rattle.ft_static.specs.Form.{Atom, Monomial, Polynomial, Updates, atoms, monomials, nought, stores, unchanged, variable_atom, cmp_atom, cmp_lists, cmp_monomial, cmp_pairs, cmp_polynomial, cmp_updates, same_polynomial, same_updates, form_denotation, value_polynomial, value_updates, valuation_under, AreProperUpdates, IsNormal, IsProper};
 ghost use Rattle.ft_static.specs.NodeRules.{AreNodes};
 ghost use Rattle.ft_static.specs.NodeTree.{StandsFor, tree_at, trees};
-ghost use Rattle.ft_static.specs.NormalForm.{add_products, alone, constant, degree, join, norm, norm_integer, norm_memory, norm_op, norm_rem, norm_sel, norm_upd, same, total};
-ghost use Rattle.ft_static.specs.Proper.{AreProperUpdates, IsNormal, IsProper};
+ghost use Rattle.ft_static.specs.NormalForm.{add_products, alone, constant, degree, join, norm, norm_integer, norm_memory, norm_op, norm_rem, norm_sel, norm_upd, same, total, form_of, form_under, forms_of_nodes, norm_memory_under, norm_under};
 ghost use Rattle.ft_static.specs.declared.node.Node.{Node};
 
 use std::cmp::Ordering;

@@ -37,7 +37,7 @@ declaration_fits (a_cell w n (Some x) l v r) rest h = (
 )
 declaration_fits (a_var w n r) rest h = (tt, h.1.1.1)
 
--- and those of declarations
+-- the lexemes of declarations make them fit
 declarations_fit : (ds : Declarations) (rest : List Lexeme) → AllFit (declarations_then ds rest) →
     AllByRecursion IsFitDeclaration (declarations_tree ds) × AllFit rest
 declarations_fit undeclared rest h = (tt, h)
@@ -124,7 +124,7 @@ mutual
   atom_fits (a_number l) rest h = (h.0.number_fits refl, h.1)
   atom_fits (brackets l e r) rest h = let p = equality_fits e (of_kind RParen r ∷ rest) h.1 in (p.0, p.1.1)
 
--- and those of statements, whatever comes after them
+-- the lexemes of statements make them fit, whatever comes after them
 mutual
   statement_fits : (s : Statement) (rest : List Lexeme) → AllFit (statement_then s rest) →
       ((after : StatementList Named) → HaveWords after → HaveWords (statement_tree s after)) × AllFit rest
@@ -167,7 +167,7 @@ pub record IsFitTree (t : SyntaxTree) : Type 0 where
   pub declarations : AllByRecursion IsFitDeclaration t.decls
   pub literals : HaveWords t.body
 
--- so it is
+-- the tree of a source fits
 pub source_fits : (text : List ℕ) (t : SyntaxTree) → IsSource text t → IsFitTree t
 source_fits text t source =
     let derived = source.2 in

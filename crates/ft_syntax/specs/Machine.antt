@@ -132,7 +132,7 @@ want_by Number t p x = Some (had p (literal (numeral 0 t.text)) x)
 want_by LParen t p x = Some (want empty (paren p x))
 want_by _ t p x = None
 
--- after a whole expression e
+-- the state after a whole expression e
 abbrev pub ended : Kind → NamedExpression → Context → Option State
 ended RParen e (paren p x) = Some (had p e x)
 ended RParen e (loop_test ss b) = Some (loop_brace e ss b)
@@ -146,7 +146,7 @@ abbrev pub had_by : Kind → Option Waiting → Waiting → NamedExpression → 
 had_by k (Some q) p a x = Some (want q x)
 had_by k None p a x = ended k (close p a) x
 
--- after a name, whose index may follow: a bracket opens it
+-- the state after a name, whose index may follow: a bracket opens it
 abbrev pub had_name_by : Kind → Waiting → Named → Context → Option State
 had_name_by LBracket p n x = Some (want empty (index_of p n x))
 had_name_by k p n x = had_by k (push k p (name n)) p (name n) x
@@ -188,7 +188,7 @@ abbrev pub is_assign : Kind → Option State → Option State
 is_assign Assign s = s
 is_assign _ s = None
 
--- after the name that a statement begins with: a bracket opens its index
+-- the state after the name that a statement begins with: a bracket opens its index
 abbrev pub target_by : Kind → Named → NamedStatements → Block → Option State
 target_by LBracket n ss b = Some (want empty (target_of n ss b))
 target_by k n ss b = is_assign k (Some (want empty (value_of n None ss b)))
@@ -197,7 +197,7 @@ abbrev pub is_closing : Kind → Option State → Option State
 is_closing RBracket s = s
 is_closing _ s = None
 
--- after the name of a cell: a bracket opens its length
+-- the state after the name of a cell: a bracket opens its length
 abbrev pub cell_by : Kind → List Declared → Named → Option State
 cell_by LBracket ds n = Some (cell_length ds n)
 cell_by k ds n = is_assign k (Some (cell_number ds n None))

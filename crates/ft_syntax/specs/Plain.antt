@@ -39,7 +39,7 @@ plain_expression f (Name n) = name (f n)
 plain_expression f (At' n p i) = indexed (f n) (plain_expression f i)
 plain_expression f (Op' o p a q b) = operation o (plain_expression f a) (plain_expression f b)
 
--- the plain form of a statement before others, and of a body, a row of statements
+-- the plain form of a statement before others, and that of a body, which is a row of statements
 unfoldable mutual
   pub plain_statement : {N M : Type 0} → (N → M) → Stmt N → StatementList M → StatementList M
   plain_statement f (Assign to e) after = assign (f to) (plain_expression f e) after

@@ -1,4 +1,4 @@
--- What the parser's values are to the machine. Only private clauses cite it.
+-- What the parser's values mean to the machine. Only private clauses cite this.
 use Rattle.std.specs.Prelude.{◌≡◌, ℕ, List, [], ◌∷◌, None, option_map, Result, Err}
 use Rattle.ft_isa.specs.declared.op.Op.{Op}
 use Rattle.ft_lexer.specs.declared.kind.Kind.{Kind}

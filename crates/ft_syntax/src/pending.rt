@@ -37,7 +37,7 @@ impl<'a> Pending<'a> {
         }
     }
 
-    /// Takes the product that an operand ends.
+    /// Takes the product that ends with an operand.
     fn take_product(
         &mut self,
         alloc: Global,
@@ -50,7 +50,7 @@ impl<'a> Pending<'a> {
         join(alloc, Op::Mul, self.product.take(), a)
     }
 
-    /// Takes the sum that an operand ends.
+    /// Takes the sum that ends with an operand.
     fn take_sum(&mut self, alloc: Global, a: Expr<Spot<'a>>) -> Result<Expr<Spot<'a>>, SourceError>
         ensures ok { IfOk result (λ e. expression e ≡ sum_of (waiting self.old) (expression a.entry)) }
         ensures left { OnOk result (waiting self.new ≡ record { equal = (waiting self.old).equal; less = (waiting self.old).less; bits = (waiting self.old).bits; shift = (waiting self.old).shift; sum = None; product = None }) }
@@ -60,7 +60,7 @@ impl<'a> Pending<'a> {
         join_signed(alloc, self.sum.take(), a)
     }
 
-    /// Takes the shift that an operand ends.
+    /// Takes the shift that ends with an operand.
     fn take_shift(
         &mut self,
         alloc: Global,
@@ -74,7 +74,7 @@ impl<'a> Pending<'a> {
         join_signed(alloc, self.shift.take(), a)
     }
 
-    /// Takes the operation on bits that an operand ends.
+    /// Takes the operation on bits that ends with an operand.
     fn take_bits(&mut self, alloc: Global, a: Expr<Spot<'a>>) -> Result<Expr<Spot<'a>>, SourceError>
         ensures ok { IfOk result (λ e. expression e ≡ bits_of (waiting self.old) (expression a.entry)) }
         ensures left { OnOk result (waiting self.new ≡ record { equal = (waiting self.old).equal; less = (waiting self.old).less; bits = None; shift = None; sum = None; product = None }) }
@@ -84,7 +84,7 @@ impl<'a> Pending<'a> {
         join_signed(alloc, self.bits.take(), a)
     }
 
-    /// Takes the comparison by `<` that an operand ends.
+    /// Takes the comparison by `<` that ends with an operand.
     fn take_less(&mut self, alloc: Global, a: Expr<Spot<'a>>) -> Result<Expr<Spot<'a>>, SourceError>
         ensures ok { IfOk result (λ e. expression e ≡ less_of (waiting self.old) (expression a.entry)) }
         ensures left { OnOk result (waiting self.new ≡ record { equal = (waiting self.old).equal; less = None; bits = None; shift = None; sum = None; product = None }) }
@@ -94,7 +94,7 @@ impl<'a> Pending<'a> {
         join(alloc, Op::Ltu, self.less.take(), a)
     }
 
-    /// Takes the whole expression that an operand ends.
+    /// Takes the whole expression that ends with an operand.
     fn take_equal(
         &mut self,
         alloc: Global,

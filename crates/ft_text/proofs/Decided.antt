@@ -23,7 +23,7 @@ IsDecided {A} P = ((x : A) × P x) ⊎ ((x : A) → ¬ (P x))
 abbrev pub IsOf : {A : Type 0} → (A → Type 0) → (A → List ℕ) → List ℕ → A → Type 0
 IsOf Good written text x = Good x × (text ≡ written x)
 
--- kinds whose members go over into each other
+-- two kinds, if each member of one gives a member of the other
 pub moved : {A B : Type 0} (P : A → Type 0) (Q : B → Type 0) → ((x : A) → P x → (y : B) × Q y) →
     ((y : B) → Q y → (x : A) × P x) → IsDecided P → IsDecided Q
 moved P Q there back (inl x) = inl (there x.0 x.1)
@@ -49,7 +49,7 @@ module _ {A : Type 0} (Good : A → Type 0) (written : A → List ℕ) (found : 
   pub after_piece : IsDecided (IsOf Good (λ x. piece ++ written x) line)
   after_piece = by_front (bytes_eq (take (length piece) line) piece) refl
 
--- both of two are good
+-- both values of a pair are good
 abbrev pub BothGood : {A B : Type 0} → (A → Type 0) → (B → Type 0) → A × B → Type 0
 BothGood GoodA GoodB p = GoodA p.0 × GoodB p.1
 

@@ -7,7 +7,7 @@ use std::marker::Model;
 /// The maximum size of a line in bytes.
 pub const ROOM: usize = 160;
 
-/// The maximum digits of a number below 2^64.
+/// The maximum number of digits of a number below 2^64.
 const DIGITS: usize = 20;
 
 /// A line that is being built: at most `ROOM` bytes. Contracts see it as the list of its bytes.

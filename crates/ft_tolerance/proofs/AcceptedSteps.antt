@@ -22,7 +22,8 @@ use Rattle.ft_semantics.specs.State.{State, word}
 use Rattle.ft_semantics.specs.Step.{Stepping, next, fetch, detected, execute, advance, step_at, step}
 use Rattle.ft_typing.specs.TypedWord.{block_at}
 use Rattle.ft_typing.specs.Context.{Context, start_context}
-use Rattle.ft_typing.specs.TypingRow.{Outcome, Goes, Ends, Fails, row}
+use Rattle.ft_typing.specs.TypingRow.{row}
+use Rattle.ft_typing.specs.RowWords.{Outcome, Goes, Ends, Fails}
 use Rattle.ft_typing.specs.Accepted.{Applies, last_row, next_row, IsAccepted}
 use Rattle.ft_tolerance.specs.TypedState.{Place, instr_number, further, arrived, place_after, next_place, valuation_by}
 use Rattle.ft_tolerance.specs.TypedState.{Fits, context_of, context_after, context_at, IsPlace}

@@ -41,7 +41,7 @@ alike_colour : (c : Colour) (m n : Registers) (r : ℕ) → AreAlikeRegisters c 
 unfolding AreAlikeRegisters
 alike_colour c m n r h = (h r).colour
 
--- and equal words of the other colour
+-- alike registers of the other colour have equal words
 alike_word : (c : Colour) (m n : Registers) (r : ℕ) → AreAlikeRegisters c m n → (held m r).colour ≢ c → (held m r).word
     ≡ (held n r).word
 unfolding AreAlikeRegisters

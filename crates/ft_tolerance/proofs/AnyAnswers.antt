@@ -13,8 +13,7 @@ use Rattle.ft_semantics.specs.declared.status.Status.TheVariants.{Running}
 use Rattle.ft_typing.specs.Accepted.{IsAccepted}
 use Rattle.ft_types.specs.Spellable.{IsSpellable}
 use Rattle.ft_semantics.specs.State.{State, word, cell_at}
-use Rattle.ft_semantics.specs.Step.{Stepping, step, step_at, load, found}
-use Rattle.ft_semantics.specs.StepTable.{is_wild}
+use Rattle.ft_semantics.specs.Step.{Stepping, step, step_at, load, found, is_wild}
 use Rattle.ft_semantics.specs.Run.{run, state_after, outputs_after, wild_after}
 use Rattle.ft_semantics.proofs.StepKinds.{step_at_is}
 use Rattle.ft_tolerance.specs.Soundness.{IsUntroubled}

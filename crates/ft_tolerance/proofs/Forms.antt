@@ -6,15 +6,14 @@ use Rattle.std.proofs.lemmas.Option.{slice_get_cases}
 use Rattle.ft_isa.specs.declared.instr.Subst.{Subst}
 use Rattle.ft_static.specs.Expression.{Integer, Expression, integer, memory, word, Valuation, IsLawful, AreWords}
 use Rattle.ft_static.specs.Expression.{AreWordsOfMemory, HasWords, value, memory_value}
-use Rattle.ft_static.specs.Form.{Polynomial}
-use Rattle.ft_static.specs.FormValue.{value_polynomial, value_updates, valuation_under}
+use Rattle.ft_static.specs.Form.{Polynomial, value_polynomial, value_updates, valuation_under}
 use Rattle.ft_static.specs.NodeRules.{AreNodes}
 use Rattle.ft_static.specs.NodeTree.{trees, trees_onto, tree_of, integer_part, memory_part, integer_at, memory_at}
 use Rattle.ft_static.specs.NodeTree.{tree_at}
 use Rattle.ft_static.specs.declared.node.Node.{Node}
 use Rattle.ft_static.proofs.NodeTrees.{tree_fits}
-use Rattle.ft_static.proofs.FormsDenote.{norm_value, value_norm_memory}
-use Rattle.ft_static.proofs.Under.{value_under, valuation_under-lawful}
+use Rattle.ft_static.proofs.FormRows.{norm_value, value_norm_memory, value_under}
+use Rattle.ft_static.proofs.Under.{valuation_under-lawful}
 use Rattle.ft_types.specs.declared.object.Object.{Object}
 use Rattle.ft_typing.specs.Context.{integer_form_of, memory_form_of, integer_form_after, memory_form_after, rows_of}
 use Rattle.ft_typing.specs.Context.{replacement}
@@ -34,7 +33,7 @@ has_words nodes n h = elim (slice_get_cases nodes n).1 [
       (sym (get_or_past (trees nodes) n (integer (word 0)) (omega arith))) (lit< tt)
 ]
 
--- so are those in its part
+-- the numbers in the part of a tree are words
 integer_words : (e : Expression) → HasWords e → AreWords (integer_part e)
 integer_words (integer e) h = h
 integer_words (memory m) h = lit< tt

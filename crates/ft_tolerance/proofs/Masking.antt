@@ -139,7 +139,7 @@ module _ (o : Object) (x : Strike) (w : List Wild) where
       (together (subst (AreAlike c s) (sym (struck_there x s)) (strike_alike s x.site x.value)) refl))
 
   module _ (spelled : IsSpellable o) (acc : IsAccepted o) where
-    -- and so they stay
+    -- the runs stay tied
     tied : (n : ℕ) → x.step ≤ n → AreTied c (run o None w n) (ready n (run o (Some x) w n))
     unfolding run
     tied =

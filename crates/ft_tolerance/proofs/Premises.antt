@@ -9,8 +9,8 @@ use Rattle.ft_static.specs.Form.{Polynomial}
 use Rattle.ft_typing.specs.Premise.{Premise}
 use Rattle.ft_isa.specs.BasicTypes.{code, ref}
 use Rattle.ft_typing.specs.Context.{Typed, StateOfD, d_zero, d_code, d_conditional, FormPair, Context}
-use Rattle.ft_typing.specs.TypingRow.{Outcome, Goes, Ends, Fails, same_colour, need, for_typed, for_ref_over}
-use Rattle.ft_typing.specs.TypingRow.{for_code_over, for_zero, for_target, for_conditional, for_oldest, for_run}
+use Rattle.ft_typing.specs.RowWords.{Outcome, Goes, Ends, Fails, same_colour, need, for_typed, for_ref_over}
+use Rattle.ft_typing.specs.RowWords.{for_code_over, for_zero, for_target, for_conditional, for_oldest, for_run}
 
 -- G of the context that the row leads to, or E if it ends the block
 unfoldable pub After : (Context → Type 0) → Type 0 → Outcome → Type 0

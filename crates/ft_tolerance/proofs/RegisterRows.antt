@@ -17,10 +17,10 @@ use Rattle.ft_isa.specs.declared.basic.Basic.{Basic}
 use Rattle.ft_isa.specs.declared.instr.Instr.TheVariants.{OpReg, OpWord, Mov, Ld, Idx}
 use Rattle.ft_isa.specs.declared.plan.Wild.{Wild}
 use Rattle.ft_static.specs.Expression.{IsLawful, Valuation, word_at}
-use Rattle.ft_static.specs.Form.{Polynomial, Updates}
-use Rattle.ft_static.specs.FormValue.{value_polynomial, value_updates}
+use Rattle.ft_static.specs.Form.{Polynomial, Updates, value_polynomial, value_updates}
 use Rattle.ft_static.specs.NormalForm.{constant, norm_op, norm_rem, norm_sel, norm_upd}
-use Rattle.ft_static.proofs.FormsDenote.{value_constant, value_op, value_rem, value_upd, value_sel}
+use Rattle.ft_static.proofs.FormsDenote.{value_constant}
+use Rattle.ft_static.proofs.FormRows.{value_op, value_rem, value_upd, value_sel}
 use Rattle.ft_static.proofs.Words.{word_at-with_word}
 use Rattle.ft_types.specs.declared.object.Object.{Object}
 use Rattle.ft_types.specs.Spellable.{IsRun}
@@ -30,7 +30,8 @@ use Rattle.ft_isa.specs.BasicTypes.{int, ref}
 use Rattle.ft_typing.specs.TypedWord.{cell_type, HasType, run_type, has_type}
 use Rattle.ft_typing.specs.declared.why.Why.TheVariants as premise
 use Rattle.ft_typing.specs.Context.{Typed, FormPair, Context, typed, with_type}
-use Rattle.ft_typing.specs.TypingRow.{pending_memory, seen_memory, run_form, row}
+use Rattle.ft_typing.specs.TypingRow.{row}
+use Rattle.ft_typing.specs.RowWords.{pending_memory, seen_memory, run_form}
 use Rattle.ft_typing.proofs.Runs.{run_type_is}
 use Rattle.ft_typing.proofs.TypedWords.{has_type_decides}
 use Rattle.ft_tolerance.specs.TypedState.{FitsRegister, FitsQueue, FitsCell, FitsCells, FitsContext}

@@ -11,8 +11,7 @@ use Rattle.ft_isa.specs.Words.{IsWord, code_address, cell_address}
 use Rattle.ft_isa.specs.declared.basic.Basic.{Basic}
 use Rattle.ft_isa.proofs.Lists.{all_there}
 use Rattle.ft_static.specs.Expression.{word_at}
-use Rattle.ft_static.specs.Form.{Updates, unchanged}
-use Rattle.ft_static.specs.FormValue.{value_updates}
+use Rattle.ft_static.specs.Form.{Updates, unchanged, value_updates}
 use Rattle.ft_static.specs.NodeRules.{AreNodes}
 use Rattle.ft_static.specs.NodeTree.{trees, tree_of, memory_part, HasShape}
 use Rattle.ft_static.specs.NormalForm.{norm_memory}

@@ -8,8 +8,7 @@ use Rattle.ft_isa.specs.declared.instr.Instr.{Instr}
 use Rattle.ft_isa.specs.declared.instr.Instr.TheVariants.{OpReg, OpWord, Mov, Ld, St, JmpG, BzG, Halt, Idx}
 use Rattle.ft_isa.specs.declared.plan.Wild.{Wild}
 use Rattle.ft_static.specs.Expression.{Valuation}
-use Rattle.ft_static.specs.Form.{Polynomial}
-use Rattle.ft_static.specs.FormValue.{value_polynomial}
+use Rattle.ft_static.specs.Form.{Polynomial, value_polynomial}
 use Rattle.ft_types.specs.declared.object.Object.{Object}
 use Rattle.ft_types.specs.Spellable.{IsInstr, subst_of}
 use Rattle.ft_semantics.specs.declared.status.Status.TheVariants.{Done}
@@ -18,7 +17,8 @@ use Rattle.ft_semantics.specs.Step.{quiet, detected, goes_on, jump_green, pass, 
 use Rattle.ft_typing.specs.TypedWord.{HasType}
 use Rattle.ft_typing.specs.declared.why.Why.TheVariants as premise
 use Rattle.ft_typing.specs.Context.{StateOfD, d_zero, d_code, d_conditional, Context, typed}
-use Rattle.ft_typing.specs.TypingRow.{is_empty, row}
+use Rattle.ft_typing.specs.TypingRow.{row}
+use Rattle.ft_typing.specs.RowWords.{is_empty}
 use Rattle.ft_tolerance.specs.TypedState.{FitsTarget, FitsD, FitsContext}
 use Rattle.ft_tolerance.proofs.Premises.{After, after_goes, after_ends, after_need, after_typed, after_code, after_zero}
 use Rattle.ft_tolerance.proofs.RegisterRows.{GoesOn, op_row, op_word_row, mov_row, index_row, load_row}

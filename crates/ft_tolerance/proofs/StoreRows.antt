@@ -9,9 +9,7 @@ use Rattle.ft_isa.specs.declared.basic.Basic.{Basic}
 use Rattle.ft_isa.specs.declared.instr.Instr.TheVariants.{St}
 use Rattle.ft_isa.specs.declared.plan.Wild.{Wild}
 use Rattle.ft_static.specs.Expression.{Valuation, word_at}
-use Rattle.ft_static.specs.Form.{Polynomial, Updates}
-use Rattle.ft_static.specs.FormOrder.{same_polynomial}
-use Rattle.ft_static.specs.FormValue.{value_polynomial, value_updates}
+use Rattle.ft_static.specs.Form.{Polynomial, Updates, same_polynomial, value_polynomial, value_updates}
 use Rattle.ft_static.specs.NormalForm.{norm_upd}
 use Rattle.ft_static.proofs.Equal.{equal_polynomials}
 use Rattle.ft_types.specs.declared.object.Object.{Object}

@@ -14,9 +14,7 @@ use Rattle.ft_isa.specs.declared.instr.Subst.{Subst}
 use Rattle.ft_isa.specs.declared.instr.Instr.TheVariants.{JmpB, BzB}
 use Rattle.ft_isa.specs.declared.plan.Wild.{Wild}
 use Rattle.ft_static.specs.Expression.{Valuation, WordMap, IsLawful, word_at}
-use Rattle.ft_static.specs.Form.{Updates}
-use Rattle.ft_static.specs.FormOrder.{same_polynomial, same_updates}
-use Rattle.ft_static.specs.FormValue.{value_polynomial, value_updates}
+use Rattle.ft_static.specs.Form.{Updates, same_polynomial, same_updates, value_polynomial, value_updates}
 use Rattle.ft_static.specs.NodeRules.{AreNodes}
 use Rattle.ft_static.proofs.Equal.{equal_updates}
 use Rattle.ft_types.specs.declared.object.Object.{Object}
@@ -31,7 +29,8 @@ use Rattle.ft_typing.specs.declared.why.Why.TheVariants as premise
 use Rattle.ft_typing.specs.Context.{Typed, StateOfD, d_zero, d_conditional, FormPair, TypedRegisters, Context, typed}
 use Rattle.ft_typing.specs.Context.{replacement, memory_form_of, integer_form_after, memory_form_after, typed_row}
 use Rattle.ft_typing.specs.Context.{registers_after, queue_pair, start_context}
-use Rattle.ft_typing.specs.TypingRow.{Outcome, Ends, is_like, are_like, is_queue_like, leads, row}
+use Rattle.ft_typing.specs.TypingRow.{row}
+use Rattle.ft_typing.specs.RowWords.{Outcome, Ends, is_like, are_like, is_queue_like, leads}
 use Rattle.ft_tolerance.specs.TypedState.{valuation_by, FitsRegister, FitsTarget, FitsD, FitsQueue, FitsCells}
 use Rattle.ft_tolerance.specs.TypedState.{FitsContext}
 use Rattle.ft_types.proofs.Maps.{get-insert}

@@ -14,11 +14,10 @@ use Rattle.ft_isa.specs.declared.instr.Instr.TheVariants.{OpReg, Ld, St, JmpG, J
 use Rattle.ft_static.specs.Expression.{Valuation}
 use Rattle.ft_types.specs.declared.object.Object.{Object}
 use Rattle.ft_semantics.specs.State.{State, held, word, colour, cell_at}
-use Rattle.ft_semantics.specs.Step.{found}
-use Rattle.ft_semantics.specs.StepTable.{is_wild}
+use Rattle.ft_semantics.specs.Step.{found, is_wild}
 use Rattle.ft_typing.specs.Context.{Typed, FormPair, Context, typed}
-use Rattle.ft_typing.specs.TypingRow.{Outcome, Goes, Ends, Fails, same_colour, is_empty}
-use Rattle.ft_typing.specs.TypingTable.{known, refers as is_reference_over, referred}
+use Rattle.ft_typing.specs.RowWords.{Outcome, Goes, Ends, Fails, same_colour, is_empty}
+use Rattle.ft_typing.specs.RowTests.{known, refers as is_reference_over, referred}
 use Rattle.ft_typing.proofs.TypingRows.{Holds}
 use Rattle.ft_tolerance.specs.TypedState.{FitsContext}
 use Rattle.ft_tolerance.proofs.Premises.{After, same_colour_is}

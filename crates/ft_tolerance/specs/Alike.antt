@@ -19,11 +19,11 @@ pub record AreAlikeWords (c : Colour) (x y : Coloured) : Type 0 where
   pub colour : x.colour ≡ y.colour
   pub word : x.colour ≢ c → x.word ≡ y.word
 
--- so do all registers
+-- the same holds for all registers
 unfoldable pub AreAlikeRegisters : Colour → Registers → Registers → Type 0
 AreAlikeRegisters c m n = (r : ℕ) → AreAlikeWords c (held m r) (held n r)
 
--- two states are equal but for the words in registers of colour c and the counter of c; for green the word d and the
+-- two states are equal except for the words in registers of colour c and the counter of c; for green the word d and the
 -- contents of the queue may differ too, but not its length
 pub record AreAlike (c : Colour) (s t : State) : Type 0 where
   pub registers : AreAlikeRegisters c s.registers t.registers
@@ -51,7 +51,7 @@ pub data Follows (c : Colour) (x y : Stepping) : Type 0 where
   keeps_alike : AreAlike c x.state y.state → x.output ≡ y.output → Follows c x y
   is_detected : y.state.status ≡ Detected → y.output ≡ None → Follows c x y
 
--- a state of the struck run beside that of the run without the fault, after the same number of steps
+-- the second state, of the struck run, is alike to the first, of the run without the fault, or it is detected
 pub data IsAlikeOrDetected (c : Colour) (s t : State) : Type 0 where
   is_alike : AreAlike c s t → IsAlikeOrDetected c s t
   has_stopped : t.status ≡ Detected → IsAlikeOrDetected c s t

@@ -8,8 +8,7 @@ use Rattle.ft_isa.specs.declared.plan.Wild.{Wild}
 use Rattle.ft_types.specs.declared.object.Object.{Object}
 use Rattle.ft_semantics.specs.declared.status.Status.TheVariants.{Running, Done, Detected}
 use Rattle.ft_semantics.specs.State.{State, word}
-use Rattle.ft_semantics.specs.Step.{step}
-use Rattle.ft_semantics.specs.StepTable.{is_code, is_wild}
+use Rattle.ft_semantics.specs.Step.{step, is_code, is_wild}
 use Rattle.ft_semantics.specs.Run.{state_after, wild_after, status_after}
 use Rattle.ft_tolerance.specs.TypedState.{Place, next_place, place, Fits, IsPlace}
 

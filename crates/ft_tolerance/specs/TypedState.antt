@@ -11,8 +11,7 @@ use Rattle.ft_isa.specs.declared.instr.Instr.{Instr}
 use Rattle.ft_isa.specs.declared.instr.Instr.TheVariants.{JmpB, BzB}
 use Rattle.ft_isa.specs.declared.plan.Wild.{Wild}
 use Rattle.ft_static.specs.Expression.{Valuation, IsLawful, word_at, valuation_after}
-use Rattle.ft_static.specs.Form.{Polynomial, Updates}
-use Rattle.ft_static.specs.FormValue.{value_polynomial, value_updates}
+use Rattle.ft_static.specs.Form.{Polynomial, Updates, value_polynomial, value_updates}
 use Rattle.ft_static.specs.NodeTree.{trees, integer_at, memory_at}
 use Rattle.ft_types.specs.declared.object.Object.{Object}
 use Rattle.ft_types.specs.declared.object.Block.{Block}
@@ -22,7 +21,8 @@ use Rattle.ft_semantics.specs.Run.{state_after}
 use Rattle.ft_isa.specs.BasicTypes.{code}
 use Rattle.ft_typing.specs.TypedWord.{cell_type, block_at, HasType}
 use Rattle.ft_typing.specs.Context.{Typed, StateOfD, d_zero, d_code, d_conditional, FormPair, Context, typed, rows_of, start_context}
-use Rattle.ft_typing.specs.TypingRow.{Outcome, Goes, Ends, Fails, row}
+use Rattle.ft_typing.specs.TypingRow.{row}
+use Rattle.ft_typing.specs.RowWords.{Outcome, Goes, Ends, Fails}
 
 -- PLACES
 
@@ -47,7 +47,8 @@ valuation_by o u v = valuation_after (map (integer_at (trees o.nodes)) (rows_of 
 abbrev pub entry_block : Object → Block
 entry_block o = record { start = block_start o o.entry; code_type = block_type o o.entry }
 
--- at the start: the entry block's first instruction, its starting context, and the memory variable as the initial cells
+-- the place at the start: the entry block's first instruction, its starting context, and the initial cells as the
+-- value of the memory variable
 abbrev pub start_place : Object → Place
 start_place o = record {
   block = entry_block o;
@@ -56,24 +57,24 @@ start_place o = record {
   valuation = record { integers = []; memory = (start o).cells };
 }
 
--- after an instruction that stays in its block: the next index, and the row's context
+-- the place after an instruction that stays in its block: the next index, and the row's context
 abbrev pub further : Outcome → Place → Place
 further (Goes c) p = record p { index = suc p.index; context = c }
 further Ends p = p
 further (Fails n) p = p
 
--- after a transfer: the target block with its starting context
+-- the place after a transfer: the target block with its starting context
 abbrev pub arrived : Object → Option Block → Subst → Place → Place
 arrived o None u p = p
 arrived o (Some b) u p = record { block = b; index = 0; context = start_context o b.code_type; valuation = valuation_by o u p.valuation }
 
--- after an instruction that a state executes
+-- the place after an instruction that a state executes
 abbrev pub place_after : Object → Instr → State → Place → Place
 place_after o (JmpB rd u) s p = arrived o (block_at o (word s rd)) u p
 place_after o (BzB rz rd u) s p = if word s rz == 0 then arrived o (block_at o (word s rd)) u p else further (row o p.context (BzB rz rd u)) p
 place_after o i s p = further (row o p.context i) p
 
--- after a step from a state: a fetch stays
+-- the place after a step from a state: a fetch does not change it
 abbrev pub next_place : Object → Option Instr → State → Place → Place
 next_place o None s p = p
 next_place o (Some i) s p = place_after o i s p
@@ -127,7 +128,7 @@ pub record FitsCell (o : Object) (v : Valuation) (m : Updates) (cells : Cells) (
   pub word : cell_at cells a ≡ Some (word_at (value_updates m v) a)
   pub typed : HasType o (word_at (value_updates m v) a) b
 
--- each cell does
+-- each cell has such a word
 unfoldable pub FitsCells : Object → Valuation → Updates → Cells → Type 0
 FitsCells o v m cells = (a : ℕ) (b : Basic) → cell_type o a ≡ Some b → FitsCell o v m cells a b
 

@@ -42,7 +42,7 @@ use Rattle.ft_tool.specs.Endings.{PartEnd, Concluded, Unloaded, Unwritten, Unfin
 use Rattle.ft_tool.specs.Endings.{ends_early, EndsSo, Ends, ending_of_run}
 use Rattle.ft_tool.proofs.Mapped.{some_files, files_with}
 
--- an ending says the same of an answer that is known less well
+-- an ending says the same about an answer that is known less well
 EndsSo-map : (e : PartEnd) (P Q : Answer → Type 0) (old new : SinkLog) (L M : Type 0) → ((a : Answer) → P a → Q a)
     → (L → M) → EndsSo e P old new L → EndsSo e Q old new M
 EndsSo-map (Concluded status) P Q old new L M f g h =
@@ -198,7 +198,7 @@ pub object_failed : (name : Word) (e : ObjectFault) (old new : ShelfLog) → Fau
     → LoadFails name old new
 object_failed name e old new h is = subst (λ f. FaultCause name f old new) is h
 
--- a request that got to loading a file, if files do not matter for that
+-- a request that got as far as loading a file, if files do not matter for that
 pub failed_in : (request : Request) (old new : ShelfLog) (name : Word)
     → ((files : Files) → ComesTo request old.files files name) → LoadFails name old new
     → OfFiles old.files (λ files. FailsIn request files old new)

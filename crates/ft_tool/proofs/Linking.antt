@@ -1,6 +1,6 @@
 -- What a link answers, by its map, one of its modules or the linked object.
 use Rattle.std.proofs.Common.{◌≡◌, ℕ, ◌≤◌, Bool, List, [], ◌∷◌, ◌++◌, length, Option, Some, None, Ok, Err, inl, inr}
-use Rattle.std.proofs.Common.{refl, sym, ap, ◌∙◌, subst}
+use Rattle.std.proofs.Common.{refl, sym, subst}
 use Rattle.std.specs.Prelude.{◌⊎◌, IsTrue, IfErr, Result}
 use Rattle.std.proofs.lemmas.Option.{none-some}
 use Rattle.ft_edge.specs.Causes.{Rose}
@@ -39,7 +39,7 @@ use Rattle.ft_tool.specs.Links.{IsMap, EndsAtMap, bad_line, line_twice, unlinked
 use Rattle.ft_tool.specs.Links.{no_object, no_module, LinksObject, LinksUnless, LinksAdded, LinksText, LinksFile}
 use Rattle.ft_tool.specs.Links.{ComesInTurn}
 use Rattle.ft_tool.specs.LinkTurns.{EndsWithFile, AddsFile, AddsObject, FailsInTurn, MakesOfText}
-use Rattle.ft_tool.specs.Calls.{LoadList, asked_after, HasMade, map_load, LoadsLink}
+use Rattle.ft_tool.specs.Calls.{LoadList}
 use Rattle.ft_tool.specs.Answers.{FailsIn}
 use Rattle.ft_tool.specs.Told.{OfFiles}
 use Rattle.ft_tool.specs.Files.{LoadsObject, IsRefusedBy, IsNotAccepted, IsMapRefused, IsUnlinkedBy}
@@ -49,7 +49,7 @@ use Rattle.ft_tool.proofs.Mapped.{some_files}
 
 -- ENDINGS
 
--- an error whose ending says the same of an answer that is known less well
+-- an error whose ending says the same about an answer that is known less well
 pub err_ends : {T : Type 0} (r : Result T Ending) (P Q : Answer → Type 0) (old new : SinkLog) (L M : Type 0) →
     ((a : Answer) → P a → Q a) → (L → M)
     → IfErr r (λ e. Ends e P old new L) → IfErr r (λ e. Ends e Q old new M)
@@ -203,25 +203,6 @@ map_refused text short said lines maps.NoMemory h a is = absurd is
 pub makes_no_module : (told : Option Files) (text : List ℕ) (early : Bool) (asked : Option LoadList) →
     ((a : Answer) × EndsAtMap text a) ⊎ IsTrue early → MakesOfText told text early asked asked
 makes_no_module told text early asked h = inl (h, refl)
-
--- the loads of a link
-pub loads_of_text : (told : Option Files) (name : Word) (text : List ℕ) (early : Bool)
-    (asked between asked' : Option LoadList) → IsToldFile told name text → HasMade (map_load name ∷ []) asked between
-    → MakesOfText told text early between asked' → LoadsLink told name (IsTrue early) asked asked'
-loads_of_text told name text early asked between asked' file made (inl x) = inl (record {
-  none = known_less ((a : Answer) × EndsAtMap text a) ((t : List ℕ)
-      × (IsToldFile told name t × ((a : Answer) × EndsAtMap t a))) (IsTrue early) (λ y. (text, (file, y))) x.0;
-  made = x.1 ∙ made;
-})
-loads_of_text told name text early asked between asked' file made (inr x) = inr (record {
-  text = text;
-  is_file = file;
-  linkage = x.0;
-  is_map = x.1.0;
-  loads = x.1.1.0;
-  in_turn = x.1.1.1.0;
-  made = x.1.1.1.1 ∙ ap (asked_after x.1.1.0) made;
-})
 
 -- a load of a module failed
 failed_module : (name : Word) (text : List ℕ) (shelf shelf' : ShelfLog) → IsToldFile shelf.files name text

@@ -1,4 +1,4 @@
--- What is answered of the text of a source.
+-- What is answered for the text of a source.
 use Rattle.std.proofs.Common.{◌≡◌, ◌≢◌, ℕ, List, Err, inl, inr, refl, ap}
 use Rattle.ft_edge.specs.Lines.{with_lines, BreaksOff as LinesBreakOff}
 use Rattle.ft_edge.specs.Logs.{SinkLog}

@@ -11,7 +11,7 @@ use Rattle.ft_types.specs.declared.object.Object.{Object}
 use Rattle.ft_link_map.specs.declared.link_map.LinkMap.{LinkMap}
 use Rattle.ft_command.specs.Options.{Word}
 use Rattle.ft_tool.specs.Replies.{Answer}
-use Rattle.ft_tool.specs.Links.{LinksAdded, LinksFiles}
+use Rattle.ft_tool.specs.Links.{LinksFiles}
 use Rattle.ft_tool.specs.LinkTurns.{EndsWithFile, AddsFile, HasAdded, FailsInTurn, MakesInTurn}
 use Rattle.ft_tool.specs.Calls.{LoadList, asked_after, HasMade, object_load, EndsAtFile, LoadsInTurn}
 use Rattle.ft_tool.proofs.Linking.{known_less}
@@ -39,18 +39,6 @@ pub makes_none : (told : Option Files) (linkage : LinkMap) (asked : Option LoadL
 makes_none told linkage asked = ([], (no_loads told [] linkage.files, refl))
 
 -- MODULES IN TURN
-
--- nothing was added yet
-pub added_none : (told : Option Files) (linkage : LinkMap) (asked : Option LoadList) →
-    HasAdded told linkage [] linkage.files asked asked
-added_none told linkage asked = record {
-  loads = [];
-  made = refl;
-  count = omega arith;
-  answers = λ a h. h;
-  comes = λ file h. h;
-  in_turn = λ early more h. h;
-}
 
 -- one more was added
 added_object : (told : Option Files) (linkage : LinkMap) (modules : List Object) (name : Word) (names : List Word)
@@ -126,7 +114,7 @@ at_file told linkage modules files i file asked between within is h =
     subst (λ rest. HasAdded told linkage modules rest asked between) (drop_more files i file within
     ∙ ap (λ f. f ∷ drop (i + 1) files) (sym is)) h
 
--- it was added
+-- the object of the next file was added
 pub added_next : (told again : Option Files) (linkage : LinkMap) (modules modules' : List Object) (files : List Word)
     (i : ℕ) (file name : Word) (asked between asked' : Option LoadList) → again ≡ told → name ≡ file
     → i < length files → file ≡ get_or files i file → HasAdded told linkage modules (drop i files) asked between →
@@ -138,7 +126,7 @@ added_next told again linkage modules modules' files i file name asked between a
     (subst (λ t. AddsFile t file modules modules') e (subst (λ n. AddsFile again n modules modules') f adds))
     (subst (λ n. HasMade (object_load n ∷ []) between asked') f made)
 
--- it ends the link
+-- the next file ends the link
 same_end : (told again : Option Files) (modules : List Object) (file name : Word) → again ≡ told → name ≡ file →
     (a : Answer) → EndsWithFile again modules name a → EndsWithFile told modules file a
 same_end told again modules file name e f a h = subst (λ t. EndsWithFile t modules file a) e
@@ -178,11 +166,6 @@ makes_next told again linkage modules files i file name asked between asked' ear
     (subst (λ n. HasMade (object_load n ∷ []) between asked') f made)
 
 -- all were added
-pub links_all : (told : Option Files) (linkage : LinkMap) (modules : List Object) (asked asked' : Option LoadList) →
-    HasAdded told linkage modules [] asked asked' → (a : Answer) → LinksAdded linkage modules a →
-    LinksFiles told linkage [] linkage.files a
-links_all told linkage modules asked asked' h a is = h.answers a is
-
 pub makes_all : (told : Option Files) (linkage : LinkMap) (modules : List Object) (asked asked' : Option LoadList)
     (early : Bool) → HasAdded told linkage modules [] asked asked' → MakesInTurn told linkage early asked asked'
 makes_all told linkage modules asked asked' early h = (
@@ -193,7 +176,3 @@ makes_all told linkage modules asked asked' early h = (
     h.made,
   ),
 )
-
-pub as_many : (told : Option Files) (linkage : LinkMap) (modules : List Object) (asked asked' : Option LoadList) →
-    HasAdded told linkage modules [] asked asked' → length modules ≡ length linkage.files
-as_many told linkage modules asked asked' h = omega (arith, h.count)

@@ -1,4 +1,4 @@
--- Two answers to the same words, over the same files and script.
+-- Two answers to the same words, for the same files and script.
 use Rattle.std.proofs.Common.{◌≡◌, ◌≢◌, ℕ, List, Some, None, Result, sym, ◌∙◌, subst}
 use Rattle.ft_edge.specs.Loads.{Files}
 use Rattle.ft_isa.specs.declared.plan.Strike.{Strike}
@@ -105,7 +105,7 @@ same_answers l (Schedules name) files script a b h g = over_file l.one_object l.
 same_answers l (Links name) files script a b h g = link_same l.one_object l.unbroken (says_same l.one_map) name files a
     b h g
 
--- an answer over files and a script that are known
+-- an answer for files and a script that are known
 answers_told : HasLaws → (words : List Word) (r : Request) (files : Files) (script : List ℕ) (a : Answer) →
     Asks words r → IsAnswer words (Some files) (Some script) a → Answers r (Some files) files script a
 answers_told l words r files script a asks h =

@@ -1,4 +1,4 @@
--- Two answers over the same fault list, script or sample are equal.
+-- Two answers for the same fault list, script or sample are equal.
 use Rattle.std.proofs.Common.{◌≡◌, ◌≢◌, ℕ, List, [], ◌∷◌, Option, Some, None, refl, sym, ap, ◌∙◌, subst}
 use Rattle.std.specs.List.{AllZip}
 use Rattle.std.proofs.lemmas.Option.{same_Some}
@@ -59,7 +59,7 @@ list_answer_same (Line number) a b h g = h ∙ sym g
 list_answer_same TooMany a b h g = h ∙ sym g
 list_answer_same NoMemory a b h g = absurd h
 
--- the answer over the text of a list, and over its file
+-- the answer for the text of a list, and for its file
 over_list : ((o : Object) (x : Strike) (w : List Wild) (n : ℕ) (u v : Verdict) → IsVerdict o x w n u →
     IsVerdict o x w n v → u ≡ v)
     → ((text : List ℕ) (xs ys : List Strike) → IsFaultList text xs → IsFaultList text ys → xs ≡ ys)

@@ -1,4 +1,4 @@
--- Two answers over the same source agree.
+-- Two answers for the same source agree.
 use Rattle.std.proofs.Common.{◌≡◌, ℕ, List, [], ◌∷◌, ◌++◌, None, Result, Ok, Err, inl, inr, refl, sym, ap, ◌∙◌, subst}
 use Rattle.std.specs.Prelude.{◌⊎◌}
 use Rattle.std.proofs.lemmas.Option.{same_Some}
@@ -23,7 +23,7 @@ use Rattle.ft_tool.specs.OneAnswer.{AreCompilations, AreExecutions}
 use Rattle.ft_tool.specs.OneAnswer as one
 use Rattle.ft_tool.proofs.Linking.{ok_no_err}
 
--- what constructors hold is one
+-- equal results hold equal values
 ok_same : {A B : Type 0} (x y : A) (r s : Result A B) → r ≡ Ok x → s ≡ Ok y → r ≡ s → x ≡ y
 ok_same x y r s a b e = cc
 
@@ -39,7 +39,7 @@ tail_same x y xs ys e = cc
 answers_same : (a b : Answer) → a.pieces ≡ b.pieces → a.status ≡ b.status → a ≡ b
 answers_same a b e f = λ i. record { pieces = e i; status = f i }
 
--- two answers over the text of a source agree, if two over its program do, and two that are one refusal
+-- two answers for the text of a source agree if two for its program do, and if two that are the same refusal do
 over_text : ((text : List ℕ) (r s : Result Program SourceError) → IsOutcome text r → IsOutcome text s → r ≡ s)
     → (Over : Program → Answer → Type 0) (Agree : Answer → Answer → Type 0) →
     ((p : Program) (a b : Answer) → Over p a → Over p b → Agree a b) →

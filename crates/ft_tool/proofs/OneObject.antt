@@ -1,4 +1,4 @@
--- Two answers over the same object file, or the same assembly text, are equal.
+-- Two answers for the same object file, or the same assembly text, are equal.
 use Rattle.std.proofs.Common.{◌≡◌, ℕ, ◌<◌, ◌≤◌, List, Option, Some, None, inl, inr, sym, ap, ◌∙◌, subst, arith}
 use Rattle.std.proofs.lemmas.Option.{same_Some, none-some}
 use Rattle.ft_edge.specs.Loads.{Files}
@@ -18,7 +18,7 @@ use Rattle.ft_asm.specs.Reads.{Answer as Said, Is, TooLong, Text, Order, Broken,
 pub not_both : (n m : ℕ) → m < n → n ≤ m → ⊥
 not_both n m above within = omega (arith, above, within)
 
--- the answer over the bytes of a file is one, if it is one over an object
+-- the answer for the bytes of a file is unique, if that for an object is
 over_bytes : ((bytes : List ℕ) (o : Object) → IsSpelling bytes o → object_of bytes ≡ o) →
     ((bytes : List ℕ) (o : Object) → IsSpelling bytes o → broken bytes ≡ None)
     → (Over : Object → Answer → Type 0) → ((o : Object) (a b : Answer) → Over o a → Over o b → a ≡ b) →
@@ -32,7 +32,7 @@ over_bytes one_object unbroken Over same bytes a b (inr x) (inl y) =
 over_bytes one_object unbroken Over same bytes a b (inr x) (inr y) = x.1.1
     ∙ ap object_refused (same_Some x.0 y.0 (sym x.1.0 ∙ y.1.0)) ∙ sym y.1.1
 
--- so is that over the file of a name
+-- so is the answer for the file of a name
 pub over_file : ((bytes : List ℕ) (o : Object) → IsSpelling bytes o → object_of bytes ≡ o) →
     ((bytes : List ℕ) (o : Object) → IsSpelling bytes o → broken bytes ≡ None)
     → (Over : Object → Answer → Type 0) → ((o : Object) (a b : Answer) → Over o a → Over o b → a ≡ b) →

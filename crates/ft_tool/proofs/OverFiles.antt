@@ -19,7 +19,7 @@ use Rattle.ft_tool.proofs.Mapped.{some_files, files_with, some_script}
 module _ (r : Request) (file : Word) (limit : ℕ) (Over : List ℕ → Answer → Type 0) (one : IsOverFile r file limit Over)
     (name : Word) (bound : ℕ) (named : name ≡ file) (bounded : bound ≡ limit) (left : Option (List ℕ))
     (old new : SinkLog) (shelf shelf' : ShelfLog) where
-  -- the answer over the bytes of the file is one to the request
+  -- the answer for the bytes of the file is one to the request
   answers_bytes : (bytes : List ℕ) → IsToldFile shelf.files name bytes → (a : Answer) → Over bytes a
       → AnswersTo r shelf.files left a
   answers_bytes bytes h a is =
@@ -41,7 +41,7 @@ module _ (r : Request) (file : Word) (limit : ℕ) (Over : List ℕ → Answer �
         ),
       )
 
-  -- a file was loaded, and answered over
+  -- a file was loaded whole
   pub does_over : (e : Ending) (bytes lent : List ℕ) → Gives shelf.files name bound bytes (Ok Whole) → lent ≡ bytes
       → NoLoadFails shelf shelf' → HasMade ((name, bound) ∷ []) shelf.asked shelf'.asked
       → Ends e (Over lent) old new ⊥ → Does r e left old new shelf shelf' ⊥

@@ -1,4 +1,4 @@
--- What is answered of an object that is scheduled.
+-- What is answered for an object that is scheduled.
 use Rattle.std.proofs.Common.{◌≡◌, Option, Some, None, sym, subst}
 use Rattle.ft_types.specs.declared.object.Object.{Object}
 use Rattle.ft_typing.specs.Accepted.{Refusal, refusal}

@@ -1,4 +1,4 @@
--- What was taken of a script, and what a session over it concludes.
+-- What was taken of a script, and what a session of it concludes.
 use Rattle.std.proofs.Common.{◌≡◌, ℕ, ◌<◌, ◌≤◌, List, [], ◌++◌, length, take, append-nil, Option, Some, None, Ok, Err}
 use Rattle.std.proofs.Common.{inl, inr, refl, sym, ap, ◌∙◌, subst, arith, length-append}
 use Rattle.std.specs.Prelude.{◌⊎◌, IfSome}
@@ -72,13 +72,13 @@ session_breaks_off d o w text old new short is h = record {
   broken = subst (λ ws. LinesBreakOff (session_lines o ws h.commands) old new) is h.lines;
 }
 
--- the answer over the text of a script is one over the script
+-- the answer for the text of a script is one for the script
 pub over_script : {V : Type 0} (bytes_of : V → List ℕ) (d : Debugging) (left : Option (List ℕ)) (o : Object) (v : V)
     → TakesScript bytes_of left (Ok v) → AreBytes (bytes_of v) → (a : Answer) → DebugsObject d (bytes_of v) o a →
     OfScript left (λ text. DebugsObject d text o a)
 over_script bytes_of d left o v h bytes a is = (bytes_of v, (is_script left (bytes_of v) bytes h.1, is))
 
--- the answer to a script that is too long is one over the script
+-- the answer to a script that is too long is one for the script
 pub over_long_script : {V : Type 0} (bytes_of : V → List ℕ) (d : Debugging) (left : Option (List ℕ)) (o : Object)
     (e : ScriptFault)
     → TakesScript bytes_of left (Err e) → (a : Answer) → IsScriptRefusedBy e a →
@@ -87,7 +87,7 @@ over_long_script bytes_of d left o faults.TooLong h a is = (h.0, (h.1.0, too_lon
 over_long_script bytes_of d left o faults.Failed h a is = absurd is
 over_long_script bytes_of d left o faults.NoMemory h a is = absurd is
 
--- the answer of a session over the object that a file's bytes spell is one over the file
+-- the answer of a session for the object that a file's bytes spell is one for the file
 pub over_debugged : (d : Debugging) (told : Option Files) (left : Option (List ℕ)) (bytes : List ℕ) →
     LoadsObject told d.object (Ok bytes) → (a : Answer) →
     OfScript left (λ text. DebugsObject d text (object_of bytes) a)
@@ -96,7 +96,7 @@ over_debugged d told left bytes h a is =
     let m = files_with told d.object bytes h.0 in
     (m.0, (m.1.0, (is.0, (is.1.0, (bytes, (m.1.1, inl (object_of bytes, ((version_at bytes, h.1), is.1.1))))))))
 
--- so is the answer to an object's bytes that are refused
+-- the answer to an object's bytes that are refused is one for the file
 pub over_undebugged : (d : Debugging) (told : Option Files) (left : Option (List ℕ)) (e : ObjectFault) →
     LoadsObject told d.object (Err e) → (a : Answer) → IsRefusedBy e a
     → OfFiles told (λ files. OfScript left (λ text. OverFile (DebugsObject d text) d.object files a))

@@ -84,14 +84,14 @@ pub some_corrupt : (totals : Totals) (vs : List Verdict) → (totals.corrupt ≡
 some_corrupt totals vs some is = sym (ap (λ b. if b then 0
     else 10) (ne_eqb (count_by is_corrupt vs) 0 (λ e. some (ap (λ (t : Totals). t.corrupt) is ∙ e))))
 
--- the answer over the faults of a list is one over the list
+-- the answer for the faults of a list is one for the list
 pub over_listed : {V : Type 0} (faults_of : V → List Strike) (Promised : List Verdict →
     Type 0) (c : Campaign) (told : Option Files) (bytes : List ℕ) (o : Object) (v : V)
     → GetsList faults_of (IsListOf c told bytes) (Ok v) → (a : Answer) → OverFaults Promised c o (faults_of v) a →
     OverListOf Promised c told bytes o a
 over_listed faults_of Promised c told bytes o v h a is = (h.0, (h.1.0, listed (faults_of v) h.1.1 is))
 
--- the answer to a list that is refused is one over the list
+-- the answer to a list that is refused is one for the list
 pub over_refused_list : {V : Type 0} (faults_of : V → List Strike) (Promised : List Verdict →
     Type 0) (c : Campaign) (told : Option Files) (bytes : List ℕ) (o : Object) (e : ListFault)
     → GetsList faults_of (IsListOf c told bytes) (Err e) → (a : Answer) → IsListRefusedBy e a →
@@ -103,7 +103,7 @@ over_refused_list faults_of Promised c told bytes o list_faults.TooMany h a is =
 over_refused_list faults_of Promised c told bytes o list_faults.Failed h a is = absurd is
 over_refused_list faults_of Promised c told bytes o list_faults.NoMemory h a is = absurd is
 
--- the answer over the list is one over its file, if the object's file has these bytes
+-- the answer for the list is one for its file, if the object's file has these bytes
 with_list : (Promised : List Verdict → Type 0) (c : Campaign) (told : Option Files) (bytes : List ℕ) (o : Object)
     (a : Answer) → IsToldFile told c.object bytes → OverListOf Promised c told bytes o a
     → OfFiles told (λ files. IsFile files c.object bytes × OverListFile Promised c files o a)
@@ -111,7 +111,7 @@ with_list Promised c told bytes o a file is =
     let m = files_with_both told c.object bytes c.faults is.0 file is.1.0.file is.1.0.own in
     (m.0, (m.1.0, (m.1.1.0, (is.0, (m.1.1.1, is.1.1)))))
 
--- so is that of a campaign, unless its object is refused
+-- the answer of a campaign is one for its file, also if its object is refused
 with_strikes : (x : Option Refusal) (c : Campaign) (told : Option Files) (bytes : List ℕ) (o : Object) (a : Answer) →
     IsToldFile told c.object bytes → CampaignsUnless x (CampaignsListOf c told bytes o) a
     → OfFiles told (λ files. IsFile files c.object bytes × CampaignsUnless x (CampaignsAccepted c files o) a)
@@ -120,7 +120,7 @@ with_strikes None c told bytes o a file is = let m = with_list NoneCorrupt c tol
 with_strikes (Some r) c told bytes o a file is = let m = files_with told c.object bytes file in
     (m.0, (m.1.0, (m.1.1, is)))
 
--- the answer of a survey over the object that a file's bytes spell, and of a campaign, is one over the file
+-- the answer of a survey for the object that a file's bytes spell, and of a campaign, is one for the file
 pub over_surveyed : (c : Campaign) (told : Option Files) (bytes : List ℕ) → LoadsObject told c.object (Ok bytes) →
     (a : Answer) → OverListOf AnyVerdicts c told bytes (object_of bytes) a
     → OfFiles told (λ files. OverFile (SurveysObject c files) c.object files a)
@@ -158,7 +158,7 @@ over_struck_between c told between bytes lent e f h a is =
     (subst (λ t. CampaignsUnless (refusal (object_of bytes)) (CampaignsListOf c t bytes (object_of bytes)) a) e
     (subst (λ b. CampaignsUnless (refusal (object_of bytes)) (CampaignsListOf c between b (object_of bytes)) a) f is))
 
--- the answer to an object's bytes that are refused is one of a campaign over the file
+-- the answer to an object's bytes that are refused is one of a campaign for the file
 pub over_unstruck : (Over : Files → Object → Answer → Type 0) (told : Option Files) (name : Word) (e : ObjectFault) →
     LoadsObject told name (Err e) → (a : Answer) → IsRefusedBy e a
     → OfFiles told (λ files. OverFile (Over files) name files a)
@@ -196,7 +196,7 @@ refused_file : (told : Option Files) (name : Word) (bytes : List ℕ) (Early : T
 refused_file told name bytes Early h refused = let m = files_with told name bytes h.0 in
     (m.0, (m.1.0, refused_by m.0 name bytes Early m.1.1 refused))
 
--- what comes to less, or to something of its own
+-- if a fact fails unless the call ends early, so does any fact that implies it, and it implies anything
 unaccepted_file : (Spells Accepted Early : Type 0) → (Accepted → Spells) → (Spells → ⊥) ⊎ Early → (Accepted → ⊥) ⊎ Early
 unaccepted_file Spells Accepted Early f (inl none) = inl (λ a. none (f a))
 unaccepted_file Spells Accepted Early f (inr early) = inr early

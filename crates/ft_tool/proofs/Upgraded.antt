@@ -1,4 +1,4 @@
--- What is answered of bytes that are upgraded and spell no object.
+-- What is answered for bytes that are upgraded and spell no object.
 use Rattle.std.proofs.Common.{◌≡◌, ◌∙◌, List, ℕ, inr, subst, sym}
 use Rattle.ft_format.specs.Broken.{broken}
 use Rattle.ft_object.specs.declared.decode_error.DecodeError.{DecodeError}
@@ -10,7 +10,7 @@ use Rattle.ft_tool.specs.Replies.{Answer}
 use Rattle.ft_tool.specs.Objects.{UpgradesObject, OverBytes}
 use Rattle.ft_tool.specs.Files.{IsRefusedBy, fault_of}
 
--- the answer to bytes that are refused is one over them
+-- the answer to bytes that are refused is one for them
 pub decode_refused : (e : DecodeError) (f : ObjectFault) (bytes : List ℕ) → f ≡ fault_of e → IsError e (broken bytes) →
     (a : Answer) → IsRefusedBy f a → OverBytes UpgradesObject bytes a
 decode_refused (decodes.Object e) f bytes p h a is = inr (e, (h, subst (λ g. IsRefusedBy g a) p is))

@@ -68,11 +68,11 @@ abbrev pub RecoversUnless : Option Refusal → Run → Object → Answer → Typ
 RecoversUnless None r o a = (a ≡ recovered r o) × IsNeverDetected o r.wild
 RecoversUnless (Some x) r o a = a ≡ judged (Some x)
 
--- the answer over the file of a name
+-- the answer for the file of a name
 abbrev pub OverFile : (Object → Answer → Type 0) → Word → Files → Answer → Type 0
 OverFile Over name files a = (bytes : List ℕ) × (IsFile files name bytes × OverBytes Over bytes a)
 
--- the answer of a check, of a run, of a trial and of a recovery over an object
+-- the answer of a check, of a run, of a trial and of a recovery for an object
 abbrev pub ChecksObject : Object → Answer → Type 0
 ChecksObject o a = a ≡ checked o
 
@@ -85,7 +85,7 @@ TrialsObject r o a = a ≡ tried r o
 abbrev pub RecoversObject : Run → Object → Answer → Type 0
 RecoversObject r o a = RecoversUnless (refusal o) r o a
 
--- the answer of a disassembly over an object: its text, in one piece
+-- the answer of a disassembly for an object: its text, in one piece
 abbrev pub DisassemblesObject : Object → Answer → Type 0
 DisassemblesObject o a = a ≡ one_piece (text_of o) 0
 
@@ -98,15 +98,15 @@ AssemblesAs (Text line) a = a ≡ one_piece (asm_line 1 line) 12
 AssemblesAs (Order line) a = a ≡ one_piece (asm_line 2 line) 12
 AssemblesAs (Broken e) a = a ≡ refused e
 
--- the answer over an assembly text
+-- the answer for an assembly text
 abbrev pub OverAssembly : List ℕ → Answer → Type 0
 OverAssembly text a = (said : Said) × (Applies text said × AssemblesAs said a)
 
--- the answer over the assembly text in the file of a name
+-- the answer for the assembly text in the file of a name
 abbrev pub OverAssemblyFile : Word → Files → Answer → Type 0
 OverAssemblyFile name files a = (text : List ℕ) × (IsFile files name text × OverAssembly text a)
 
--- the answer of a schedule over an object that is accepted: the bytes of its schedule in version 2 of the format, in one
+-- the answer of a schedule for an object that is accepted: the bytes of its schedule in version 2 of the format, in one
 -- piece. The object obeys the rules of its tables, so it has one schedule
 pub record SchedulesAccepted (o : Object) (a : Answer) : Type 0 where
   pub spellable : IsSpellable o
@@ -122,15 +122,15 @@ SchedulesUnless (Some x) o a = a ≡ judged (Some x)
 abbrev pub SchedulesObject : Object → Answer → Type 0
 SchedulesObject o a = SchedulesUnless (refusal o) o a
 
--- the answer over an object and the file of a fault list
+-- the answer for an object and the file of a fault list
 abbrev pub OverListFile : (List Verdict → Type 0) → Campaign → Files → Object → Answer → Type 0
 OverListFile Promised c files o a = (list : List ℕ) × (IsFile files c.faults list × OverList Promised c o list a)
 
--- the answer of a survey over an object
+-- the answer of a survey for an object
 abbrev pub SurveysObject : Campaign → Files → Object → Answer → Type 0
 SurveysObject c files o a = OverListFile AnyVerdicts c files o a
 
--- the answer of a campaign over an object that is accepted: no verdict is corrupt, and the run without a fault is never
+-- the answer of a campaign for an object that is accepted: no verdict is corrupt, and the run without a fault is never
 -- detected
 abbrev pub CampaignsAccepted : Campaign → Files → Object → Answer → Type 0
 CampaignsAccepted c files o a = OverListFile NoneCorrupt c files o a × IsNeverDetected o c.wild
@@ -140,16 +140,16 @@ abbrev pub CampaignsUnless : Option Refusal → (Answer → Type 0) → Answer �
 CampaignsUnless None Accepted a = Accepted a
 CampaignsUnless (Some r) Accepted a = a ≡ judged (Some r)
 
--- the answer of a campaign over an object
+-- the answer of a campaign for an object
 abbrev pub CampaignsObject : Campaign → Files → Object → Answer → Type 0
 CampaignsObject c files o a = CampaignsUnless (refusal o) (CampaignsAccepted c files o) a
 
--- the answer over the source in the file of a name
+-- the answer for the source in the file of a name
 abbrev pub OverSource : (Program → Answer → Type 0) → Word → Files → Answer → Type 0
 OverSource Over name files a = (text : List ℕ) × (IsFile files name text × OverText Over text a)
 
--- the answer of a command over files and a script. If a shelf does not reveal its files, a link may load a name more
--- than once with other bytes each time, so its answer is over what is revealed
+-- the answer of a command for files and a script. If a shelf does not reveal its files, a link may load a name more
+-- than once with other bytes each time, so its answer is for what is revealed
 abbrev pub Answers : Request → Option Files → Files → List ℕ → Answer → Type 0
 Answers Usage told files script a = a ≡ usage
 Answers (Checks name) told files script a = OverFile ChecksObject name files a
@@ -201,7 +201,7 @@ SpellsFile files name = (bytes : List ℕ) × (IsFile files name bytes × ((o : 
 abbrev pub SpellsAccepted : Files → Word → Type 0
 SpellsAccepted files name = (bytes : List ℕ) × (IsFile files name bytes × ((o : Object) × (IsSpelling bytes o × (refusal o ≡ None))))
 
--- a request gets to loading this file: no earlier step of it refuses
+-- a request gets as far as loading this file: no earlier step of it refuses
 abbrev pub ComesTo : Request → Option Files → Files → Word → Type 0
 ComesTo Usage told files file = ⊥
 ComesTo (Checks object) told files file = file ≡ object
@@ -221,14 +221,14 @@ ComesTo (Disassembles object) told files file = file ≡ object
 ComesTo (Schedules object) told files file = file ≡ object
 ComesTo (Links name) told files file = (file ≡ name) ⊎ ComesToModule told name file
 
--- a request got to loading a file, and that load failed
+-- a request got as far as loading a file, and that load failed
 pub record FailsIn (request : Request) (files : Files) (old new : ShelfLog) : Type 0 where
   pub file : Word
   pub comes : ComesTo request old.files files file
   pub fails : LoadFails file old new
 
--- the words ask for a command that got to loading a file, with the revealed files or else with some files of bytes, and
--- that load failed
+-- the words ask for a command that got as far as loading a file, with the revealed files or else with some files of
+-- bytes, and that load failed
 pub record FailedToLoad (words : List Word) (old new : ShelfLog) : Type 0 where
   pub request : Request
   pub asks : Asks words request
@@ -236,8 +236,8 @@ pub record FailedToLoad (words : List Word) (old new : ShelfLog) : Type 0 where
   pub are_files : AreFiles old.files files
   pub fails : FailsIn request files old new
 
--- a request got to its script: no earlier step of it refuses; a take of the script failed, and the count of failed
--- takes rose
+-- a request got as far as its script: no earlier step of it refuses; a take of the script failed, and the count of
+-- failed takes rose
 pub record FailsAtScript (d : Debugging) (files : Files) (old new : SourceLog) : Type 0 where
   pub rose : Rose old.failures new.failures
   pub comes : SpellsFile files d.object

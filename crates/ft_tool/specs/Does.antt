@@ -13,37 +13,37 @@ use Rattle.ft_tool.specs.Calls.{LoadList, HasMade, LoadsFor}
 use Rattle.ft_tool.specs.Told.{OfFiles, OfScript}
 use Rattle.ft_tool.specs.Endings.{Ends, ends_early}
 
--- the answer to a request, with the revealed files and script, or else with some
+-- the answer to a request, with the revealed files and script, or else with some files and some script
 abbrev pub AnswersTo : Request → Option Files → Option (List ℕ) → Answer → Type 0
 AnswersTo r told left a = OfFiles told (λ files. OfScript left (λ script. Answers r told files script a))
 
--- a request got to loading a file, and that load failed
+-- a request got as far as loading a file, and that load failed
 abbrev pub FailsLoading : Request → ShelfLog → ShelfLog → Type 0
 FailsLoading r old new = OfFiles old.files (λ files. FailsIn r files old new)
 
--- a request for a session got to its script, and a take of it failed
+-- a request for a session got as far as its script, and a take of it failed
 pub record FailsTaking (r : Request) (told : Option Files) (old new : SourceLog) : Type 0 where
   pub debugging : Debugging
   pub is : r ≡ Debugs debugging
   pub fails : OfFiles told (λ files. FailsAtScript debugging files old new)
 
--- a request for a session over an object took this of its script
+-- a request for a session on an object took this of its script
 pub record TakesFor (r : Request) (told : Option Files) (old new : SourceLog) : Type 0 where
   pub debugging : Debugging
   pub is : r ≡ Debugs debugging
   pub comes : OfFiles told (λ files. SpellsFile files debugging.object)
   pub taken : TakesAtMost 1048577 old new
 
--- what is done for a request, over a shelf and a script: the answer that was put, up to a failed put, or the load or
--- the take that failed; that no load failed, if the end is another; and the loads that were made
+-- what is done for a request, over a shelf and a script: the answer was put, up to a failed put, or a load or a take
+-- failed; with any end but `LoadFailed`, no load failed; and the loads of the request were made
 pub record Does (r : Request) (e : Ending) (left : Option (List ℕ)) (old new : SinkLog) (shelf shelf' : ShelfLog)
     (Takes : Type 0) : Type 0 where
   pub ends : Ends e (AnswersTo r shelf.files left) old new (FailsLoading r shelf shelf' ⊎ Takes)
   pub load_failures : e ≢ LoadFailed → NoLoadFails shelf shelf'
   pub made : OfFiles shelf.files (λ files. LoadsFor r shelf.files files (IsTrue (ends_early e)) shelf.asked shelf'.asked)
 
--- a request over one file, of which at most `limit` bytes are read: the answer over the file's bytes is one to the
--- request, which gets to loading this file and no other
+-- a request over one file, of which at most `limit` bytes are read: an answer for the file's bytes answers the
+-- request, which loads this file and no other
 pub record IsOverFile (r : Request) (file : Word) (limit : ℕ) (Over : List ℕ → Answer → Type 0) : Type 0 where
   pub answers : (told : Option Files) (files : Files) (script bytes : List ℕ) (a : Answer) → IsFile files file bytes → Over bytes a → Answers r told files script a
   pub comes : (told : Option Files) (files : Files) → ComesTo r told files file

@@ -12,13 +12,13 @@ use Rattle.ft_tool.specs.declared.ending.Ending.TheVariants.{Done, Detected, Usa
 
 -- how a part of a command ends
 pub data PartEnd : Type 0 where
-  -- with an answer of this status, which was put
+  -- it ends with an answer of this status, which was put
   Concluded : ℕ → PartEnd
-  -- at a load or a take that failed
+  -- it ends at a load or a take that failed
   Unloaded : PartEnd
-  -- at a put of its answer that failed
+  -- it ends at a put of its answer that failed
   Unwritten : PartEnd
-  -- when memory ran out
+  -- it ends when memory runs out
   Unfinished : PartEnd
 
 abbrev pub part_end : Ending → PartEnd

@@ -69,7 +69,7 @@ FaultCause name (Refused e) old new = NoLoadFails old new
 FaultCause name Failed old new = LoadFails name old new
 FaultCause name NoMemory old new = NoLoadFails old new
 
--- so does any other result
+-- the same for a result, which leaves both unchanged too if it is no fault
 abbrev pub LoadCause : {V : Type 0} → Word → Result V ObjectFault → ShelfLog → ShelfLog → Type 0
 LoadCause name (Ok v) old new = NoLoadFails old new
 LoadCause name (Err e) old new = FaultCause name e old new

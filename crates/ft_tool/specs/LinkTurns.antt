@@ -25,7 +25,7 @@ pub record AddsObject (modules : List Object) (o : Object) (modules' : List Obje
   pub unrefused : added_refusal modules o ≡ None
   pub added : modules' ≡ modules ++ o ∷ []
 
--- these modules of a map were added; however its remaining files end, all of its files end
+-- these modules of a map were added, and its link ends as that of its remaining files does
 pub record HasAdded (told : Option Files) (linkage : LinkMap) (modules : List Object) (rest : List Word) (asked asked' : Option LoadList) : Type 0 where
   pub loads : LoadList
   pub made : HasMade loads asked asked'

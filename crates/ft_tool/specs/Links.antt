@@ -1,4 +1,4 @@
--- The answers of a link over the text of a link map and the files of its modules.
+-- The answers of a link for the text of a link map and the files of its modules.
 use Rattle.std.specs.Prelude.{◌≡◌, ◌⊎◌, ℕ, ◌<◌, ◌≤◌, List, [], ◌∷◌, ◌++◌, length, Option, Some, None}
 use Rattle.ft_edge.specs.Loads.{Files}
 use Rattle.ft_isa.specs.declared.plan.Strike.{Strike}
@@ -56,7 +56,7 @@ pub data EndsAtBytes (modules : List Object) (bytes : List ℕ) (a : Answer) : T
   no_object : (e : ObjectError) → broken bytes ≡ Some e → a ≡ refused e → EndsAtBytes modules bytes a
   no_module : (o : Object) → IsSpelling bytes o → EndsAtObject modules o a → EndsAtBytes modules bytes a
 
--- they spell an object that is accepted and added to the modules before it
+-- the bytes spell an object that is accepted and is added to the modules before it
 pub record IsAdded (modules : List Object) (bytes : List ℕ) (o : Object) : Type 0 where
   pub spelled : IsSpelling bytes o
   pub accepted : refusal o ≡ None
@@ -74,45 +74,45 @@ pub record LinksObject (linkage : LinkMap) (first : Object) (others : List Objec
   pub tolerates : (strike : Option Strike) (w : List Wild) (n : ℕ) → Agrees (outputs_after (linked linkage first others) strike w n) (status_after (linked linkage first others) strike w n) (modules_outputs linkage first others n) (modules_status linkage first others n)
   pub written : UpgradesObject (linked linkage first others) a
 
--- this holds unless the map refuses them
+-- the answer is that object, or the refusal if the modules cannot be linked
 abbrev pub LinksUnless : Option LinkRefusal → LinkMap → Object → List Object → Answer → Type 0
 LinksUnless None linkage first others a = LinksObject linkage first others a
 LinksUnless (Some r) linkage first others a = a ≡ unlinked r
 
--- the answer over modules that were all added, at least one
+-- the answer for modules that were all added, at least one
 abbrev pub LinksAdded : LinkMap → List Object → Answer → Type 0
 LinksAdded linkage [] a = ⊥
 LinksAdded linkage (first ∷ others) a = LinksUnless (link_refusal linkage first others) linkage first others a
 
 -- THE FILES
 
--- the answer over the files of further modules, in turn: the bytes of the first end the link, or spell an object that is
--- added to the modules so far
+-- the answer for the files of further modules, in turn: the bytes of the first end the link, or spell an object that
+-- is added to the modules so far
 abbrev pub LinksFiles : Option Files → LinkMap → List Object → List Word → Answer → Type 0
 LinksFiles told linkage modules [] a = LinksAdded linkage modules a
 LinksFiles told linkage modules (name ∷ names) a =
     (bytes : List ℕ) × (IsToldFile told name bytes
     × (EndsAtBytes modules bytes a ⊎ ((o : Object) × (IsAdded modules bytes o × LinksFiles told linkage (modules ++ o ∷ []) names a))))
 
--- the answer over the text of a map: it ends the link, or the files of its modules are linked
+-- the answer for the text of a map: it ends the link, or the files of its modules are linked
 abbrev pub LinksText : Option Files → List ℕ → Answer → Type 0
 LinksText told text a = EndsAtMap text a ⊎ ((linkage : LinkMap) × (IsMap text linkage × LinksFiles told linkage [] linkage.files a))
 
--- the answer over the map in the file of a name. If the shelf does not reveal its files, the file of each load may have
+-- the answer for the map in the file of a name. If the shelf does not reveal its files, the file of each load may have
 -- any bytes
 abbrev pub LinksFile : Option Files → Word → Answer → Type 0
 LinksFile told name a = (text : List ℕ) × (IsToldFile told name text × LinksText told text a)
 
 -- LOADS
 
--- a link gets to loading this file of further modules: each module before it was added
+-- a link gets as far as loading this file of further modules: each module before it was added
 abbrev pub ComesInTurn : Option Files → List Object → List Word → Word → Type 0
 ComesInTurn told modules [] file = ⊥
 ComesInTurn told modules (name ∷ names) file =
     (file ≡ name)
     ⊎ ((bytes : List ℕ) × (IsToldFile told name bytes × ((o : Object) × (IsAdded modules bytes o × ComesInTurn told (modules ++ o ∷ []) names file))))
 
--- a link gets to loading this file of a module
+-- a link gets as far as loading this file of a module
 pub record ComesToModule (told : Option Files) (name file : Word) : Type 0 where
   pub text : List ℕ
   pub is_file : IsToldFile told name text

@@ -1,4 +1,4 @@
--- The answers of a campaign over an object and a fault list.
+-- The answers of a campaign for an object and a fault list.
 use Rattle.std.specs.Prelude.{◌≡◌, ℕ, ◌*◌, ◌<◌, ◌≤◌, ◌==◌, if◌then◌else◌, List, length, count_by}
 use Rattle.ft_isa.specs.declared.plan.Strike.{Strike}
 use Rattle.ft_types.specs.declared.object.Object.{Object}
@@ -35,14 +35,14 @@ pub record IsRefusedList (list : List ℕ) (a : Answer) : Type 0 where
   pub refused : IsListError list error
   pub answer : IsListAnswer error a
 
--- the answer of a campaign over these faults: if their number times the number of steps is above 1,000,000,000, a
+-- the answer of a campaign for these faults: if their number times the number of steps is above 1,000,000,000, a
 -- refusal, else the lines of the faults' verdicts, which are as promised
 pub data OverFaults (Promised : List Verdict → Type 0) (c : Campaign) (o : Object) (faults : List Strike) (a : Answer) : Type 0 where
   too_much : 1000000000 < length faults * c.steps → a ≡ one_piece (list_line 3 (length faults * c.steps)) 11 → OverFaults Promised c o faults a
   tried : length faults * c.steps ≤ 1000000000 → (verdicts : List Verdict) → AreVerdicts o faults c.wild c.steps verdicts → Promised verdicts
       → a ≡ record { pieces = campaign_lines faults verdicts; status = status_of verdicts } → OverFaults Promised c o faults a
 
--- the answer of a campaign over the text of a list
+-- the answer of a campaign for the text of a list
 pub data OverList (Promised : List Verdict → Type 0) (c : Campaign) (o : Object) (list : List ℕ) (a : Answer) : Type 0 where
   refused_list : IsRefusedList list a → OverList Promised c o list a
   listed : (faults : List Strike) → IsFaultList list faults → OverFaults Promised c o faults a → OverList Promised c o list a

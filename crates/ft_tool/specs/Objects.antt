@@ -1,4 +1,4 @@
--- The answers over the bytes of an object.
+-- The answers for the bytes of an object.
 use Rattle.std.specs.Prelude.{◌≡◌, ◌⊎◌, ℕ, List, Option, Some, None}
 use Rattle.ft_types.specs.declared.object.Object.{Object}
 use Rattle.ft_typing.specs.Accepted.{Refusal}
@@ -18,13 +18,13 @@ abbrev pub judged : Option Refusal → Answer
 judged None = one_piece accepted_line 0
 judged (Some r) = one_piece (check_line r) 8
 
--- the answer over a file's bytes: over the object that they spell, or by the first rule that they break
+-- the answer for a file's bytes: that for the object that they spell, or the refusal for the first rule that they break
 abbrev pub OverBytes : (Object → Answer → Type 0) → List ℕ → Answer → Type 0
 OverBytes Over bytes a =
     ((o : Object) × (IsSpelling bytes o × Over o a))
     ⊎ ((e : ObjectError) × ((broken bytes ≡ Some e) × (a ≡ refused e)))
 
--- the answer of an upgrade over an object: its bytes in version 2 of the format, in one piece
+-- the answer of an upgrade for an object: its bytes in version 2 of the format, in one piece
 pub record UpgradesObject (o : Object) (a : Answer) : Type 0 where
   pub bytes : List ℕ
   pub spelled : Spells bytes Second o

@@ -1,4 +1,4 @@
--- The answers of a command over an object and a script.
+-- The answers of a command for an object and a script.
 use Rattle.std.specs.Prelude.{◌≡◌, ℕ, ◌<◌, ◌≤◌, List, length, Option, Result, Ok, Err, IfSome}
 use Rattle.ft_edge.specs.Causes.{Rose}
 use Rattle.ft_types.specs.declared.object.Object.{Object}
@@ -14,7 +14,7 @@ use Rattle.ft_tool.specs.Replies.{Answer, one_piece, IsScript}
 abbrev pub too_long_script : Answer
 too_long_script = one_piece (list_line 4 1048576) 11
 
--- the answer of a session of a script over an object: the lines of the session, unless the script is too long
+-- the answer of a session of a script on an object: the lines of the session, unless the script is too long
 pub data DebugsObject (d : Debugging) (script : List ℕ) (o : Object) (a : Answer) : Type 0 where
   too_long : 1048576 < length script → a ≡ too_long_script → DebugsObject d script o a
   debugged : length script ≤ 1048576 → (commands : List Command) → AreCommands script commands

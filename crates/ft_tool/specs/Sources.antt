@@ -1,4 +1,4 @@
--- The answers of a command over the text of a source.
+-- The answers of a command for the text of a source.
 use Rattle.std.specs.Prelude.{◌≡◌, ◌≢◌, ◌⊎◌, ℕ, List, [], None}
 use Rattle.ft_types.specs.declared.object.Object.{Object}
 use Rattle.ft_semantics.specs.Run.{run}
@@ -24,7 +24,7 @@ abbrev pub meant : Program → Outcome → Answer
 meant p (Ended s) = record { pieces = output_lines p.names s.out; status = 0 }
 meant p (Cut s) = record { pieces = output_lines p.names s.out; status = 9 }
 
--- the answer over the text of a source: over the program that it is, or its refusal
+-- the answer for the text of a source: that for its program, or its refusal
 abbrev pub OverText : (Program → Answer → Type 0) → List ℕ → Answer → Type 0
 OverText Over text a =
     ((p : Program) × (IsProgramOf text p × Over p a))

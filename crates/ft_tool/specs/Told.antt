@@ -22,11 +22,11 @@ pub record IsListOf (c : Campaign) (told : Option Files) (bytes list : List ℕ)
   pub file : IsToldFile told c.faults list
   pub own : c.faults ≡ c.object → list ≡ bytes
 
--- the answer over an object, whose file has these bytes, and the fault list
+-- the answer for an object, whose file has these bytes, and the fault list
 abbrev pub OverListOf : (List Verdict → Type 0) → Campaign → Option Files → List ℕ → Object → Answer → Type 0
 OverListOf Promised c told bytes o a = (list : List ℕ) × (IsListOf c told bytes list × OverList Promised c o list a)
 
--- the same of a campaign on an object that is accepted
+-- the same for a campaign on an object that is accepted
 abbrev pub CampaignsListOf : Campaign → Option Files → List ℕ → Object → Answer → Type 0
 CampaignsListOf c told bytes o a = OverListOf NoneCorrupt c told bytes o a × IsNeverDetected o c.wild
 

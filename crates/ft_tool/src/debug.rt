@@ -22,7 +22,7 @@ use ft_edge::{Shelf, Sink, Source};
 use ft_types::Program;
 use std::alloc::Global;
 
-/// Runs the session of a script over an object.
+/// Runs the session of a script on an object.
 fn debug_text<P: Program, K: Sink>(
     alloc: Global,
     program: &P,
@@ -43,7 +43,7 @@ fn debug_text<P: Program, K: Sink>(
     }
 }
 
-/// Reads the script and runs its session over an object.
+/// Reads the script and runs its session on an object.
 fn debug_object<P: Program, I: Source, K: Sink>(
     alloc: Global,
     program: &P,

@@ -25,7 +25,7 @@ pub(crate) trait FileCommand {
     // The maximum number of bytes that are read of its file.
     ghost limit: { Self → ℕ };
 
-    // The answer over the file's bytes.
+    // The answer for the file's bytes.
     ghost answer: { Self → List ℕ → Answer → Type 0 };
 
     /// The name of its file.
@@ -36,21 +36,21 @@ pub(crate) trait FileCommand {
     fn limit(&self) -> usize
         ensures { result ≡ limit self.now };
 
-    /// Answers over the file's bytes.
+    /// Writes the answer for the file's bytes.
     fn over_bytes<K: Sink>(&self, alloc: Global, bytes: &[u8], out: &mut K) -> Ending
         ensures { Ends result (answer self.now bytes.now)
             (K.log out.old) (K.log out.new) ⊥ };
 
-    /// Answers over a file that has more bytes than the limit.
+    /// Writes the answer for a file that has more bytes than the limit.
     fn refuse_long<K: Sink>(&self, out: &mut K) -> Ending
         ensures { Ends result (λ a. (bytes : List ℕ) → limit self.now < length bytes → answer self.now bytes a)
             (K.log out.old) (K.log out.new) ⊥ };
 
-    // The answer over the bytes of this file is one to the request, which gets to loading no other.
+    // An answer for this file's bytes is one to the request, which loads no other file.
     ghost is_over_file: { (c : Self) → IsOverFile (request c) (file c) (limit c) (answer c) };
 }
 
-/// Loads the file of a command and answers over it.
+/// Loads the file of a command and writes the answer for it.
 pub(crate) fn over_file<C: FileCommand, F: Shelf, K: Sink>(
     alloc: Global,
     command: &C,

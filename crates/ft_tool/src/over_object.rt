@@ -29,20 +29,20 @@ pub(crate) trait ObjectCommand {
     // The name of its file.
     ghost file: { Self → Word };
 
-    // The answer over the object that the file's bytes spell.
+    // The answer for the object that the file's bytes spell.
     ghost answer: { Self → Object → Answer → Type 0 };
 
     /// The name of its file.
     fn file(&self) -> &str
         ensures { result.now ≡ file self.now };
 
-    /// Answers over the object.
+    /// Writes the answer for the object.
     fn over_object<P: Program, K: Sink>(&self, alloc: Global, program: &P, out: &mut K) -> Ending
         requires { IsSpellable (P.object program.now) }
         ensures { Ends result (answer self.now (P.object program.now))
             (K.log out.old) (K.log out.new) ⊥ };
 
-    // The answer over the bytes of this file is one to the request, which gets to loading no other.
+    // An answer for this file's bytes is one to the request, which loads no other file.
     ghost is_over_file: { (c : Self) → IsOverFile (request c) (file c) 67108864 (OverBytes (answer c)) };
 }
 
@@ -85,7 +85,7 @@ impl<C: ObjectCommand> FileCommand for OverObject<C> {
     }
 }
 
-/// Loads the object of a command and answers over it.
+/// Loads the object of a command and writes the answer for it.
 pub(crate) fn over_object<C: ObjectCommand + Drop, F: Shelf, K: Sink>(
     alloc: Global,
     command: C,

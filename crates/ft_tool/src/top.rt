@@ -31,7 +31,7 @@ use ft_command::{Command, command_of};
 use ft_edge::{Shelf, Sink, Source};
 use std::alloc::Global;
 
-/// Does what a command is for. Only `debug` reads the script.
+/// Executes a command. Only `debug` reads the script.
 fn obey<F: Shelf, I: Source, K: Sink>(
     alloc: Global,
     command: Command,
@@ -130,8 +130,8 @@ pub fn tool<F: Shelf, I: Source, K: Sink>(
         (I.log script.old) (I.log script.new) }
     ensures load_failure_puts_nothing { result ≡ 3 → K.log out.new ≡ K.log out.old }
 
-    // A put failed, and it was the last: the pieces before it were put, and a prefix of its own. The count of failed puts
-    // rose.
+    // A put failed, and it was the last: the pieces before it were put, and a prefix of its own. The count of failed
+    // puts rose.
     ensures write_failure { result ≡ 4 →
         BreaksOff (IsAnswer (map string_bytes words.now) (F.log shelf.old).files (I.log script.old).left)
         (K.log out.old) (K.log out.new) }
@@ -139,13 +139,13 @@ pub fn tool<F: Shelf, I: Source, K: Sink>(
     // Nothing was put. This status is meant for memory that ran out.
     ensures no_memory_puts_nothing { result ≡ 5 → K.log out.new ≡ K.log out.old }
 
-    // The count of failed puts is unchanged if the answer is another.
+    // The count of failed puts is unchanged with any status but 4.
     ensures write_failures { result ≢ 4 → (K.log out.new).failures ≡ (K.log out.old).failures }
 
-    // The counts of failed loads and takes are unchanged if the answer is another. The script is read only in a session
-    // over an object, at most 1,048,577 bytes of it, and never again after its end or a failure. Each file is loaded
+    // The counts of failed loads and takes are unchanged with any status but 3. The script is read only in a session
+    // on an object, at most 1,048,577 bytes of it, and never again after its end or a failure. Each file is loaded
     // once, in the order of the request and up to its limit, and a fault list or a module exactly if the command gets
-    // to it; with statuses 3 and 5 it is perhaps not loaded, and with status 5 perhaps nothing is.
+    // to it; with statuses 3 and 5 that load may be missing, and with status 5 every load.
     ensures load_failures { result ≢ 3 → NoLoadFails (F.log shelf.old) (F.log shelf.new) }
     ensures script { TakesFrom (map string_bytes words.now) (F.log shelf.old).files
         (I.log script.old) (I.log script.new) ⊎ (script.new ≡ script.old) }

@@ -24,8 +24,8 @@ pub trait Program: Nodes {
     /// fetch has to find them again.
     type Code: Copy;
 
-    // Where `fetch` reads what a loop keeps, that is the result of `code` for the program. Elsewhere it may be
-    // anything.
+    // What a loop keeps is the result of `code` for the program. An implementation whose `fetch` does not read it
+    // may allow anything.
     ghost is_code: { Self → Self.Code → Type 0 };
 
     /// How many there are of each kind of part.

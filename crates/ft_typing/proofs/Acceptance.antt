@@ -15,7 +15,8 @@ use Rattle.ft_types.specs.Objects.{reg_rows, queue_rows, ints_of, memory_of, blo
 use Rattle.ft_typing.specs.TypedWord.{has_type}
 use Rattle.ft_typing.specs.Context.{Context, start_context}
 use Rattle.ft_typing.specs.Premise.{Premise}
-use Rattle.ft_typing.specs.TypingRow.{Outcome, Goes, Ends, Fails, row}
+use Rattle.ft_typing.specs.TypingRow.{row}
+use Rattle.ft_typing.specs.RowWords.{Outcome, Goes, Ends, Fails}
 use Rattle.ft_typing.specs.Accepted.{Applies, last_row, next_row, IsEntryType, IsAccepted, Refusal, EntryType, CellType}
 use Rattle.ft_typing.specs.Accepted.{Refused, is_variable, is_memory_variable, has_none, is_entry_type, after_row, walk}
 use Rattle.ft_typing.specs.Accepted.{first_refusal, cell_refusal, block_refusal, refusal}

@@ -16,7 +16,7 @@ use Rattle.ft_isa.specs.declared.basic.Basic.{Basic}
 use Rattle.ft_isa.specs.declared.instr.Subst.{Subst}
 use Rattle.ft_isa.specs.declared.instr.Instr.{Instr}
 use Rattle.ft_isa.specs.declared.instr.Instr.TheVariants.{Idx}
-use Rattle.ft_static.specs.FormOrder.{same_polynomial, same_updates}
+use Rattle.ft_static.specs.Form.{same_polynomial, same_updates}
 use Rattle.ft_types.specs.declared.object.Object.{Object}
 use Rattle.ft_types.specs.declared.object.Cell.{Cell}
 use Rattle.ft_types.specs.declared.object.RegType.{RegType}
@@ -26,10 +26,10 @@ use Rattle.ft_typing.specs.TypedWord.{common_type, only_referable, run_type, is_
 use Rattle.ft_typing.specs.Context.{Typed, TypedRegisters, FormPair, Context, typed, with_type, integer_form_of}
 use Rattle.ft_typing.specs.Context.{memory_form_of, Replacement, integer_form_after, memory_form_after, replacement}
 use Rattle.ft_typing.specs.Context.{typed_row, registers_after, queue_pair, start_context}
-use Rattle.ft_typing.specs.TypingRow.{Goes, run_form, is_like, are_like, is_queue_like, is_annotated, row}
-use Rattle.ft_typing.specs.TypingTable.{Test, is_claimed, is_substitution, has_registers, has_queue, has_memory}
-use Rattle.ft_typing.specs.TypingTable.{is_array, premise_of, known, code_of, holds, tests, effect, first_failing}
-use Rattle.ft_typing.specs.TypingTable.{refused_or}
+use Rattle.ft_typing.specs.TypingRow.{row, tests, effect, first_failing, refused_or}
+use Rattle.ft_typing.specs.RowWords.{Goes, run_form, is_like, are_like, is_queue_like, is_annotated}
+use Rattle.ft_typing.specs.RowTests.{Test, is_claimed, is_substitution, has_registers, has_queue, has_memory, is_array}
+use Rattle.ft_typing.specs.RowTests.{premise_of, known, code_of, holds}
 use Rattle.ft_typing.specs.Accepted.{Applies, last_row, next_row}
 use Rattle.ft_typing.proofs.TypingRows.{row_is}
 

@@ -11,7 +11,7 @@ use Rattle.ft_isa.specs.declared.colour.Colour.{Colour}
 use Rattle.ft_isa.specs.declared.colour.Colour.TheVariants.{Green, Blue}
 use Rattle.ft_typing.specs.TypedWord.{cell_type, code_type_at, HasTypeOver, HasType, IsSeenAs, same_base, same_basic}
 use Rattle.ft_typing.specs.TypedWord.{is_seen_as, is_code_type, is_cell_type, has_type_over, has_type}
-use Rattle.ft_typing.specs.TypingRow.{same_colour}
+use Rattle.ft_typing.specs.RowWords.{same_colour}
 
 -- two bases are equal if the test says so
 same_base_is : (a b : Base) → same_base a b ≡ true → a ≡ b
@@ -34,7 +34,7 @@ same_basic_is a b e =
     let s = same_base_is a.base b.base p.1 in
     λ i. record { refs = r i; base = s i }
 
--- and the test says so if they are
+-- the test says so if two basic types are equal
 pub is_same_basic : (a b : Basic) → a ≡ b → same_basic a b ≡ true
 unfolding same_basic
 is_same_basic a b e = rw e (and_from _ _ (eq-eqb b.refs b.refs refl) (same_base_itself b.base))

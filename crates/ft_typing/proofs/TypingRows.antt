@@ -5,20 +5,20 @@ use Rattle.std.specs.Option.{unwrap_or}
 use Rattle.ft_isa.specs.declared.basic.Base.{Base}
 use Rattle.ft_isa.specs.declared.basic.Base.TheVariants.{Int, Code}
 use Rattle.ft_isa.specs.declared.basic.Basic.{Basic}
-use Rattle.ft_isa.specs.declared.colour.Colour.TheVariants.{Green, Blue}
+use Rattle.ft_isa.specs.declared.colour.Colour.TheVariants.{Green}
 use Rattle.ft_isa.specs.declared.instr.Instr.{Instr}
-use Rattle.ft_isa.specs.declared.instr.Instr.TheVariants.{OpReg, OpWord, Mov, Ld, St, JmpG, JmpB, BzG, BzB, Halt, Idx}
+use Rattle.ft_isa.specs.declared.instr.Instr.TheVariants.{St, Halt}
+use Rattle.ft_isa.specs.BasicTypes.{int}
 use Rattle.ft_static.specs.Form.{Polynomial, nought}
 use Rattle.ft_types.specs.declared.object.Object.{Object}
-use Rattle.ft_isa.specs.BasicTypes.{int}
 use Rattle.ft_typing.specs.declared.why.Why.TheVariants as premise
 use Rattle.ft_typing.specs.Premise.{Premise}
 use Rattle.ft_typing.specs.Context.{Typed, StateOfD, d_zero, d_code, d_conditional, FormPair, Context}
-use Rattle.ft_typing.specs.TypingRow.{Outcome, Fails, need, for_typed, for_ref_over, for_code_over, for_zero}
-use Rattle.ft_typing.specs.TypingRow.{for_target, for_conditional, for_oldest, for_run, is_empty, leads, row}
-use Rattle.ft_typing.specs.TypingTable.{Test, premise_of, refers, referred, leads_to_code, code_led_to, is_zero}
-use Rattle.ft_typing.specs.TypingTable.{is_code, is_conditional, code_of_d, form_of_d, test_of_d, oldest, others, holds}
-use Rattle.ft_typing.specs.TypingTable.{tests, effect, first_failing, refused_or, IsTheRow}
+use Rattle.ft_typing.specs.RowWords.{Outcome, Fails, need, for_typed, for_ref_over, for_code_over, for_zero, for_target}
+use Rattle.ft_typing.specs.RowWords.{for_conditional, for_oldest, for_run, is_empty, leads}
+use Rattle.ft_typing.specs.TypingRow.{row, tests, effect, first_failing, refused_or, IsTheRow}
+use Rattle.ft_typing.specs.RowTests.{Test, premise_of, refers, referred, leads_to_code, code_led_to, is_zero, is_code}
+use Rattle.ft_typing.specs.RowTests.{is_conditional, code_of_d, form_of_d, test_of_d, oldest, others, holds}
 
 -- what is known of a register, if nothing is
 abbrev unknown : Typed
@@ -113,23 +113,23 @@ unfolding need for_run
 run_next None f e = refl
 run_next (Some b) f e = e
 
--- the row is the chain of its tests
+-- the row is the chain of its tests: `Halt` splits by instruction, and `Green` by colour
 row_is_judged : (o : Object) (c : Context) (i : Instr) → row o c i ≡ judged o c (tests i) (effect o c i)
 unfolding leads judged
-row_is_judged o c (OpReg op rd rs rt) = typed_next _ _ (typed_next _ _ refl)
-row_is_judged o c (OpWord op rd rs value) = typed_next _ _ refl
-row_is_judged o c (Mov rd value basic) = refl
-row_is_judged o c (Ld colour rd rs) = typed_next _ _ (need_next _ _ (ref_next _ _ _ refl))
-row_is_judged o c (St Green rd rs) = typed_next _ _ (typed_next _ _ (need_both _ _ _ (ref_next _ _ _ refl)))
-row_is_judged o c (St Blue rd rs) = typed_next _ _
-    (typed_next _ _ (need_both _ _ _ (ref_next _ _ _ (need_next _ _ (oldest_next _ _ refl)))))
-row_is_judged o c (JmpG rd) = typed_next _ _ (need_next _ _ (code_next _ _ _ (zero_next _ refl)))
-row_is_judged o c (JmpB rd u) = typed_next _ _ (need_next _ _ (code_next _ _ _ (target_next _ _ refl)))
-row_is_judged o c (BzG rz rd) = typed_next _ _ (typed_next _ _ (need_both _ _ _ (code_next _ _ _ (zero_next _ refl))))
-row_is_judged o c (BzB rz rd u) = typed_next _ _ (typed_next _ _
-    (need_both _ _ _ (code_next _ _ _ (conditional_next _ _ refl))))
 row_is_judged o c Halt = zero_next _ refl
-row_is_judged o c (Idx rd rs first m) = typed_next _ _ (run_next _ _ refl)
+row_is_judged o c (St Green rd rs) = search (typed_next, need_both, ref_next)
+row_is_judged o c i = search (
+  typed_next,
+  need_next,
+  need_both,
+  ref_next,
+  code_next,
+  zero_next,
+  target_next,
+  conditional_next,
+  oldest_next,
+  run_next,
+) depth 9
 
 -- the row gives the premise of the first of its tests that fails, and else its effect
 pub row_is : (o : Object) (c : Context) (i : Instr) → IsTheRow o c i

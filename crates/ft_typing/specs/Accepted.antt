@@ -14,7 +14,8 @@ use Rattle.ft_typing.specs.TypedWord.{HasType, has_type}
 use Rattle.ft_typing.specs.Context.{Context, start_context}
 use Rattle.ft_typing.specs.Premise.{Premise}
 use Rattle.ft_typing.specs.declared.why.Why.TheVariants.{BlockEnd}
-use Rattle.ft_typing.specs.TypingRow.{Outcome, Goes, Ends, Fails, row}
+use Rattle.ft_typing.specs.TypingRow.{row}
+use Rattle.ft_typing.specs.RowWords.{Outcome, Goes, Ends, Fails}
 
 -- ACCEPTED
 

@@ -7,8 +7,7 @@ use Rattle.ft_isa.specs.declared.colour.Colour.{Colour}
 use Rattle.ft_isa.specs.declared.basic.Basic.{Basic}
 use Rattle.ft_isa.specs.declared.instr.Subst.{Subst}
 use Rattle.ft_static.specs.Form.{Polynomial, Updates}
-use Rattle.ft_static.specs.NormalForm.{norm_integer, norm_memory}
-use Rattle.ft_static.specs.FormUnder.{norm_under, norm_memory_under}
+use Rattle.ft_static.specs.NormalForm.{norm_integer, norm_memory, norm_under, norm_memory_under}
 use Rattle.ft_static.specs.NodeTree.{trees, integer_at, memory_at}
 use Rattle.ft_types.specs.declared.object.Object.{Object}
 use Rattle.ft_types.specs.declared.object.RegType.{RegType}

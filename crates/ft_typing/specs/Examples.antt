@@ -4,18 +4,16 @@ use Rattle.std.proofs.Common.{lit<}
 use Rattle.ft_isa.specs.declared.colour.Colour.TheVariants.{Green, Blue}
 use Rattle.ft_isa.specs.declared.colour.Coloured.{Coloured}
 use Rattle.ft_isa.specs.declared.instr.Instr.{Instr}
-use Rattle.ft_isa.specs.declared.instr.Instr.TheVariants.{OpReg, OpWord, Mov, Ld, St, JmpG, JmpB, BzG, BzB, Halt, Idx}
-use Rattle.ft_isa.specs.declared.instr.Subst.{Subst}
+use Rattle.ft_isa.specs.declared.instr.Instr.TheVariants.{OpReg, OpWord, Mov, Ld, St, Halt, Idx}
 use Rattle.ft_isa.specs.declared.op.Op.TheVariants.{Add, Mul}
 use Rattle.ft_isa.specs.declared.reg.Reg.{Reg}
-use Rattle.ft_static.specs.declared.node.Node.{Node}
+use Rattle.ft_isa.specs.declared.basic.Basic.{Basic}
+use Rattle.ft_isa.specs.declared.basic.Base.TheVariants.{Int}
+use Rattle.ft_isa.specs.BasicTypes.{int, ref}
 use Rattle.ft_static.specs.declared.node.Shape.TheVariants as shape
 use Rattle.ft_types.specs.declared.object.Object.{Object}
 use Rattle.ft_types.specs.declared.object.Cell.{Cell}
 use Rattle.ft_types.specs.declared.object.CodeType.{CodeType}
-use Rattle.ft_isa.specs.declared.basic.Basic.{Basic}
-use Rattle.ft_isa.specs.declared.basic.Base.TheVariants.{Int}
-use Rattle.ft_isa.specs.BasicTypes.{int, code, ref}
 
 -- registers, from r0 of the green computation and from r32 of the blue one
 abbrev pub r0 : Reg
@@ -63,16 +61,9 @@ two = 1048577
 abbrev pub int_cell : List ℕ → ℕ → Cell
 int_cell name init = record { name = name; basic = int; init = init }
 
--- a code type that knows nothing but the memory variable, and one of an integer variable that r0 and r32 hold
+-- a code type that knows nothing but the memory variable
 abbrev pub nothing_known : CodeType
 nothing_known = record { ints = 0; regs = []; queue = []; memory = 0 }
-
-abbrev pub variable_held : CodeType
-variable_held = record { ints = 1; regs = record { reg = r0; colour = Green; basic = int; expr = 1 } ∷ record { reg = r32; colour = Blue; basic = int; expr = 1 } ∷ []; queue = []; memory = 0 }
-
--- the memory variable, an integer variable and the word 5
-abbrev pub three_nodes : List Node
-three_nodes = record { scope = 0; shape = shape.Memory } ∷ record { scope = 1; shape = shape.Var 0 } ∷ record { scope = 0; shape = shape.Word 5 } ∷ []
 
 -- these instructions as one block over the cell `out` with this initial word
 abbrev pub one_block : ℕ → List Instr → Object
@@ -99,23 +90,6 @@ run_of_three basic init =
 abbrev pub refs_upwards : ℕ → ℕ → List Cell
 refs_upwards k zero = []
 refs_upwards k (suc n) = record { name = (97 + k) ∷ []; basic = record { refs = k; base = Int }; init = 1048575 + k } ∷ refs_upwards (suc k) n
-
--- these instructions as two blocks, the second of which begins here and has the variable's code type; the node 5 is
--- substituted for the variable
-abbrev pub two_blocks : ℕ → List Instr → Object
-two_blocks second instrs = record {
-  cells = int_cell (codes "out") 0 ∷ [];
-  nodes = three_nodes;
-  types = nothing_known ∷ variable_held ∷ [];
-  blocks = record { start = 0; code_type = 0 } ∷ record { start = second; code_type = 1 } ∷ [];
-  instrs = instrs;
-  substs = 2 ∷ [];
-  entry = 0;
-}
-
--- the substitution of the one row
-abbrev pub five : Subst
-five = record { first = 0; past = 1; memory = 0 }
 
 -- the list with another instruction at a place
 abbrev pub with_instr : ℕ → Instr → List Instr → List Instr
@@ -158,26 +132,3 @@ stores_nine_times =
     Mov r0 (green out) (ref int) ∷ Mov r1 (green 5) int
     ∷ St Green r0 r1 ∷ St Green r0 r1 ∷ St Green r0 r1 ∷ St Green r0 r1 ∷ St Green r0 r1 ∷ St Green r0 r1
     ∷ St Green r0 r1 ∷ St Green r0 r1 ∷ St Green r0 r1 ∷ Halt ∷ []
-
--- the variable is stored in `out`
-abbrev pub stores_variable : List Instr
-stores_variable = Mov r2 (green out) (ref int) ∷ Mov r34 (blue out) (ref int) ∷ St Green r2 r0 ∷ St Blue r34 r32 ∷ Halt ∷ []
-
--- five is passed to a block that stores it
-abbrev pub jumps : List Instr
-jumps =
-    Mov r0 (green 5) int ∷ Mov r32 (blue 5) int ∷ Mov r1 (green 7) (code 1) ∷ Mov r33 (blue 7) (code 1)
-    ∷ JmpG r1 ∷ JmpB r33 five ∷ stores_variable
-
--- five is not zero, so the branch is not taken
-abbrev pub branches : List Instr
-branches =
-    Mov r0 (green 5) int ∷ Mov r32 (blue 5) int ∷ Mov r1 (green 8) (code 1) ∷ Mov r33 (blue 8) (code 1)
-    ∷ BzG r0 r1 ∷ BzB r32 r33 five ∷ Halt ∷ stores_variable
-
--- five is stored before it is passed on, so the memory isn't the memory variable
-abbrev pub stores_and_jumps : List Instr
-stores_and_jumps =
-    Mov r0 (green 5) int ∷ Mov r32 (blue 5) int ∷ Mov r1 (green 11) (code 1) ∷ Mov r33 (blue 11) (code 1)
-    ∷ Mov r2 (green out) (ref int) ∷ Mov r34 (blue out) (ref int) ∷ St Green r2 r0 ∷ St Blue r34 r32
-    ∷ JmpG r1 ∷ JmpB r33 five ∷ stores_variable

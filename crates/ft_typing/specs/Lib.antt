@@ -1,7 +1,9 @@
 pub mod TypedWord
 pub mod Premise
 pub mod Context
+pub mod RowWords
+pub mod RowTests
 pub mod TypingRow
-pub mod TypingTable
 pub mod Accepted
 pub mod Examples
+pub mod JumpExamples

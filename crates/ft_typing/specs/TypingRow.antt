@@ -1,142 +1,20 @@
--- The typing rows: what each instruction needs of the context before it, in this order, and the context after it.
-use Rattle.std.specs.Prelude.{ℕ, zero, suc, Bool, true, false, ◌&&◌, ◌==◌, nat_lt, nat_le, if◌then◌else◌, List, [], ◌∷◌, ◌++◌, length, Option, Some, None}
-use Rattle.std.specs.List.{list_all}
+-- The typing rows: what each instruction needs of the context before it, in this order, and the context after it; and
+-- the same as data, the tests that an instruction makes and its effect.
+use Rattle.std.specs.Prelude.{◌&&◌, ◌==◌, nat_lt, if◌then◌else◌, List, [], ◌∷◌, ◌++◌, length, Option, Some, None, ◌≡◌}
 use Rattle.ft_isa.specs.declared.colour.Colour.{Colour}
 use Rattle.ft_isa.specs.declared.colour.Colour.TheVariants.{Green, Blue}
-use Rattle.ft_isa.specs.declared.basic.Base.{Base}
-use Rattle.ft_isa.specs.declared.basic.Base.TheVariants.{Int, Code}
-use Rattle.ft_isa.specs.declared.basic.Basic.{Basic}
-use Rattle.ft_isa.specs.declared.instr.Subst.{Subst}
 use Rattle.ft_isa.specs.declared.instr.Instr.{Instr}
 use Rattle.ft_isa.specs.declared.instr.Instr.TheVariants.{OpReg, OpWord, Mov, Ld, St, JmpG, JmpB, BzG, BzB, Halt, Idx}
-use Rattle.ft_isa.specs.Words.{cell_address}
-use Rattle.ft_static.specs.Form.{Polynomial, Updates}
-use Rattle.ft_static.specs.FormOrder.{same_polynomial, same_updates}
-use Rattle.ft_static.specs.NormalForm.{constant, norm_add, norm_op, norm_rem, norm_sel, norm_upd}
-use Rattle.ft_types.specs.declared.object.Object.{Object}
-use Rattle.ft_types.specs.declared.object.RegType.{RegType}
-use Rattle.ft_types.specs.Objects.{reg_rows, queue_rows, ints_of, memory_of, scope_of}
 use Rattle.ft_isa.specs.BasicTypes.{int, ref}
+use Rattle.ft_typing.specs.RowWords.{Outcome, same_colour, need, for_typed, for_ref, for_code, for_zero, for_target, for_conditional, for_oldest, for_run, run_form, is_empty, seen_memory, leads, Goes, Ends, Fails}
+use Rattle.ft_typing.specs.RowTests.{Test, premise_of, known, type_referred, code_of, array_type, others, holds, is_typed, is_coloured, is_coloured_as, is_colour_of, is_claimed, is_stored_as, is_reference, is_target, is_d_zero, is_d_code, is_d_conditional, has_room, has_oldest, is_oldest_address, is_oldest_value, is_tested, is_announced, is_substitution, has_registers, has_queue, has_memory, has_empty_queue, is_array}
+use Rattle.ft_static.specs.Form.{same_polynomial}
+use Rattle.ft_static.specs.NormalForm.{constant, norm_op, norm_sel, norm_upd}
+use Rattle.ft_types.specs.declared.object.Object.{Object}
 use Rattle.ft_typing.specs.TypedWord.{has_type, is_seen_as, run_type}
 use Rattle.ft_typing.specs.declared.why.Why.TheVariants as premise
 use Rattle.ft_typing.specs.Premise.{Premise}
-use Rattle.ft_typing.specs.Context.{Typed, StateOfD, d_zero, d_code, d_conditional, FormPair, Context, typed, with_type, Replacement, replacement, rows_of, integer_form_after, memory_form_after}
-
--- the result of a row: the context of the next instruction, the end of the block, or the first failing premise
-pub data Outcome : Type 0 where
-  Goes : Context → Outcome
-  Ends : Outcome
-  Fails : Premise → Outcome
-
--- whether two colours are equal
-unfoldable pub same_colour : Colour → Colour → Bool
-same_colour Green Green = true
-same_colour Green Blue = false
-same_colour Blue Green = false
-same_colour Blue Blue = true
-
--- a premise that is a test: what comes after it, if the test holds
-unfoldable pub need : Premise → Bool → Outcome → Outcome
-need p b next = if b then next else Fails p
-
--- premise Untyped: what comes after, by what is known of the register
-unfoldable pub for_typed : Option Typed → (Typed → Outcome) → Outcome
-for_typed None next = Fails premise.Untyped
-for_typed (Some t) next = next t
-
--- premise NotRef: what comes after, by the basic type referred to
-unfoldable pub for_ref_over : ℕ → Base → (Basic → Outcome) → Outcome
-for_ref_over zero base next = Fails premise.NotRef
-for_ref_over (suc k) base next = next (record { refs = k; base = base })
-
-abbrev pub for_ref : Basic → (Basic → Outcome) → Outcome
-for_ref b next = for_ref_over b.refs b.base next
-
--- premise NotCode: what comes after, by the code type
-unfoldable pub for_code_over : ℕ → Base → (ℕ → Outcome) → Outcome
-for_code_over zero Int next = Fails premise.NotCode
-for_code_over zero (Code t) next = next t
-for_code_over (suc k) base next = Fails premise.NotCode
-
-abbrev pub for_code : Basic → (ℕ → Outcome) → Outcome
-for_code b next = for_code_over b.refs b.base next
-
--- premise StateOfD, which requires Zero
-unfoldable pub for_zero : StateOfD → Outcome → Outcome
-for_zero d_zero next = next
-for_zero (d_code t f) next = Fails premise.StateOfD
-for_zero (d_conditional z t f) next = Fails premise.StateOfD
-
--- premise StateOfD, which requires Code: what comes after, by the code type and the form
-unfoldable pub for_target : StateOfD → (ℕ → Polynomial → Outcome) → Outcome
-for_target d_zero next = Fails premise.StateOfD
-for_target (d_code t f) next = next t f
-for_target (d_conditional z t f) next = Fails premise.StateOfD
-
--- premise StateOfD, which requires Conditional: what comes after, by the test, the code type and the form
-unfoldable pub for_conditional : StateOfD → (Polynomial → ℕ → Polynomial → Outcome) → Outcome
-for_conditional d_zero next = Fails premise.StateOfD
-for_conditional (d_code t f) next = Fails premise.StateOfD
-for_conditional (d_conditional z t f) next = next z t f
-
--- premise QueueEmpty: what comes after, by the oldest pair and the others
-unfoldable pub for_oldest : List FormPair → (FormPair → List FormPair → Outcome) → Outcome
-for_oldest [] next = Fails premise.QueueEmpty
-for_oldest (e ∷ q) next = next e q
-
--- premise Array: what comes after, by the type of the cells of a run
-unfoldable pub for_run : Option Basic → (Basic → Outcome) → Outcome
-for_run None next = Fails premise.Array
-for_run (Some b) next = next b
-
--- the form of the address of a run's cell, by the form of the word that selects it
-abbrev pub run_form : ℕ → ℕ → Polynomial → Polynomial
-run_form first m p = norm_add (constant (cell_address first)) (norm_rem p m)
-
--- whether nothing waits in the static queue
-unfoldable pub is_empty : List FormPair → Bool
-is_empty [] = true
-is_empty (e ∷ q) = false
-
--- the pending memory: the memory after the update of each pair of the queue, the oldest first
-unfoldable pub pending_memory : Updates → List FormPair → Updates
-pending_memory m [] = m
-pending_memory m (e ∷ q) = pending_memory (norm_upd m e.0 e.1) q
-
--- the memory that a load of this colour sees: green the pending one, blue the memory itself
-abbrev pub seen_memory : Colour → Context → Updates
-seen_memory Green c = pending_memory c.memory c.queue
-seen_memory Blue c = c.memory
-
--- whether the register here is as the target's row requires, under the substitution
-unfoldable pub is_like : Object → Replacement → Option Typed → RegType → Bool
-is_like o x None r = false
-is_like o x (Some t) r = same_colour t.colour r.colour && is_seen_as t.basic r.basic && same_polynomial t.form (integer_form_after o x r.expr)
-
--- whether all registers of the target's code type are
-abbrev pub are_like : Object → Replacement → Context → List RegType → Bool
-are_like o x c rows = list_all (λ r. is_like o x (typed c r.reg.number) r) rows
-
--- whether the static queue is as long as the target's, and each pair is the same under the substitution
-unfoldable pub is_queue_like : Object → Replacement → List FormPair → List (ℕ × ℕ) → Bool
-is_queue_like o x [] [] = true
-is_queue_like o x [] (r ∷ rs) = false
-is_queue_like o x (e ∷ q) [] = false
-is_queue_like o x (e ∷ q) (r ∷ rs) = same_polynomial e.0 (integer_form_after o x r.0) && same_polynomial e.1 (integer_form_after o x r.1) && is_queue_like o x q rs
-
--- whether a substitution has a row for each integer variable of code type t, and its rows and its memory have scopes
--- of at most this block's number of integer variables
-unfoldable pub is_annotated : Object → ℕ → Subst → ℕ → Bool
-is_annotated o ints u t = (length (rows_of o u) == ints_of o t) && list_all (λ n. nat_le (scope_of o n) ints) (rows_of o u) && nat_le (scope_of o u.memory) ints
-
--- the premises of a transfer to code type t by a substitution: Annotation, RegisterUnlike, QueueUnlike, MemoryUnlike
-unfoldable pub leads : Object → Subst → ℕ → Context → Outcome → Outcome
-leads o u t c next =
-    need premise.Annotation (is_annotated o c.ints u t) (
-    need premise.RegisterUnlike (are_like o (replacement o u) c (reg_rows o t)) (
-    need premise.QueueUnlike (is_queue_like o (replacement o u) c.queue (queue_rows o t)) (
-    need premise.MemoryUnlike (same_updates c.memory (memory_form_after o (replacement o u) (memory_of o t))) (
-    next))))
+use Rattle.ft_typing.specs.Context.{d_zero, d_code, d_conditional, Context, typed, with_type}
 
 -- op rd, rs, rt | 1 (rs, rt), 2 (rt has the colour of rs) | rd: colour of rs, `int`, op of the forms
 -- op rd, rs, c v | 1 (rs), 2 (c is the colour of rs) | rd: colour of rs, `int`, op of the form and v
@@ -228,3 +106,60 @@ row o c (Idx rd rs first m) =
     for_typed (typed c rs.number) (λ s.
     for_run (run_type o first m) (λ b.
     Goes (with_type rd.number (record { colour = s.colour; basic = ref b; form = run_form first m s.form }) c)))
+
+-- THE SAME AS DATA
+
+-- the tests of an instruction's row, in their order
+abbrev pub tests : Instr → List Test
+tests (OpReg op rd rs rt) = is_typed rs ∷ is_typed rt ∷ is_coloured_as rt rs ∷ []
+tests (OpWord op rd rs value) = is_typed rs ∷ is_colour_of value.colour rs ∷ []
+tests (Mov rd value basic) = is_claimed value.word basic ∷ []
+tests (Ld colour rd rs) = is_typed rs ∷ is_coloured rs colour ∷ is_reference rs ∷ []
+tests (St Green rd rs) =
+    is_typed rd ∷ is_typed rs ∷ is_coloured rd Green ∷ is_coloured rs Green ∷ is_reference rd ∷ is_stored_as rs rd ∷ has_room ∷ []
+tests (St Blue rd rs) =
+    is_typed rd ∷ is_typed rs ∷ is_coloured rd Blue ∷ is_coloured rs Blue ∷ is_reference rd ∷ is_stored_as rs rd
+    ∷ has_oldest ∷ is_oldest_address rd ∷ is_oldest_value rs ∷ []
+tests (JmpG rd) = is_typed rd ∷ is_coloured rd Green ∷ is_target rd ∷ is_d_zero ∷ []
+tests (JmpB rd u) =
+    is_typed rd ∷ is_coloured rd Blue ∷ is_target rd ∷ is_d_code ∷ is_announced rd
+    ∷ is_substitution rd u ∷ has_registers rd u ∷ has_queue rd u ∷ has_memory rd u ∷ []
+tests (BzG rz rd) =
+    is_typed rz ∷ is_typed rd ∷ is_coloured rz Green ∷ is_coloured rd Green ∷ is_target rd ∷ is_d_zero ∷ []
+tests (BzB rz rd u) =
+    is_typed rz ∷ is_typed rd ∷ is_coloured rz Blue ∷ is_coloured rd Blue ∷ is_target rd ∷ is_d_conditional ∷ is_tested rz ∷ is_announced rd
+    ∷ is_substitution rd u ∷ has_registers rd u ∷ has_queue rd u ∷ has_memory rd u ∷ []
+tests Halt = is_d_zero ∷ has_empty_queue ∷ []
+tests (Idx rd rs first m) = is_typed rs ∷ is_array first m ∷ []
+
+-- the result of an instruction's row if all its tests hold
+abbrev pub effect : Object → Context → Instr → Outcome
+effect o c (OpReg op rd rs rt) =
+    Goes (with_type rd.number (record { colour = (known c rs).colour; basic = int; form = norm_op op (known c rs).form (known c rt).form }) c)
+effect o c (OpWord op rd rs value) =
+    Goes (with_type rd.number (record { colour = (known c rs).colour; basic = int; form = norm_op op (known c rs).form (constant value.word) }) c)
+effect o c (Mov rd value basic) = Goes (with_type rd.number (record { colour = value.colour; basic = basic; form = constant value.word }) c)
+effect o c (Ld colour rd rs) =
+    Goes (with_type rd.number (record { colour = colour; basic = type_referred c rs; form = norm_sel (seen_memory colour c) (known c rs).form }) c)
+effect o c (St Green rd rs) = Goes (record c { queue = c.queue ++ ((known c rd).form, (known c rs).form) ∷ [] })
+effect o c (St Blue rd rs) = Goes (record c { queue = others c.queue; memory = norm_upd c.memory (known c rd).form (known c rs).form })
+effect o c (JmpG rd) = Goes (record c { d = d_code (code_of c rd) (known c rd).form })
+effect o c (JmpB rd u) = Ends
+effect o c (BzG rz rd) = Goes (record c { d = d_conditional (known c rz).form (code_of c rd) (known c rd).form })
+effect o c (BzB rz rd u) = Goes (record c { d = d_zero })
+effect o c Halt = Ends
+effect o c (Idx rd rs first m) = Goes (with_type rd.number (record { colour = (known c rs).colour; basic = ref (array_type o first m); form = run_form first m (known c rs).form }) c)
+
+-- the premise of the first test that does not hold
+abbrev pub first_failing : Object → Context → List Test → Option Premise
+first_failing o c [] = None
+first_failing o c (t ∷ ts) = if holds o c t then first_failing o c ts else Some (premise_of t)
+
+-- the refusal, if a premise fails, else the effect
+abbrev pub refused_or : Option Premise → Outcome → Outcome
+refused_or None e = e
+refused_or (Some p) e = Fails p
+
+-- the row of an instruction gives the premise of the first of its tests that fails, and if none fails its effect
+abbrev pub IsTheRow : Object → Context → Instr → Type 0
+IsTheRow o c i = row o c i ≡ refused_or (first_failing o c (tests i)) (effect o c i)

@@ -1,12 +1,12 @@
 //! Comparisons of colours and of basic types.
 ghost use Rattle.std.specs.Prelude.{◌≡◌};
 ghost use Rattle.ft_typing.specs.TypedWord.{same_base, same_basic, is_seen_as};
-ghost use Rattle.ft_typing.specs.TypingRow.{same_colour};
+ghost use Rattle.ft_typing.specs.RowWords.{same_colour};
 
 use ft_isa::{Base, Basic, Colour, INT};
 
 /// Whether two colours are equal.
-#[tactic(auto, unfolding(crate::specs::TypingRow::same_colour))]
+#[tactic(auto, unfolding(crate::specs::RowWords::same_colour))]
 pub fn same_colour(a: Colour, b: Colour) -> bool
     ensures { result ≡ same_colour a b }
 {

@@ -5,7 +5,8 @@ ghost use Rattle.ft_isa.specs.declared.colour.Colour.TheVariants.{Green, Blue};
 ghost use Rattle.ft_isa.specs.declared.instr.Instr.TheVariants.{Idx, JmpB, JmpG, Mov, OpReg, OpWord, St};
 ghost use Rattle.ft_isa.specs.declared.op.Op.TheVariants.{Add, Mul};
 ghost use Rattle.ft_typing.specs.Accepted.{CellType, EntryType, Refused, refusal};
-ghost use Rattle.ft_typing.specs.Examples.{blue, branches, doubles, five, green, int_cell, jumps, nothing_known, one_block, out, over_cells, r0, r1, r2, r9, r32, r33, r34, reads_pending, refs_upwards, run_of_three, stores_and_jumps, stores_five, stores_in_run, stores_nine_times, takes_address, two, two_blocks, with_instr};
+ghost use Rattle.ft_typing.specs.Examples.{blue, doubles, green, int_cell, nothing_known, one_block, out, over_cells, r0, r1, r2, r9, r32, r33, r34, reads_pending, refs_upwards, run_of_three, stores_five, stores_in_run, stores_nine_times, takes_address, two, with_instr};
+ghost use Rattle.ft_typing.specs.JumpExamples.{branches, five, jumps, stores_and_jumps, two_blocks};
 ghost use Rattle.ft_typing.specs.declared.why.Why.TheVariants as premise;
 ghost use Rattle.ft_isa.specs.BasicTypes.{code, int, ref};
 

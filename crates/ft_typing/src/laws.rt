@@ -4,7 +4,7 @@ ghost use Rattle.ft_isa.specs.declared.basic.Basic.{Basic};
 ghost use Rattle.ft_isa.specs.declared.instr.Instr.{Instr};
 ghost use Rattle.ft_types.specs.declared.object.Object.{Object};
 ghost use Rattle.ft_typing.specs.Context.{Context};
-ghost use Rattle.ft_typing.specs.TypingTable.{IsTheRow};
+ghost use Rattle.ft_typing.specs.TypingRow.{IsTheRow};
 ghost use Rattle.ft_typing.specs.TypedWord.{HasType, IsRunOf, IsSeenAs, has_type, is_seen_as, run_type};
 ghost use Rattle.ft_typing.specs.Accepted.{IsAccepted, refusal};
 

@@ -3,7 +3,7 @@
 //! The crate promises that the typing rule of an instruction is its row in the table of premises and
 //! effects, that its tests decide what their names say, and that an object is accepted exactly when it has
 //! no refusal. Its definitions: `specs/TypedWord.antt`, `specs/Premise.antt`, `specs/Context.antt`, the
-//! rules (`specs/TypingRow.antt`), the same as data (`specs/TypingTable.antt`), and `specs/Accepted.antt`.
+//! rules and the same as data (`specs/TypingRow.antt`), and `specs/Accepted.antt`.
 //! Objects that are accepted or refused are in `specs/Examples.antt`.
 #![tactic(auto)]
 

@@ -15,7 +15,9 @@ use Rattle.ft_format.specs.declared.header.Header.{Header}
 use Rattle.ft_format.specs.declared.places.Places.{Places}
 use Rattle.ft_format.specs.Layout.{numbers, cell_layout, code_layout, type_layout, reg_layout, pair_layout}
 use Rattle.ft_format.specs.Layout.{subst_layout}
-use Rattle.ft_format.specs.Values.{past_of, node_of, block_of, reg_type_of, pair_of, subst_node_of, basic_type_of}
+use Rattle.ft_format.specs.Values.{past_of, block_of, reg_type_of, pair_of, subst_node_of}
+use Rattle.ft_format.specs.NodeRecords.{node_of}
+use Rattle.ft_format.specs.Codes.{basic_type_of}
 use Rattle.ft_format.specs.Values.{regs_end_of, queue_end_of, type_ints_of, type_memory_of}
 use Rattle.ft_format.specs.Broken.{names_part, nodes_part, types_part, regs_part, queue_part, blocks_part, substs_part}
 use Rattle.ft_format.specs.Broken.{cells_part, nodes_read, regs_read, queue_read, header_at, object_of, tables_read}

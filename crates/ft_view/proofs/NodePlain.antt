@@ -5,9 +5,8 @@ use Rattle.ft_static.specs.declared.node.Node.{Node}
 use Rattle.ft_format.specs.declared.object_error.ObjectError.TheVariants as errors
 use Rattle.ft_format.specs.declared.version.Version.{Version}
 use Rattle.ft_format.specs.Versions.{last_node_kind}
-use Rattle.ft_format.specs.Rules.{must, ◌next◌, zero_broken, count_broken, node_op_broken, parts_broken}
-use Rattle.ft_format.specs.Rules.{variable_broken, node_broken}
-use Rattle.ft_format.specs.Values.{node_of}
+use Rattle.ft_format.specs.Rules.{must, ◌next◌, zero_broken, count_broken}
+use Rattle.ft_format.specs.NodeRecords.{node_op_broken, parts_broken, variable_broken, node_broken, node_of}
 use Rattle.ft_format.specs.Broken.{nodes_broken}
 use Rattle.ft_format.proofs.Unbroken.{both}
 use Rattle.ft_format.proofs.Codes.{le_held, lt_held}

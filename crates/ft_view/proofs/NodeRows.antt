@@ -9,7 +9,7 @@ use Rattle.ft_static.specs.declared.node.Node.{Node}
 use Rattle.ft_static.specs.NodeRules.{is_memory}
 use Rattle.ft_format.specs.Layout.{numbers, rows, code_layout}
 use Rattle.ft_format.specs.Rules.{is_of_sort, is_within}
-use Rattle.ft_format.specs.Values.{shape_of, node_of}
+use Rattle.ft_format.specs.NodeRecords.{shape_of, node_of}
 use Rattle.ft_format.proofs.Layouts.{length_rows}
 use Rattle.ft_format.proofs.Codes.{eq_false}
 use Rattle.ft_view.proofs.Records.{record_at}

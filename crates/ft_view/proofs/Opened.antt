@@ -11,12 +11,11 @@ use Rattle.ft_format.specs.declared.header.Header.{Header}
 use Rattle.ft_format.specs.declared.places.Places.{Places}
 use Rattle.ft_format.specs.Layout.{size, numbers, rows, code_layout}
 use Rattle.ft_format.specs.Format.{AreBytes}
-use Rattle.ft_format.specs.Rows.{instr_row}
+use Rattle.ft_format.specs.InstrRecords.{instr_row, instr_of}
 use Rattle.ft_format.specs.Broken.{header_at, instrs_at, instrs_part, instr_rows_of, instrs_read, object_of}
 use Rattle.ft_format.specs.Broken.{tables_read, broken}
-use Rattle.ft_format.specs.Values.{instr_of}
 use Rattle.ft_format.proofs.Layouts.{length_rows}
-use Rattle.ft_format.proofs.InstrsBack.{IsPlain, row_plain}
+use Rattle.ft_format.proofs.InstrsFine.{IsPlain, row_plain}
 use Rattle.ft_format.proofs.ReadWhole.{tables_of}
 use Rattle.ft_view.specs.Viewed.{IsView}
 use Rattle.ft_view.specs.Sections.{section_of}

@@ -3,7 +3,7 @@ use Rattle.std.proofs.Common.{◌≡◌, ℕ, ◌+◌, ◌*◌, List, [], ◌∷
 use Rattle.std.specs.Int.{Width}
 use Rattle.std.proofs.lemmas.List.{map-append}
 use Rattle.ft_format.specs.Layout.{size, numbers, rows, code_layout}
-use Rattle.ft_format.specs.Values.{node_of}
+use Rattle.ft_format.specs.NodeRecords.{node_of}
 use Rattle.ft_format.proofs.Layouts.{rows_plus}
 
 -- the first records, one more

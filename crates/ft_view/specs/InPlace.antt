@@ -3,7 +3,7 @@ use Rattle.std.specs.Prelude.{ℕ, List, drop}
 use Rattle.std.specs.Int.{w8, w32}
 use Rattle.ft_isa.specs.declared.instr.Instr.{Instr}
 use Rattle.ft_format.specs.Layout.{number_of}
-use Rattle.ft_format.specs.Values.{instr_by}
+use Rattle.ft_format.specs.InstrRecords.{instr_by}
 
 -- kind, a, b, c, x, and the two halves of v
 abbrev pub kind_in : List ℕ → ℕ

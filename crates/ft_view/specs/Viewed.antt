@@ -7,7 +7,7 @@ use Rattle.ft_format.specs.Format.{AreBytes}
 use Rattle.ft_format.specs.Layout.{rows, cell_layout, code_layout, type_layout, reg_layout, pair_layout, subst_layout}
 use Rattle.ft_format.specs.Broken.{cells_part, nodes_part, types_part, regs_part, queue_part, blocks_part, substs_part, header_at, broken}
 
--- the bytes are bytes that break no rule, this is their header, and these are the places that it gives
+-- these are bytes that break no rule, this is their header, and these are the places that it gives
 pub record IsView (h : Header) (p : Places) (bytes : List ℕ) : Type 0 where
   pub are_bytes : AreBytes bytes
   pub header : h ≡ header_at bytes

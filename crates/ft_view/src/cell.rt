@@ -2,7 +2,7 @@
 ghost use Rattle.std.specs.Prelude.{◌≡◌, ◌<◌, ◌≤◌, ◌^◌, OnOk};
 ghost use Rattle.ft_format.specs.Fields.{cell_numbers};
 ghost use Rattle.ft_format.specs.Rules.{cell_broken};
-ghost use Rattle.ft_format.specs.Values.{basic_type_of};
+ghost use Rattle.ft_format.specs.Codes.{basic_type_of};
 ghost use Rattle.ft_view.specs.Found.{Finds};
 
 use crate::parts::basic;

@@ -1,13 +1,13 @@
-//! Instructions, read where their records are: each kind reads its own fields and no others.
+//! The fields of an instruction's record, each read where it is.
 ghost use Rattle.std.specs.Prelude.{◌≡◌, ◌<◌, ◌≤◌, ◌+◌, length, drop};
 ghost use Rattle.std.specs.Int.{w8, w32};
 ghost use Rattle.ft_format.specs.Layout.{number_of};
 ghost use Rattle.ft_isa.specs.Operations.{last_op_code, op_of};
-ghost use Rattle.ft_format.specs.Values.{register_of, coloured};
-ghost use Rattle.ft_view.specs.InPlace.{kind_in, a_in, b_in, c_in, x_in, high_in, low_in, instr_in};
+ghost use Rattle.ft_format.specs.Codes.{register_of, coloured};
+ghost use Rattle.ft_view.specs.InPlace.{kind_in, a_in, b_in, c_in, x_in, high_in, low_in};
 
-use crate::parts::{basic_of_number, colour, register};
-use ft_isa::{Coloured, Instr, Op, Reg, Subst};
+use crate::parts::{colour, register};
+use ft_isa::{Coloured, Op, Reg, Subst};
 use ft_types::joined;
 
 /// The byte at a place.
@@ -25,7 +25,7 @@ fn byte_at(bytes: &[u8], at: usize) -> u8
 /// The number of four bytes at a place.
 #[inline(always)]
 #[tactic(auto, unfolding(ft_format::specs::Layout::number_of))]
-fn number_at(bytes: &[u8], at: usize) -> u32
+pub(crate) fn number_at(bytes: &[u8], at: usize) -> u32
     requires { at + 4 ≤ length bytes.now }
     ensures { result ≡ number_of w32 (drop at bytes.now) }
 {
@@ -36,7 +36,7 @@ fn number_at(bytes: &[u8], at: usize) -> u32
 
 /// The kind of a record.
 #[inline(always)]
-fn kind(bytes: &[u8]) -> u8
+pub(crate) fn kind(bytes: &[u8]) -> u8
     requires { 16 ≤ length bytes.now }
     ensures { result ≡ kind_in bytes.now }
 {
@@ -45,7 +45,7 @@ fn kind(bytes: &[u8]) -> u8
 
 /// The first register of a record.
 #[inline(always)]
-fn reg_a(bytes: &[u8]) -> Reg
+pub(crate) fn reg_a(bytes: &[u8]) -> Reg
     requires there { 16 ≤ length bytes.now }
     requires below { a_in bytes.now < 64 }
     ensures { result ≡ register_of (a_in bytes.now) }
@@ -55,7 +55,7 @@ fn reg_a(bytes: &[u8]) -> Reg
 
 /// The second register of a record.
 #[inline(always)]
-fn reg_b(bytes: &[u8]) -> Reg
+pub(crate) fn reg_b(bytes: &[u8]) -> Reg
     requires there { 16 ≤ length bytes.now }
     requires below { b_in bytes.now < 64 }
     ensures { result ≡ register_of (b_in bytes.now) }
@@ -65,7 +65,7 @@ fn reg_b(bytes: &[u8]) -> Reg
 
 /// The third register of a record.
 #[inline(always)]
-fn reg_c(bytes: &[u8]) -> Reg
+pub(crate) fn reg_c(bytes: &[u8]) -> Reg
     requires there { 16 ≤ length bytes.now }
     requires below { c_in bytes.now < 64 }
     ensures { result ≡ register_of (c_in bytes.now) }
@@ -75,7 +75,7 @@ fn reg_c(bytes: &[u8]) -> Reg
 
 /// The third byte after the kind: a colour, in most kinds.
 #[inline(always)]
-fn field_c(bytes: &[u8]) -> u8
+pub(crate) fn field_c(bytes: &[u8]) -> u8
     requires { 16 ≤ length bytes.now }
     ensures { result ≡ c_in bytes.now }
 {
@@ -84,7 +84,7 @@ fn field_c(bytes: &[u8]) -> u8
 
 /// The number x.
 #[inline(always)]
-fn field_x(bytes: &[u8]) -> u32
+pub(crate) fn field_x(bytes: &[u8]) -> u32
     requires { 16 ≤ length bytes.now }
     ensures { result ≡ x_in bytes.now }
 {
@@ -93,7 +93,7 @@ fn field_x(bytes: &[u8]) -> u32
 
 /// The operation of an existing code, by its last byte.
 #[inline(always)]
-fn known_op(code: u32) -> Op
+pub(crate) fn known_op(code: u32) -> Op
     requires { code ≤ last_op_code }
     ensures { result ≡ op_of code }
 {
@@ -102,7 +102,7 @@ fn known_op(code: u32) -> Op
 
 /// The word of a record, with its colour.
 #[inline(always)]
-fn coloured_in(bytes: &[u8]) -> Coloured
+pub(crate) fn coloured_in(bytes: &[u8]) -> Coloured
     requires { 16 ≤ length bytes.now }
     ensures { result ≡ coloured (c_in bytes.now) (high_in bytes.now) (low_in bytes.now) }
 {
@@ -114,7 +114,7 @@ fn coloured_in(bytes: &[u8]) -> Coloured
 
 /// The substitution of a blue jump or branch.
 #[inline(always)]
-fn subst_in(bytes: &[u8]) -> Subst
+pub(crate) fn subst_in(bytes: &[u8]) -> Subst
     requires { 16 ≤ length bytes.now }
     ensures { (result.first ≡ x_in bytes.now) × (result.past ≡ high_in bytes.now) × (result.memory ≡ low_in bytes.now) }
 {
@@ -122,69 +122,5 @@ fn subst_in(bytes: &[u8]) -> Subst
         first: field_x(bytes),
         past: number_at(bytes, 8),
         memory: number_at(bytes, 12),
-    }
-}
-
-/// The instruction of the record in the first 16 bytes, which breaks no rule. If the colour distinguishes two
-/// instructions of a kind, each has an arm of its own, so that the machine's loop makes this choice and no other.
-#[inline(always)]
-pub fn instr_in(bytes: &[u8]) -> Instr
-    requires there { 16 ≤ length bytes.now }
-    requires kind { kind_in bytes.now ≤ 8 }
-    requires op { kind_in bytes.now ≤ 1 → x_in bytes.now ≤ last_op_code }
-    requires a { a_in bytes.now < 64 }
-    requires b { b_in bytes.now < 64 }
-    requires c { c_in bytes.now < 64 }
-    ensures { result ≡ instr_in bytes.now }
-{
-    match kind(bytes) {
-        0 => Instr::OpReg {
-            op: known_op(field_x(bytes)),
-            rd: reg_a(bytes),
-            rs: reg_b(bytes),
-            rt: reg_c(bytes),
-        },
-        1 => Instr::OpWord {
-            op: known_op(field_x(bytes)),
-            rd: reg_a(bytes),
-            rs: reg_b(bytes),
-            value: coloured_in(bytes),
-        },
-        2 => Instr::Mov {
-            rd: reg_a(bytes),
-            value: coloured_in(bytes),
-            basic: basic_of_number(field_x(bytes)),
-        },
-        3 => Instr::Ld {
-            colour: colour(field_c(bytes)),
-            rd: reg_a(bytes),
-            rs: reg_b(bytes),
-        },
-        4 => Instr::St {
-            colour: colour(field_c(bytes)),
-            rd: reg_a(bytes),
-            rs: reg_b(bytes),
-        },
-        5 if field_c(bytes) == 0 => Instr::JmpG { rd: reg_a(bytes) },
-        5 => Instr::JmpB {
-            rd: reg_a(bytes),
-            subst: subst_in(bytes),
-        },
-        6 if field_c(bytes) == 0 => Instr::BzG {
-            rz: reg_a(bytes),
-            rd: reg_b(bytes),
-        },
-        6 => Instr::BzB {
-            rz: reg_a(bytes),
-            rd: reg_b(bytes),
-            subst: subst_in(bytes),
-        },
-        7 => Instr::Halt,
-        _ => Instr::Idx {
-            rd: reg_a(bytes),
-            rs: reg_b(bytes),
-            first: field_x(bytes),
-            length: number_at(bytes, 12),
-        },
     }
 }

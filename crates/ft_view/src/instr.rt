@@ -1,17 +1,22 @@
-//! Instructions: their rules.
-ghost use Rattle.std.specs.Prelude.{◌≡◌, ◌≤◌, ◌^◌};
+//! Instructions: their rules, and reading them where their records are. Each kind reads its own fields and no others.
+ghost use Rattle.std.specs.Prelude.{◌≡◌, ◌<◌, ◌≤◌, ◌^◌, length};
+ghost use Rattle.ft_isa.specs.Operations.{last_op_code};
 ghost use Rattle.ft_view.specs.Found.{Finds};
+ghost use Rattle.ft_view.specs.InPlace.{kind_in, a_in, b_in, c_in, x_in, instr_in};
 ghost use Rattle.ft_format.specs.Fields.{code_numbers};
-ghost use Rattle.ft_format.specs.Rules.{no_word_broken, basic_number_broken, substitution_broken, transfer_broken, op_reg_broken, op_word_broken, mov_broken, access_broken, jump_broken, branch_broken, halt_broken, run_broken, index_broken, instr_broken};
-ghost use Rattle.ft_format.specs.Values.{rows_past};
+ghost use Rattle.ft_format.specs.InstrRecords.{no_word_broken, basic_number_broken, substitution_broken, transfer_broken, op_reg_broken, op_word_broken, mov_broken, access_broken, jump_broken, branch_broken, halt_broken, run_broken, index_broken, instr_broken, rows_past};
 
+use crate::in_place::{
+    coloured_in, field_c, field_x, kind, known_op, number_at, reg_a, reg_b, reg_c, subst_in,
+};
 use crate::node_records::NodeRecords;
-use crate::parts::basic_numbers;
+use crate::parts::{basic_numbers, basic_of_number, colour};
 use crate::rules::{
     check, check_basic, check_colour, check_node_number, check_op, check_register, check_some,
     check_zero,
 };
 use ft_format::{CodeRow, Header, ObjectError, Version};
+use ft_isa::Instr;
 
 /// The word of a record, which is zero.
 fn check_no_word(at: usize, row: CodeRow) -> Result<(), ObjectError>
@@ -225,5 +230,69 @@ pub fn rows_past(first: u32, row: CodeRow) -> u32
     match row.kind {
         5 | 6 if row.c != 0 => row.high,
         _ => first,
+    }
+}
+
+/// The instruction of the record in the first 16 bytes, which breaks no rule. If the colour distinguishes two
+/// instructions of a kind, each has an arm of its own, so that the machine's loop makes this choice and no other.
+#[inline(always)]
+pub fn instr_in(bytes: &[u8]) -> Instr
+    requires there { 16 ≤ length bytes.now }
+    requires kind { kind_in bytes.now ≤ 8 }
+    requires op { kind_in bytes.now ≤ 1 → x_in bytes.now ≤ last_op_code }
+    requires a { a_in bytes.now < 64 }
+    requires b { b_in bytes.now < 64 }
+    requires c { c_in bytes.now < 64 }
+    ensures { result ≡ instr_in bytes.now }
+{
+    match kind(bytes) {
+        0 => Instr::OpReg {
+            op: known_op(field_x(bytes)),
+            rd: reg_a(bytes),
+            rs: reg_b(bytes),
+            rt: reg_c(bytes),
+        },
+        1 => Instr::OpWord {
+            op: known_op(field_x(bytes)),
+            rd: reg_a(bytes),
+            rs: reg_b(bytes),
+            value: coloured_in(bytes),
+        },
+        2 => Instr::Mov {
+            rd: reg_a(bytes),
+            value: coloured_in(bytes),
+            basic: basic_of_number(field_x(bytes)),
+        },
+        3 => Instr::Ld {
+            colour: colour(field_c(bytes)),
+            rd: reg_a(bytes),
+            rs: reg_b(bytes),
+        },
+        4 => Instr::St {
+            colour: colour(field_c(bytes)),
+            rd: reg_a(bytes),
+            rs: reg_b(bytes),
+        },
+        5 if field_c(bytes) == 0 => Instr::JmpG { rd: reg_a(bytes) },
+        5 => Instr::JmpB {
+            rd: reg_a(bytes),
+            subst: subst_in(bytes),
+        },
+        6 if field_c(bytes) == 0 => Instr::BzG {
+            rz: reg_a(bytes),
+            rd: reg_b(bytes),
+        },
+        6 => Instr::BzB {
+            rz: reg_a(bytes),
+            rd: reg_b(bytes),
+            subst: subst_in(bytes),
+        },
+        7 => Instr::Halt,
+        _ => Instr::Idx {
+            rd: reg_a(bytes),
+            rs: reg_b(bytes),
+            first: field_x(bytes),
+            length: number_at(bytes, 12),
+        },
     }
 }

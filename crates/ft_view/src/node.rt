@@ -5,8 +5,8 @@
 ghost use Rattle.std.specs.Prelude.{◌≡◌, ◌+◌, ◌<◌, ◌≤◌, ◌^◌};
 ghost use Rattle.ft_view.specs.Found.{Finds};
 ghost use Rattle.ft_format.specs.Fields.{node_numbers};
-ghost use Rattle.ft_format.specs.Rules.{◌next◌, zero_broken, count_broken, variable_broken, pair_broken, memory_broken, upd_broken, rem_broken, parts_broken, node_broken};
-ghost use Rattle.ft_format.specs.Values.{shape_of, node_of};
+ghost use Rattle.ft_format.specs.Rules.{◌next◌, zero_broken, count_broken};
+ghost use Rattle.ft_format.specs.NodeRecords.{variable_broken, pair_broken, memory_broken, upd_broken, rem_broken, parts_broken, node_broken, shape_of, node_of};
 
 use crate::node_records::NodeRecords;
 use crate::rules::{check, check_count, check_named, check_op, check_some, check_zero};

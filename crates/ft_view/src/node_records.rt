@@ -3,7 +3,7 @@ ghost use Rattle.std.specs.Prelude.{◌≡◌, ◌<◌, ◌≤◌, ◌*◌, Some
 ghost use Rattle.ft_format.specs.Fields.{node_numbers};
 ghost use Rattle.ft_format.specs.Layout.{rows, code_layout};
 ghost use Rattle.ft_format.specs.Rules.{is_of_sort, is_within};
-ghost use Rattle.ft_format.specs.Values.{node_of};
+ghost use Rattle.ft_format.specs.NodeRecords.{node_of};
 
 use crate::byte_part::stretch;
 use ft_format::NodeRow;
@@ -20,7 +20,7 @@ impl<'a> Model for NodeRecords<'a> {
     ghost use Rattle.std.specs.Prelude.{◌≤◌, ◌*◌, List, length, map};
     ghost use Rattle.ft_static.specs.declared.node.Node.{Node};
     ghost use Rattle.ft_format.specs.Layout.{rows, code_layout};
-    ghost use Rattle.ft_format.specs.Values.{node_of};
+    ghost use Rattle.ft_format.specs.NodeRecords.{node_of};
 
     ghost Value = { List Node };
 

@@ -1,6 +1,6 @@
 //! Parts that the numbers of several records stand for.
 ghost use Rattle.std.specs.Prelude.{◌≡◌, ◌<◌, ◌/◌, ◌%◌, ◌^◌};
-ghost use Rattle.ft_format.specs.Values.{register_of, colour_of, base_of, basic_type_of};
+ghost use Rattle.ft_format.specs.Codes.{register_of, colour_of, base_of, basic_type_of};
 
 use ft_isa::{Base, Basic, Colour, Reg};
 

@@ -4,7 +4,7 @@ ghost use Rattle.std.specs.Prelude.{◌≡◌, ◌<◌, ◌≤◌, ◌^◌, ◌�
 use crate::block::read_block;
 use crate::byte_part::stretch;
 use crate::cell::read_cell;
-use crate::in_place::instr_in;
+use crate::instr::instr_in;
 use crate::node::read_node;
 use crate::reg::read_reg;
 use crate::section::Section;
@@ -41,7 +41,8 @@ impl<'a> View<'a> {
     ghost use Rattle.std.specs.Prelude.{take};
     ghost use Rattle.ft_types.specs.Objects.{name_of};
     ghost use Rattle.ft_types.specs.NodeRows.{node_row};
-    ghost use Rattle.ft_format.specs.Values.{node_of, past_of, regs_end_of, queue_end_of};
+    ghost use Rattle.ft_format.specs.NodeRecords.{node_of};
+    ghost use Rattle.ft_format.specs.Values.{past_of, regs_end_of, queue_end_of};
     ghost use Rattle.ft_format.specs.Fields.{cell_numbers, node_numbers, type_numbers, reg_numbers, pair_numbers, subst_numbers};
     ghost use Rattle.ft_format.specs.Broken.{header_at, version_at, instr_rows_of, object_of, broken};
     ghost use Rattle.ft_format.specs.declared.version.Version.{Version};
@@ -142,7 +143,7 @@ impl<'a> View<'a> {
         ensures there { slice_get (instr_rows_of (header_at self.now) self.now) (at / 16) ≡ Some (numbers code_layout result.now) }
         ensures known { IsKnown result.now }
     {
-        // The proof knows the view's invariant only where a field is read; so it is below.
+        // The proof knows the view's invariant only where a field is read, so one is read here.
         let _ = &self.header;
         stretch(code, at, INSTR_BYTES)
     }
@@ -267,6 +268,8 @@ impl<'a> Program for View<'a> {
         self.header.entry
     }
 
+    // Callers take the instruction apart at once: built out of line, each read would store and load all fields.
+    #[inline(always)]
     fn instr(&self, i: u32) -> Instr {
         self.fetch(self.code(), i as usize * INSTR_BYTES)
     }

@@ -5,7 +5,7 @@ use crate::streams::{STANDARD_ERROR, STANDARD_INPUT, STANDARD_OUTPUT, is_pipe, i
 use crate::watched::Watched;
 use crate::{NO_MEMORY, NOT_WRITTEN, answer, ended};
 use ft_edge::{FolderShelf, GatheringSink, MemShelf, Shelf};
-use ft_explain::{LastLine, asks_for_version, explain};
+use ft_explain::{LastLine, asks_for_version, explain, form_of_words};
 use ft_isa::NoMemory;
 use std::alloc::Global;
 use std::rt::{Env, Files};
@@ -166,7 +166,7 @@ pub(crate) fn run<R: Env + Files + Print + Eprint + Input + AllocGlobal + Clone 
         let _ = rt.eprint(COMMANDS);
     }
     let is_shown = is_terminal(rt, STANDARD_OUTPUT);
-    let mut watched = Watched::new(rt, io::writer(rt), is_shown);
+    let mut watched = Watched::new(rt, io::writer(rt), form_of_words(words), is_shown);
     let Ok(out) = GatheringSink::new(rt.alloc(), &mut watched) else {
         return Ok(NO_MEMORY);
     };

@@ -1,8 +1,10 @@
 //! What the system has under a name.
+use crate::streams::STANDARD_OUTPUT;
 use ft_explain::{Found, Look};
 use std::fs;
 use std::fs::File;
 use std::io::ErrorKind;
+use std::os::unix::fs::MetadataExt;
 use std::rt::Files;
 
 /// The folders of the system.
@@ -34,12 +36,26 @@ fn found<R: Files>(rt: &R, name: &str) -> Found {
     }
 }
 
+/// Whether standard output is the file of this name.
+fn is_output<R: Files>(rt: &R, name: &str) -> bool {
+    match (fs::metadata(rt, name), fs::metadata(rt, STANDARD_OUTPUT)) {
+        (Ok(file), Ok(output)) => {
+            output.is_file() && file.dev() == output.dev() && file.ino() == output.ino()
+        }
+        _ => false,
+    }
+}
+
 /// The name of standard input.
 const STANDARD_INPUT: &str = "/dev/stdin";
 
 impl<R: Files> Look for Folders<'_, R> {
     fn look(&self, name: &str) -> Found {
         found(self.rt, name)
+    }
+
+    fn is_output(&self, name: &str) -> bool {
+        is_output(self.rt, name)
     }
 
     fn input(&self) -> Found {

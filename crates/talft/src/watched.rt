@@ -4,9 +4,11 @@ ghost use Rattle.std.specs.Prelude.{◌≡◌};
 use std::io;
 use std::io::{Error, ErrorKind, Write};
 
-/// The message before an object goes to a terminal.
-const BINARY: &str =
-    "talft: note: an object is binary: redirect it to a file, as in `talft compile SOURCE >FILE.obj`\n";
+/// The message before an object goes to a terminal, up to the form of the command.
+const BINARY: &str = "talft: note: an object is binary: redirect it to a file, as in `talft ";
+
+/// The message after the form of the command.
+const REDIRECTED: &str = " >FILE.obj`\n";
 
 /// What an object begins with.
 const MAGIC: &[u8] = b"TALFT";
@@ -20,6 +22,7 @@ const CLOSED: i32 = 9;
 pub(crate) struct Watched<'r, R: Eprint, W: Write> {
     rt: &'r R,
     out: W,
+    form: &'static str,
     is_terminal: bool,
     has_shown_object: bool,
     reason: &'static str,
@@ -38,11 +41,12 @@ fn reason_of(error: &Error) -> &'static str {
 }
 
 impl<'r, R: Eprint, W: Write> Watched<'r, R, W> {
-    /// A writer over this one, which leads to a terminal or not.
-    pub fn new(rt: &'r R, out: W, is_terminal: bool) -> Watched<'r, R, W> {
+    /// A writer over this one, which leads to a terminal or not, for a command of this form.
+    pub fn new(rt: &'r R, out: W, form: &'static str, is_terminal: bool) -> Watched<'r, R, W> {
         Watched {
             rt,
             out,
+            form,
             is_terminal,
             has_shown_object: false,
             reason: "",
@@ -67,6 +71,8 @@ impl<R: Eprint, W: Write> Write for Watched<'_, R, W> {
         if self.is_terminal && buf.starts_with(MAGIC) {
             self.has_shown_object = true;
             let _ = self.rt.eprint(BINARY);
+            let _ = self.rt.eprint(self.form);
+            let _ = self.rt.eprint(REDIRECTED);
         }
         match self.out.write(buf) {
             Ok(count) => Ok(count),

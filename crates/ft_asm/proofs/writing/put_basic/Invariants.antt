@@ -1,5 +1,5 @@
 use Rattle.std.proofs.Common.{◌≡◌, ◌-◌, ◌++◌}
-use Rattle.ft_asm.specs.Lines.{refs_word, basic_word}
+use Rattle.ft_asm.specs.Operands.{refs_word, basic_word}
 use Rattle.ft_asm.proofs.writing.put_basic.Given as goal
 
 abbrev pub invariant-loop : goal.invariant-loop

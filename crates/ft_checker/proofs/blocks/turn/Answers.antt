@@ -4,7 +4,7 @@ use Rattle.ft_isa.specs.declared.instr.Instr.{Instr}
 use Rattle.ft_typing.specs.Accepted.{after_row}
 use Rattle.ft_typing.specs.Context.{Context}
 use Rattle.ft_typing.specs.Premise.{Premise}
-use Rattle.ft_typing.specs.TypingRow.{Outcome}
+use Rattle.ft_typing.specs.RowWords.{Outcome}
 use Rattle.ft_rules.specs.declared.why.RuleError.{RuleError}
 use Rattle.ft_rules.specs.declared.why.RuleError.TheVariants.{Refused, NoMemory}
 use Rattle.ft_rules.specs.Answers.{IsRefusal}

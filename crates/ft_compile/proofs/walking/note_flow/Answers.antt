@@ -4,7 +4,7 @@ use Rattle.std.specs.List.{All}
 use Rattle.ft_lower.specs.Flow.{blocks_of}
 use Rattle.ft_lower.specs.Size.{PairsBelow, pairs_of}
 use Rattle.ft_dup.proofs.WellFormedBlocks.{all_mapped}
-use Rattle.ft_compile.specs.Emitted.{blocks_noted, row_noted, begun}
+use Rattle.ft_compile.specs.Noted.{blocks_noted, row_noted, begun}
 use Rattle.ft_compile.specs.Viewed.{noted_of}
 use Rattle.ft_compile.proofs.Turns.{room_at_first, block_turn}
 use Rattle.ft_compile.proofs.walking.note_flow.Goals as goal

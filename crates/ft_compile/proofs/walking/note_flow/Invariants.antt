@@ -1,7 +1,8 @@
 use Rattle.std.proofs.Common.{◌≡◌, drop, map}
 use Rattle.ft_lower.specs.Flow.{blocks_of}
 use Rattle.ft_lower.specs.Size.{blocks_size}
-use Rattle.ft_compile.specs.Emitted.{blocks_noted, noted, scope_of_block}
+use Rattle.ft_compile.specs.Emitted.{noted}
+use Rattle.ft_compile.specs.Noted.{blocks_noted, scope_of_block}
 use Rattle.ft_compile.specs.Viewed.{HasRoom, noted_of}
 use Rattle.ft_compile.proofs.walking.note_flow.Given as goal
 

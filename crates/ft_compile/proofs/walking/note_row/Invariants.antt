@@ -1,6 +1,6 @@
 use Rattle.std.proofs.Common.{◌≡◌, drop}
 use Rattle.ft_lower.specs.Size.{row_size}
-use Rattle.ft_compile.specs.Emitted.{row_noted}
+use Rattle.ft_compile.specs.Noted.{row_noted}
 use Rattle.ft_compile.specs.Viewed.{HasRoom, noted_of}
 use Rattle.ft_compile.proofs.walking.note_row.Given as goal
 

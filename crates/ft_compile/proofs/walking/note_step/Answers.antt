@@ -1,5 +1,5 @@
 use Rattle.std.proofs.Common.{◌∙◌, ap, sym}
-use Rattle.ft_compile.specs.Emitted.{step_noted}
+use Rattle.ft_compile.specs.Noted.{step_noted}
 use Rattle.ft_compile.specs.Viewed.{noted_of}
 use Rattle.ft_compile.proofs.walking.note_step.Goals as goal
 

@@ -4,7 +4,8 @@ use Rattle.ft_types.specs.NodeRows.{node_row}
 use Rattle.ft_format.specs.Puts.{Puts}
 use Rattle.ft_format.specs.Layout.{written, spelled, header_layout, cell_layout, code_layout, type_layout, reg_layout}
 use Rattle.ft_format.specs.Layout.{pair_layout, subst_layout}
-use Rattle.ft_format.specs.Rows.{header_row, cell_rows, type_rows, reg_row, queue_row, block_row, instr_row, subst_row}
+use Rattle.ft_format.specs.Rows.{header_row, cell_rows, type_rows, reg_row, queue_row, block_row, subst_row}
+use Rattle.ft_format.specs.InstrRecords.{instr_row}
 use Rattle.ft_format.specs.Rows.{all_regs, all_queue, all_names, spelling}
 use Rattle.ft_encode.proofs.Puts.{spelled_map, spelled_parts}
 use Rattle.ft_format.specs.declared.version.Version.TheVariants.{Second}

@@ -1,7 +1,7 @@
 use Rattle.std.proofs.Common.{refl}
 use Rattle.std.specs.FinMap.{get-empty}
 use Rattle.ft_typing.specs.TypedWord.{same_basic}
-use Rattle.ft_typing.specs.TypingRow.{same_colour}
+use Rattle.ft_typing.specs.RowWords.{same_colour}
 use Rattle.ft_types.proofs.Maps.{get-insert}
 use Rattle.ft_modules.proofs.Elements.{get-remove}
 use Rattle.ft_modules.specs.CodeWalk.{code_walk}

@@ -1,6 +1,6 @@
 use Rattle.std.proofs.Common.{◌≡◌, List, [], ◌∷◌, drop, slice_get, Some, ap}
 use Rattle.ft_typing.specs.Context.{FormPair}
-use Rattle.ft_typing.specs.TypingRow.{Outcome, for_oldest}
+use Rattle.ft_typing.specs.RowWords.{Outcome, for_oldest}
 use Rattle.ft_contexts.specs.Contexts.{context_in, pair_in}
 use Rattle.ft_rules.proofs.premises.oldest.Goals as goal
 

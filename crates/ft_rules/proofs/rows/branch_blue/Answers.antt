@@ -4,7 +4,7 @@ use Rattle.ft_contexts.proofs.Kept.{keeps_itself}
 use Rattle.std.proofs.Common.{ap, length, sym}
 use Rattle.ft_static.specs.Form.{updates}
 use Rattle.ft_typing.specs.Context.{Context as Defined, d_zero}
-use Rattle.ft_typing.specs.TypingRow.{Goes}
+use Rattle.ft_typing.specs.RowWords.{Goes}
 use Rattle.ft_contexts.proofs.Kept.{forms_kept, context_stays}
 use Rattle.ft_rules.proofs.rows.branch_blue.Goals as goal
 

@@ -2,7 +2,7 @@ use Rattle.std.proofs.Common.{length}
 use Rattle.ft_static.specs.Form.{updates}
 use Rattle.ft_typing.specs.Context.{Context as Defined}
 use Rattle.std.proofs.Common.{refl, sym, ap, ◌∙◌}
-use Rattle.ft_typing.specs.TypingRow.{Goes}
+use Rattle.ft_typing.specs.RowWords.{Goes}
 use Rattle.ft_contexts.proofs.Kept.{keeps_itself}
 use Rattle.ft_rules.proofs.Chains.{grows_same, does_exit, does_go}
 use Rattle.ft_rules.proofs.rows.jump_green.Goals as goal

@@ -1,6 +1,6 @@
 use Rattle.ft_contexts.specs.Contexts.{pair_in}
 use Rattle.std.proofs.Common.{refl, sym, ap, ◌∙◌}
-use Rattle.ft_typing.specs.TypingRow.{Goes}
+use Rattle.ft_typing.specs.RowWords.{Goes}
 use Rattle.ft_contexts.proofs.Kept.{keeps_itself}
 use Rattle.ft_rules.proofs.Chains.{grows_pair, does_go, does_exit, does_stop}
 use Rattle.ft_rules.proofs.rows.store_green.Goals as goal

@@ -2,7 +2,7 @@ use Rattle.std.proofs.Common.{refl, ◌∙◌}
 use Rattle.ft_isa.specs.declared.basic.Basic.{Basic}
 use Rattle.ft_norm.specs.Held.{polynomial}
 use Rattle.ft_typing.specs.Context.{with_type}
-use Rattle.ft_typing.specs.TypingRow.{Goes, Outcome, run_form}
+use Rattle.ft_typing.specs.RowWords.{Goes, Outcome, run_form}
 use Rattle.ft_contexts.specs.Contexts.{context_in}
 use Rattle.ft_contexts.proofs.Kept.{keeps_itself}
 use Rattle.ft_rules.proofs.Chains.{does_exit, does_stop, does_note}

@@ -4,14 +4,13 @@ use Rattle.std.specs.List.{list_all}
 use Rattle.std.proofs.lemmas.Bool.{and_parts}
 use Rattle.std.proofs.lemmas.List.{length-map}
 use Rattle.ft_isa.specs.declared.instr.Subst.{Subst}
-use Rattle.ft_static.specs.Form.{Form as Normal, updates}
+use Rattle.ft_static.specs.Form.{Form as Normal, updates, same_updates}
 use Rattle.ft_norm.specs.Held.{polynomial, updates_held}
 use Rattle.ft_types.specs.declared.object.Object.{Object}
 use Rattle.ft_types.specs.Objects.{ints_of, scope_of, memory_of, reg_rows, queue_rows}
 use Rattle.ft_typing.specs.Context.{Context, Replacement, replacement, rows_of, integer_form_of, memory_form_after}
-use Rattle.ft_typing.specs.TypingRow.{leads, is_annotated, are_like, is_queue_like}
+use Rattle.ft_typing.specs.RowWords.{leads, is_annotated, are_like, is_queue_like}
 use Rattle.ft_types.specs.declared.object.RegType.{RegType}
-use Rattle.ft_static.specs.FormOrder.{same_updates}
 use Rattle.ft_norm.proofs.HeldForms.{keeps_both}
 use Rattle.ft_contexts.specs.declared.variables.Variables.{Variables}
 use Rattle.ft_contexts.specs.Contexts.{replacement_in, context_in}

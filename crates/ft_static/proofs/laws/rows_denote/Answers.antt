@@ -2,7 +2,8 @@ use Rattle.std.proofs.Common.{refl, ◌∙◌}
 use Rattle.std.proofs.Math.Nat.{mod-eq_of_lt}
 use Rattle.ft_static.specs.Form.{variable_atom}
 use Rattle.ft_static.proofs.Sums.{value_alone, value_polynomial_is_word, value_updates_are_words}
-use Rattle.ft_static.proofs.FormsDenote.{value_constant, value_op, value_rem, value_sel, value_upd}
+use Rattle.ft_static.proofs.FormsDenote.{value_constant}
+use Rattle.ft_static.proofs.FormRows.{value_op, value_rem, value_sel, value_upd}
 use Rattle.ft_static.proofs.laws.rows_denote.Goals as goal
 
 pub returns : goal.returns

@@ -1,4 +1,5 @@
-use Rattle.ft_static.proofs.Under.{norm-substitute, value-substitute, value_under, valuation_under-lawful}
+use Rattle.ft_static.proofs.Under.{norm-substitute, value-substitute, valuation_under-lawful}
+use Rattle.ft_static.proofs.FormRows.{value_under}
 use Rattle.ft_static.proofs.Under.{norm_under_itself}
 use Rattle.ft_static.proofs.laws.substitution_is_on_forms.Goals as goal
 

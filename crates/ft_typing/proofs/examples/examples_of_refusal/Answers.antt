@@ -4,9 +4,9 @@ use Rattle.ft_isa.specs.Words.{apply}
 use Rattle.ft_typing.specs.TypedWord.{block_at, cell_of, same_basic, is_seen_as, common_type, run_type, has_type}
 use Rattle.ft_typing.specs.Context.{integer_form_of, memory_form_of, integer_form_after, memory_form_after, replacement}
 use Rattle.ft_typing.specs.Context.{registers_after}
-use Rattle.ft_typing.specs.TypingRow.{same_colour, need, for_typed, for_ref_over, for_code_over, for_zero, for_target}
-use Rattle.ft_typing.specs.TypingRow.{for_conditional, for_oldest, for_run, is_empty, pending_memory, is_like}
-use Rattle.ft_typing.specs.TypingRow.{is_queue_like, is_annotated, leads}
+use Rattle.ft_typing.specs.RowWords.{same_colour, need, for_typed, for_ref_over, for_code_over, for_zero, for_target}
+use Rattle.ft_typing.specs.RowWords.{for_conditional, for_oldest, for_run, is_empty, pending_memory, is_like}
+use Rattle.ft_typing.specs.RowWords.{is_queue_like, is_annotated, leads}
 use Rattle.ft_typing.specs.Accepted.{is_entry_type, after_row, walk, first_refusal}
 use Rattle.ft_types.proofs.Maps.{get-insert}
 use Rattle.ft_typing.proofs.examples.examples_of_refusal.Goals as goal

@@ -1,5 +1,5 @@
 use Rattle.std.proofs.Common.{sym, ap, ◌∙◌}
-use Rattle.ft_format.specs.Values.{register_of}
+use Rattle.ft_format.specs.Codes.{register_of}
 use Rattle.ft_format.proofs.Codes.{register_back}
 use Rattle.ft_view.proofs.parts.register.Goals as goal
 

@@ -1,7 +1,8 @@
 use Rattle.std.proofs.Common.{◌≡◌, ◌∷◌, map}
 use Rattle.std.specs.List.{range_with_len}
 use Rattle.ft_static.specs.declared.node.Shape.TheVariants as shape
-use Rattle.ft_compile.specs.Emitted.{node, variable_node}
+use Rattle.ft_compile.specs.Emitted.{variable_node}
+use Rattle.ft_compile.specs.Noted.{node}
 use Rattle.ft_compile.proofs.notes.Notes.new.Given as goal
 
 abbrev pub invariant-loop-i : goal.invariant-loop-i

@@ -1,7 +1,7 @@
 use Rattle.std.proofs.Common.{◌≡◌, ◌+◌, ◌≤◌, map, drop}
 use Rattle.ft_static.specs.Form.{updates}
 use Rattle.ft_norm.specs.Held.{IsMemory, Keeps, updates_held}
-use Rattle.ft_typing.specs.TypingRow.{pending_memory}
+use Rattle.ft_typing.specs.RowWords.{pending_memory}
 use Rattle.ft_contexts.specs.Contexts.{pair_in}
 use Rattle.ft_contexts.proofs.context.Context.pending.Given as goal
 

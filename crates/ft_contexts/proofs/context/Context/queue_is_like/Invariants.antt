@@ -3,7 +3,7 @@ use Rattle.ft_static.specs.Form.{updates}
 use Rattle.ft_contexts.specs.Costs.{tree_cost}
 use Rattle.ft_norm.specs.Held.{Keeps, updates_held}
 use Rattle.ft_types.specs.Objects.{queue_rows}
-use Rattle.ft_typing.specs.TypingRow.{is_queue_like}
+use Rattle.ft_typing.specs.RowWords.{is_queue_like}
 use Rattle.ft_contexts.specs.Contexts.{RemembersUnder, context_in, replacement_in}
 use Rattle.ft_contexts.proofs.context.Context.queue_is_like.Given as goal
 

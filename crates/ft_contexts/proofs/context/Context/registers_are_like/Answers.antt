@@ -6,7 +6,7 @@ use Rattle.ft_types.specs.declared.object.RegType.{RegType}
 use Rattle.ft_types.specs.Objects.{reg_rows}
 use Rattle.ft_typing.specs.Context.{typed, Replacement}
 use Rattle.ft_typing.specs.Context.{Context as Defined}
-use Rattle.ft_typing.specs.TypingRow.{is_like}
+use Rattle.ft_typing.specs.RowWords.{is_like}
 use Rattle.ft_contexts.specs.Contexts.{context_in, replacement_in}
 use Rattle.ft_static.specs.Form.{updates}
 use Rattle.ft_norm.specs.Held.{updates_held}

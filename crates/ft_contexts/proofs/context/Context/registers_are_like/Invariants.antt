@@ -3,7 +3,7 @@ use Rattle.ft_static.specs.Form.{updates}
 use Rattle.ft_contexts.specs.Costs.{tree_cost}
 use Rattle.ft_norm.specs.Held.{Keeps, updates_held}
 use Rattle.ft_types.specs.Objects.{reg_rows}
-use Rattle.ft_typing.specs.TypingRow.{are_like}
+use Rattle.ft_typing.specs.RowWords.{are_like}
 use Rattle.ft_contexts.specs.Contexts.{RemembersUnder, context_in, replacement_in}
 use Rattle.ft_contexts.proofs.context.Context.registers_are_like.Given as goal
 

@@ -42,8 +42,8 @@ returns-then-len-le-MONOMIALS-clause-form c =
       c.if-len-le-MONOMIALS.true,
     )))) c.integer.ensures.form
 
-pub alone-requires : goal.alone-requires
-alone-requires c =
+pub alone-requires-clause-reach : goal.alone-requires-clause-reach
+alone-requires-clause-reach c =
     let x = integer_within c.args.self.now c.args.a _ c.requires.first.found in
     let y = integer_within c.args.self.now c.args.b _ c.requires.second.found in
     omega (arith, x, y)

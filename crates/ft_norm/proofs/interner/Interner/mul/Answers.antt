@@ -6,8 +6,8 @@ use Rattle.ft_norm.proofs.Limits.{product_large, product_small}
 use Rattle.ft_norm.proofs.HeldForms.{integer_within, made}
 use Rattle.ft_norm.proofs.interner.Interner.mul.Goals as goal
 
-pub alone-requires : goal.alone-requires
-alone-requires c =
+pub alone-requires-clause-reach : goal.alone-requires-clause-reach
+alone-requires-clause-reach c =
     let x = integer_within c.args.self.now c.args.a _ c.requires.first.found in
     let y = integer_within c.args.self.now c.args.b _ c.requires.second.found in
     omega (arith, x, y)

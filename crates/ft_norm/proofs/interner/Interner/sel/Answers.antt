@@ -12,8 +12,8 @@ pub walk_from-requires-clause-at : goal.walk_from-requires-clause-at
 walk_from-requires-clause-at g c = integer_seen c.self.inside.entries.keys c.as_slice.result.now c.args.self.now
     c.args.at c.self.view_is c.as_slice.ensures.keys c.requires.address
 
-pub alone-requires : goal.alone-requires
-alone-requires g c =
+pub alone-requires-clause-reach : goal.alone-requires-clause-reach
+alone-requires-clause-reach g c =
     let y = integer_within c.args.self.now c.args.at _ c.requires.address.found in
     let v : forms_of c.as_slice.result.now ≡ c.args.self.now = ap forms_of c.as_slice.ensures.keys ∙ c.self.view_is in
     let e : EndsWithin c.args.self.now c.walk_from.result = rw v at c.walk_from.ensures.ends in

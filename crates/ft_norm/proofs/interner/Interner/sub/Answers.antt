@@ -54,8 +54,8 @@ integer-requires-2-clause-count c = rw (
   length-map (terms_of c.terms-q.result) negated_term,
 ) c.terms-q.ensures.count
 
-pub alone-requires : goal.alone-requires
-alone-requires c =
+pub alone-requires-clause-reach : goal.alone-requires-clause-reach
+alone-requires-clause-reach c =
     let x = integer_within c.integer-2.new.self c.args.a _
     (c.in_ok-negation.ensures.kept.forms_stay c.args.a _ c.requires.first.found) in
     let y = integer_within c.integer-2.new.self c.in_ok-negation.negation _ c.in_ok-negation.ensures.form in

@@ -1,5 +1,5 @@
 use Rattle.std.proofs.Common.{Some, map, sym, ap, ◌∙◌}
-use Rattle.ft_static.specs.FormUnder.{form_under}
+use Rattle.ft_static.specs.NormalForm.{form_under}
 use Rattle.ft_static.specs.NodeTree.{trees}
 use Rattle.ft_static.proofs.Denote.{node_form}
 use Rattle.ft_norm.specs.Held.{polynomials, updates_held}

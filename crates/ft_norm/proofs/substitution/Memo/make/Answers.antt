@@ -1,7 +1,7 @@
 use Rattle.std.proofs.Common.{◌≡◌, ◌+◌, ◌∙◌, nat_eq, ap, arith, refl, length, Some, length-append, [], ◌∷◌}
 use Rattle.indexmap.specs.IndexMap.{get}
 use Rattle.ft_static.specs.Form.{updates}
-use Rattle.ft_static.specs.FormUnder.{form_under}
+use Rattle.ft_static.specs.NormalForm.{form_under}
 use Rattle.ft_static.specs.NodeTree.{tree_at}
 use Rattle.ft_norm.specs.Held.{held, polynomials, updates_held}
 use Rattle.ft_norm.specs.Parts.{form_of_parts, updates_of_parts}

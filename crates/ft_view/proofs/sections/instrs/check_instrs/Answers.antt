@@ -3,8 +3,7 @@ use Rattle.std.proofs.lemmas.List.{length-drop}
 use Rattle.std.proofs.lemmas.Result.{err_from_is_err_and}
 use Rattle.ft_format.specs.Layout.{numbers, code_layout}
 use Rattle.ft_format.specs.Fields.{code_numbers}
-use Rattle.ft_format.specs.Rules.{instr_broken}
-use Rattle.ft_format.specs.Values.{rows_past}
+use Rattle.ft_format.specs.InstrRecords.{instr_broken, rows_past}
 use Rattle.ft_format.specs.Broken.{instrs_broken, rows_taken}
 use Rattle.ft_format.proofs.Loops.{goes, stops, ends, follows}
 use Rattle.ft_format.proofs.Substitutions.{past_within}

@@ -4,8 +4,7 @@ use Rattle.std.proofs.lemmas.List.{length-drop}
 use Rattle.std.proofs.lemmas.Result.{err_from_is_err_and}
 use Rattle.ft_format.specs.Layout.{numbers, rows, code_layout}
 use Rattle.ft_format.specs.Fields.{node_numbers}
-use Rattle.ft_format.specs.Rules.{node_broken}
-use Rattle.ft_format.specs.Values.{node_of}
+use Rattle.ft_format.specs.NodeRecords.{node_broken, node_of}
 use Rattle.ft_format.specs.Broken.{nodes_broken}
 use Rattle.ft_format.proofs.Loops.{goes, stops, ends, past_more}
 use Rattle.ft_view.proofs.RowsAfter.{nodes_snoc, no_nodes}

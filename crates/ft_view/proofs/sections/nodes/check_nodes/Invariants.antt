@@ -1,6 +1,6 @@
 use Rattle.std.proofs.Common.{◌≡◌, ◌+◌, ◌-◌, ◌*◌, ◌^◌, ◌≤◌, [], length, drop, map}
 use Rattle.ft_format.specs.Layout.{rows, code_layout}
-use Rattle.ft_format.specs.Values.{node_of}
+use Rattle.ft_format.specs.NodeRecords.{node_of}
 use Rattle.ft_format.specs.Broken.{nodes_broken}
 use Rattle.ft_view.proofs.sections.nodes.check_nodes.Given as goal
 

@@ -1,4 +1,4 @@
-use Rattle.std.proofs.Common.{◌≡◌, ◌+◌, ◌*◌, ◌/◌, ◌≤◌, length, take, drop, None, refl, sym, subst}
+use Rattle.std.proofs.Common.{◌≡◌, ◌+◌, ◌/◌, ◌≤◌, length, take, drop, None, refl, sym, subst}
 use Rattle.ft_format.specs.Format.{AreBytes}
 use Rattle.ft_format.specs.Broken.{broken}
 use Rattle.ft_view.proofs.Opened.{code_inside, code_there, instr_known}

@@ -1,5 +1,5 @@
 use Rattle.std.proofs.Common.{◌<◌, ◌/◌, ap, ◌∙◌, sym, subst}
-use Rattle.ft_format.specs.Values.{instr_of}
+use Rattle.ft_format.specs.InstrRecords.{instr_of}
 use Rattle.ft_view.proofs.Opened.{instr_count, instr_is, numbers_in}
 use Rattle.ft_view.proofs.view.ViewProgram.fetch.Goals as goal
 

@@ -1,7 +1,7 @@
 use Rattle.std.proofs.Common.{refl, arith}
 use Rattle.ft_asm.specs.Pieces.{row_text}
 use Rattle.ft_asm.proofs.PieceLaws.{range_goes, range_ends}
-use Rattle.ft_asm.proofs.instructions.put_rows.Goals as goal
+use Rattle.ft_asm.proofs.code_lines.put_rows.Goals as goal
 
 pub loop-n-init : goal.loop-n-init
 loop-n-init g c = refl

@@ -1,29 +1,22 @@
--- The table of typing rows, as data: for each instruction the tests that it makes, in order, and its effect; for each
--- test the premise that fails if it does not hold.
-use Rattle.std.specs.Prelude.{ℕ, zero, suc, Bool, true, false, ◌&&◌, not, ◌==◌, ◌≡◌, nat_lt, if◌then◌else◌, List, [], ◌∷◌, ◌++◌, length, Option, Some, None, is_some}
+-- The tests of the typing rows, as data: for each the premise that fails if it does not hold, and whether it holds.
+use Rattle.std.specs.Prelude.{ℕ, zero, suc, Bool, true, false, ◌&&◌, not, ◌==◌, nat_lt, List, [], ◌∷◌, length, is_some}
 use Rattle.std.specs.Option.{unwrap_or}
 use Rattle.ft_isa.specs.declared.basic.Base.{Base}
 use Rattle.ft_isa.specs.declared.basic.Base.TheVariants.{Int, Code}
 use Rattle.ft_isa.specs.declared.basic.Basic.{Basic}
 use Rattle.ft_isa.specs.declared.colour.Colour.{Colour}
-use Rattle.ft_isa.specs.declared.colour.Colour.TheVariants.{Green, Blue}
+use Rattle.ft_isa.specs.declared.colour.Colour.TheVariants.{Green}
 use Rattle.ft_isa.specs.declared.reg.Reg.{Reg}
 use Rattle.ft_isa.specs.declared.instr.Subst.{Subst}
-use Rattle.ft_isa.specs.declared.instr.Instr.{Instr}
-use Rattle.ft_isa.specs.declared.instr.Instr.TheVariants.{OpReg, OpWord, Mov, Ld, St, JmpG, JmpB, BzG, BzB, Halt, Idx}
-use Rattle.ft_static.specs.Form.{Polynomial, nought}
-use Rattle.ft_static.specs.FormOrder.{same_polynomial, same_updates}
-use Rattle.ft_static.specs.NormalForm.{constant, norm_op, norm_sel, norm_upd}
+use Rattle.ft_isa.specs.BasicTypes.{int}
+use Rattle.ft_static.specs.Form.{Polynomial, nought, same_polynomial, same_updates}
 use Rattle.ft_types.specs.declared.object.Object.{Object}
 use Rattle.ft_types.specs.Objects.{reg_rows, queue_rows, memory_of}
-use Rattle.ft_isa.specs.BasicTypes.{int, ref}
 use Rattle.ft_typing.specs.TypedWord.{has_type, is_seen_as, run_type}
 use Rattle.ft_typing.specs.declared.why.Why.TheVariants as premise
 use Rattle.ft_typing.specs.Premise.{Premise}
-use Rattle.ft_typing.specs.Context.{Typed, StateOfD, d_zero, d_code, d_conditional, FormPair, Context, typed, with_type, replacement, memory_form_after}
-use Rattle.ft_typing.specs.TypingRow.{Outcome, Goes, Ends, Fails, same_colour, is_empty, seen_memory, are_like, is_queue_like, is_annotated, run_form, row}
-
--- THE TESTS
+use Rattle.ft_typing.specs.Context.{Typed, StateOfD, d_zero, d_code, d_conditional, FormPair, Context, typed, replacement, memory_form_after}
+use Rattle.ft_typing.specs.RowWords.{same_colour, is_empty, are_like, is_queue_like, is_annotated}
 
 -- a test, on the registers, words and substitution of the instruction that makes it
 pub data Test : Type 0 where
@@ -198,60 +191,3 @@ holds o c (has_queue r u) = is_queue_like o (replacement o u) c.queue (queue_row
 holds o c (has_memory r u) = same_updates c.memory (memory_form_after o (replacement o u) (memory_of o (code_of c r)))
 holds o c has_empty_queue = is_empty c.queue
 holds o c (is_array first m) = is_some (run_type o first m)
-
--- THE TABLE
-
--- the tests of an instruction's row, in their order
-abbrev pub tests : Instr → List Test
-tests (OpReg op rd rs rt) = is_typed rs ∷ is_typed rt ∷ is_coloured_as rt rs ∷ []
-tests (OpWord op rd rs value) = is_typed rs ∷ is_colour_of value.colour rs ∷ []
-tests (Mov rd value basic) = is_claimed value.word basic ∷ []
-tests (Ld colour rd rs) = is_typed rs ∷ is_coloured rs colour ∷ is_reference rs ∷ []
-tests (St Green rd rs) =
-    is_typed rd ∷ is_typed rs ∷ is_coloured rd Green ∷ is_coloured rs Green ∷ is_reference rd ∷ is_stored_as rs rd ∷ has_room ∷ []
-tests (St Blue rd rs) =
-    is_typed rd ∷ is_typed rs ∷ is_coloured rd Blue ∷ is_coloured rs Blue ∷ is_reference rd ∷ is_stored_as rs rd
-    ∷ has_oldest ∷ is_oldest_address rd ∷ is_oldest_value rs ∷ []
-tests (JmpG rd) = is_typed rd ∷ is_coloured rd Green ∷ is_target rd ∷ is_d_zero ∷ []
-tests (JmpB rd u) =
-    is_typed rd ∷ is_coloured rd Blue ∷ is_target rd ∷ is_d_code ∷ is_announced rd
-    ∷ is_substitution rd u ∷ has_registers rd u ∷ has_queue rd u ∷ has_memory rd u ∷ []
-tests (BzG rz rd) =
-    is_typed rz ∷ is_typed rd ∷ is_coloured rz Green ∷ is_coloured rd Green ∷ is_target rd ∷ is_d_zero ∷ []
-tests (BzB rz rd u) =
-    is_typed rz ∷ is_typed rd ∷ is_coloured rz Blue ∷ is_coloured rd Blue ∷ is_target rd ∷ is_d_conditional ∷ is_tested rz ∷ is_announced rd
-    ∷ is_substitution rd u ∷ has_registers rd u ∷ has_queue rd u ∷ has_memory rd u ∷ []
-tests Halt = is_d_zero ∷ has_empty_queue ∷ []
-tests (Idx rd rs first m) = is_typed rs ∷ is_array first m ∷ []
-
--- the result of an instruction's row if all its tests hold
-abbrev pub effect : Object → Context → Instr → Outcome
-effect o c (OpReg op rd rs rt) =
-    Goes (with_type rd.number (record { colour = (known c rs).colour; basic = int; form = norm_op op (known c rs).form (known c rt).form }) c)
-effect o c (OpWord op rd rs value) =
-    Goes (with_type rd.number (record { colour = (known c rs).colour; basic = int; form = norm_op op (known c rs).form (constant value.word) }) c)
-effect o c (Mov rd value basic) = Goes (with_type rd.number (record { colour = value.colour; basic = basic; form = constant value.word }) c)
-effect o c (Ld colour rd rs) =
-    Goes (with_type rd.number (record { colour = colour; basic = type_referred c rs; form = norm_sel (seen_memory colour c) (known c rs).form }) c)
-effect o c (St Green rd rs) = Goes (record c { queue = c.queue ++ ((known c rd).form, (known c rs).form) ∷ [] })
-effect o c (St Blue rd rs) = Goes (record c { queue = others c.queue; memory = norm_upd c.memory (known c rd).form (known c rs).form })
-effect o c (JmpG rd) = Goes (record c { d = d_code (code_of c rd) (known c rd).form })
-effect o c (JmpB rd u) = Ends
-effect o c (BzG rz rd) = Goes (record c { d = d_conditional (known c rz).form (code_of c rd) (known c rd).form })
-effect o c (BzB rz rd u) = Goes (record c { d = d_zero })
-effect o c Halt = Ends
-effect o c (Idx rd rs first m) = Goes (with_type rd.number (record { colour = (known c rs).colour; basic = ref (array_type o first m); form = run_form first m (known c rs).form }) c)
-
--- the premise of the first test that does not hold
-abbrev pub first_failing : Object → Context → List Test → Option Premise
-first_failing o c [] = None
-first_failing o c (t ∷ ts) = if holds o c t then first_failing o c ts else Some (premise_of t)
-
--- the refusal, if a premise fails, else the effect
-abbrev pub refused_or : Option Premise → Outcome → Outcome
-refused_or None e = e
-refused_or (Some p) e = Fails p
-
--- the row of an instruction gives the premise of the first of its tests that fails, and if none fails its effect
-abbrev pub IsTheRow : Object → Context → Instr → Type 0
-IsTheRow o c i = row o c i ≡ refused_or (first_failing o c (tests i)) (effect o c i)

@@ -1,0 +1,101 @@
+//! Modules of a link whose cells differ.
+ghost use Rattle.ft_types.specs.Spellable.{IsSpellable};
+
+use crate::loads::{OBJECT_LIMIT, load};
+use crate::page::Page;
+use ft_edge::Shelf;
+use ft_isa::NoMemory;
+use ft_types::{CellHead, Program};
+use ft_view::View;
+
+/// The type and the initial word of cell `k`; `None` if there is no such cell.
+#[tactic(auto, using(ft_types::proofs::Counted::spellable_counted))]
+fn cell_at<P: Program>(program: &P, k: u32) -> Option<CellHead>
+    requires { IsSpellable (P.object program.now) }
+{
+    if k >= program.counts().cells {
+        return None;
+    }
+    Some(program.cell(k))
+}
+
+/// The name of cell `k`; empty if there is no such cell.
+#[tactic(auto, using(ft_types::proofs::Counted::spellable_counted))]
+fn name_at<P: Program>(program: &P, k: u32) -> &[u8]
+    requires { IsSpellable (P.object program.now) }
+{
+    if k >= program.counts().cells {
+        return &[];
+    }
+    program.name(k)
+}
+
+/// Whether cell `k` of two modules has the same name, type and initial word.
+fn is_alike<P: Program, Q: Program>(program: &P, first: &Q, k: u32) -> bool
+    requires here { IsSpellable (P.object program.now) }
+    requires there { IsSpellable (Q.object first.now) }
+{
+    let name = name_at(program, k);
+    let wanted = name_at(first, k);
+    name == wanted && cell_at(program, k) == cell_at(first, k)
+}
+
+/// The first cell that two modules both have and in which they differ.
+fn unlike_cell<P: Program, Q: Program>(program: &P, first: &Q) -> Option<u32>
+    requires here { IsSpellable (P.object program.now) }
+    requires there { IsSpellable (Q.object first.now) }
+{
+    let count = first.counts().cells.min(program.counts().cells);
+    for k in 0..count {
+        if !is_alike(program, first, k) {
+            return Some(k);
+        }
+    }
+    None
+}
+
+/// Says in which cell a module differs from the first one.
+fn say_unlike_cell<P: Program, Q: Program>(
+    page: &mut Page,
+    program: &P,
+    first: &Q,
+) -> Result<(), NoMemory>
+    requires here { IsSpellable (P.object program.now) }
+    requires there { IsSpellable (Q.object first.now) }
+{
+    if let Some(k) = unlike_cell(program, first) {
+        return page.say(format_args!("  cell {k} has another name, type or initial word\n"));
+    }
+    let count = program.counts().cells;
+    let wanted = first.counts().cells;
+    page.say("  it has ")?;
+    page.count(count, "cell")?;
+    page.say(format_args!(", and the first module has {wanted}\n"))
+}
+
+/// Says in which cell an object differs from the first one.
+fn say_unlike_object(page: &mut Page, object: &[u8], first: &[u8]) -> Result<(), NoMemory> {
+    match (View::over(object), View::over(first)) {
+        (Ok(here), Ok(there)) => say_unlike_cell(page, &here, &there),
+        _ => Ok(()),
+    }
+}
+
+/// Says in which cell a module differs from the first one, if their files can be read again.
+pub(crate) fn explain_cells<S: Shelf>(
+    page: &mut Page,
+    first: Option<&str>,
+    file: Option<&str>,
+    shelf: &mut S,
+) -> Result<(), NoMemory> {
+    let (Some(first), Some(file)) = (first, file) else {
+        return Ok(());
+    };
+    let Some(wanted) = load(page.alloc(), first, OBJECT_LIMIT, shelf)? else {
+        return Ok(());
+    };
+    match load(page.alloc(), file, OBJECT_LIMIT, shelf)? {
+        Some(bytes) => say_unlike_object(page, bytes.as_slice(), wanted.as_slice()),
+        None => Ok(()),
+    }
+}

@@ -1,0 +1,49 @@
+//! Commands of other debuggers, and commands of the prompt that a script does not have.
+use crate::elsewhere::Row;
+
+/// The commands, with the advice for each.
+pub(super) const ROWS: &[Row] = &[
+    ("quit exit q", "a session ends with its input"),
+    (
+        "print p output display examine inspect",
+        "`reg R` and `cell NAME` show a word; `tools/debugger` knows `print`",
+    ),
+    (
+        "x",
+        "`cell NAME` shows the word of a cell; `tools/debugger` knows `x`",
+    ),
+    (
+        "info i",
+        "`where`, `reg R`, `cell NAME` and `queue` show the state; `tools/debugger` knows `info`",
+    ),
+    (
+        "list l disassemble disas",
+        "`talft dis OBJECT` writes the instructions; `tools/debugger` knows `disassemble`",
+    ),
+    (
+        "backtrace bt frame",
+        "`where` shows the place: there are no calls",
+    ),
+    (
+        "run r continue cont c",
+        "`go N` takes N steps, up to a breakpoint",
+    ),
+    (
+        "next n nexti ni stepi si s",
+        "`step N` takes N steps, and an instruction takes two",
+    ),
+    (
+        "reverse-step reverse-stepi rs rsi",
+        "`back N` goes back N steps",
+    ),
+    ("b", "`break B I` sets a breakpoint"),
+    ("set flip", "`zap SITE WORD` changes a word"),
+    (
+        "help h ?",
+        "a script has `step`, `go`, `back`, `zap`, `reg`, `queue`, `cell`, `where` and `break`",
+    ),
+    (
+        "watch delete until finish end undo diff explain plan line goto tbreak source record",
+        "`tools/debugger` knows this command",
+    ),
+];
