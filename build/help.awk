@@ -1,4 +1,4 @@
-# Writes the program's help, from crates/ft_explain/src/forms.rt: `of` names a command, or is empty. `version`
+# Writes the program's help, from crates/ft_mistakes/src/forms.rt: `of` names a command, or is empty. `version`
 # is the program's.
 /^pub\(crate\) const COMMANDS/ { kind = "command"; next }
 /^pub\(crate\) const OPTIONS/ { kind = "option"; next }

@@ -17,7 +17,7 @@ cannot() {
 # Help needs no program: its texts are read from the sources. The help of a command, or of all.
 say_help() {
   [ "${TALFT_EXPLAIN-}" = 0 ] ||
-    awk -v of="$1" -v version="$(cat "$top/VERSION")" -f "$top/build/help.awk" "$top/crates/ft_explain/src/forms.rt" >&2
+    awk -v of="$1" -v version="$(cat "$top/VERSION")" -f "$top/build/help.awk" "$top/crates/ft_mistakes/src/forms.rt" >&2
 }
 help() {
   say_help "$1"
@@ -42,7 +42,7 @@ esac
 case $#:${2-} in
   2:--help | 2:-h)
     [ "$1" != demo ] || help demo
-    if [ ! -e "$2" ] && grep -q "^    \"$1 " "$top/crates/ft_explain/src/forms.rt"; then
+    if [ ! -e "$2" ] && grep -q "^    \"$1 " "$top/crates/ft_mistakes/src/forms.rt"; then
       say_help "$1"
       exit 3
     fi

@@ -55,7 +55,7 @@ printf 'mov r64 G 5 int\n' >wrong.asm
 printf 'cell out = 0;\nout = 8;\n' >eight.src
 explained 'a register that is not there' 12 'asm 1 1\n' \
   'wrong.asm:1:5: error: invalid `r64`: a register is r0 to r63\n mov r64 G 5 int\n     ^~~\n' asm wrong.asm
-commands=$(awk -v of=rnu -f "$top/build/help.awk" "$top/crates/ft_explain/src/forms.rt" | tail -n +2)
+commands=$(awk -v of=rnu -f "$top/build/help.awk" "$top/crates/ft_mistakes/src/forms.rt" | tail -n +2)
 explained 'a word that is no command' 2 'usage\n' "talft: error: unknown command \`rnu\`; did you mean \`run\`?\n$commands\n" rnu five.obj
 explained 'a word that is nearly no command' 2 'usage\n' "talft: error: unknown command \`foo\`\n$commands\n" foo five.obj
 explained 'a run that is done' 0 'out 5\n' '' run five.obj
@@ -78,7 +78,7 @@ about_talft=$(. "$top/build/kit.sh"; . "$top/build/about.sh"; about)
 report 'what the version names' "talft $(cat "$top/VERSION") (commit , $(rt version))" "$(sed 's/commit [0-9a-f]*+*,/commit ,/' <<<"$about_talft")"
 explained 'the version' 2 'usage\n' "$about_talft\n" --version
 help_of() {
-  awk -v of="$1" -v version="$(cat "$top/VERSION")" -f "$top/build/help.awk" "$top/crates/ft_explain/src/forms.rt"
+  awk -v of="$1" -v version="$(cat "$top/VERSION")" -f "$top/build/help.awk" "$top/crates/ft_mistakes/src/forms.rt"
 }
 for word in help --help -h; do
   explained "help by $word" 2 'usage\n' "$(help_of '')\n" "$word"
@@ -89,8 +89,8 @@ while read -r command; do
 done < <(sed -n 's/^    talft \([a-z]*\) .*/\1/p' "$top/docs/COMMANDS.md")
 report 'the commands of the help' "$(sed -n 's/^    talft /usage: talft /p' "$top/docs/COMMANDS.md" | sed 's/ <SCRIPT//')" \
   "$(sed -n 's/^    talft \([a-z]*\) .*/\1/p' "$top/docs/COMMANDS.md" | while read -r command; do help_of "$command" | sed -n 2p; done)"
-mkdir -p bare/crates/ft_explain/src && cp "$top/talft" "$top/VERSION" "$top/crates.txt" "$top/HANDLES" bare && cp -r "$top/build" bare &&
-  cp "$top/crates/ft_explain/src/forms.rt" bare/crates/ft_explain/src
+mkdir -p bare/crates/ft_mistakes/src && cp "$top/talft" "$top/VERSION" "$top/crates.txt" "$top/HANDLES" bare && cp -r "$top/build" bare &&
+  cp "$top/crates/ft_mistakes/src/forms.rt" bare/crates/ft_mistakes/src
 while read -r wanted words; do
   "$top/talft" $words >with 2>with.said </dev/null
   status=$?

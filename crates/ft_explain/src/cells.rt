@@ -1,10 +1,9 @@
 //! Modules of a link whose cells differ.
 ghost use Rattle.ft_types.specs.Spellable.{IsSpellable};
 
-use crate::loads::{OBJECT_LIMIT, load};
-use crate::page::Page;
 use ft_edge::Shelf;
 use ft_isa::NoMemory;
+use ft_mistakes::{OBJECT_LIMIT, Page, load};
 use ft_types::{CellHead, Program};
 use ft_view::View;
 

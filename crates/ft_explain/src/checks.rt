@@ -4,12 +4,12 @@ ghost use Rattle.ft_types.specs.Objects.{reg_rows};
 ghost use Rattle.ft_types.specs.Spellable.{IsSpellable};
 
 use crate::known::{Known, RegKnown};
-use crate::page::Page;
 use crate::premises::premise;
 use crate::reads::{reads, target_of};
 use crate::refusal::Refusal;
 use ft_asm::put_codes;
 use ft_isa::{Base, Basic, Colour, Instr, NoMemory, Reg};
+use ft_mistakes::Page;
 use ft_types::{Block, Program, RegType};
 
 /// Says a basic type, as assembly texts spell it.

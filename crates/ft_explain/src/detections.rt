@@ -3,9 +3,9 @@ ghost use Rattle.std.specs.Prelude.{◌≡◌, ◌<◌, length};
 ghost use Rattle.ft_types.specs.Spellable.{IsSpellable};
 
 use crate::checks::say_code;
-use crate::page::Page;
 use ft_isa::{Colour, Instr, NoMemory, Reg};
 use ft_machine::Machine;
+use ft_mistakes::Page;
 use ft_types::Program;
 
 /// Says the instruction at a code address, if it is this one; otherwise returns false.

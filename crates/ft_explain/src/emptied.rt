@@ -1,11 +1,9 @@
 //! Files that the shell emptied because standard output was redirected to them, as in `talft asm a.asm >a.asm`.
-use crate::content::begins_as_object;
 use crate::links::{MODULE_LIMIT, file_of};
-use crate::loads::load;
 use crate::look::Look;
-use crate::page::Page;
 use ft_edge::Shelf;
 use ft_isa::NoMemory;
+use ft_mistakes::{Page, begins_as_object, load};
 
 /// The maximum size of what a call wrote to such a file.
 const LIMIT: usize = 67_108_864;

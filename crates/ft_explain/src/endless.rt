@@ -1,10 +1,8 @@
 //! Loops of sources that never end by their test.
-use crate::excerpt::Place;
-use crate::loads::{SOURCE_LIMIT, load};
-use crate::page::Page;
 use ft_edge::Shelf;
 use ft_isa::{NoMemory, read_number};
 use ft_lexer::{Kind, Lexer, Token};
+use ft_mistakes::{Page, Place, SOURCE_LIMIT, load};
 
 /// How much of `while (NUMBER)` was seen, with the number at its place.
 #[derive(Clone, Copy)]

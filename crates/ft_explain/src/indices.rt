@@ -1,10 +1,8 @@
 //! Constant indices of sources that are beyond their arrays.
-use crate::excerpt::Place;
-use crate::loads::{SOURCE_LIMIT, load};
-use crate::page::Page;
 use ft_edge::Shelf;
 use ft_isa::{NoMemory, read_number};
 use ft_lexer::{Kind, Lexer, Token};
+use ft_mistakes::{Page, Place, SOURCE_LIMIT, load};
 
 /// The maximum number of indices examined.
 const MOST_INDICES: usize = 256;

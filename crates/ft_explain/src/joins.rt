@@ -2,10 +2,9 @@
 ghost use Rattle.ft_types.specs.Spellable.{IsSpellable};
 
 use crate::links::{file_of, modules_before};
-use crate::loads::{OBJECT_LIMIT, load};
-use crate::page::Page;
 use ft_edge::Shelf;
 use ft_isa::{Instr, NoMemory, read_number};
+use ft_mistakes::{OBJECT_LIMIT, Page, load};
 use ft_types::{Program, TypeHead};
 use ft_view::View;
 

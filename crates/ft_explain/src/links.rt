@@ -2,14 +2,11 @@
 ghost use Rattle.ft_types.specs.Spellable.{IsSpellable};
 
 use crate::checks::{find, say_instr};
-use crate::content::{Content, say_other_kind};
-use crate::excerpt::Place;
-use crate::forms::first_word;
-use crate::lines::wrong_words;
-use crate::near::{is_near, say_near};
-use crate::numbers::{is_number, say_misfit};
-use crate::page::Page;
 use ft_isa::{Instr, NoMemory};
+use ft_mistakes::{
+    Content, Page, Place, first_word, is_near, is_number, say_misfit, say_near, say_other_kind,
+    wrong_words,
+};
 use ft_text::read_line;
 use ft_types::Program;
 

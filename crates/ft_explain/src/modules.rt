@@ -3,13 +3,11 @@ ghost use Rattle.std.specs.Prelude.{◌≡◌, ◌<◌};
 ghost use Rattle.ft_types.specs.Spellable.{IsSpellable};
 
 use crate::checks::explain_check;
-use crate::loads::{OBJECT_LIMIT, load};
-use crate::objects::{explain_object, rule};
-use crate::page::Page;
 use crate::refusal::Refusal;
 use ft_checker::CheckError;
 use ft_edge::Shelf;
 use ft_isa::{NoMemory, Steps};
+use ft_mistakes::{OBJECT_LIMIT, Page, explain_object, load, rule};
 use ft_types::Program;
 use ft_view::View;
 use std::alloc::Global;

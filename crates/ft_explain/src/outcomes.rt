@@ -4,13 +4,12 @@ ghost use Rattle.ft_types.specs.Spellable.{IsSpellable};
 use crate::detections::say_detection;
 use crate::endless::note_endless;
 use crate::indices::note_indices;
-use crate::loads::{OBJECT_LIMIT, load};
-use crate::page::Page;
 use crate::reruns::{Met, rerun};
 use ft_command::{Command, Run};
 use ft_edge::Shelf;
 use ft_isa::{NoMemory, Plan, Site, Strike};
 use ft_machine::{Machine, Status};
+use ft_mistakes::{OBJECT_LIMIT, Page, load};
 use ft_types::Program;
 use ft_view::View;
 

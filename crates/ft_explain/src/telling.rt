@@ -1,5 +1,4 @@
 //! Explains calls.
-use crate::assembly::explain_text;
 use crate::cells::explain_cells;
 use crate::checks::explain_check;
 use crate::emptied::{Wrote, explain_emptied, explain_emptied_module};
@@ -7,23 +6,20 @@ use crate::joins::explain_join;
 use crate::links::{
     explain_code, explain_line, explain_long_map, explain_module, explain_unmoved, file_of,
 };
-use crate::lists::explain_list;
-use crate::loads::{OBJECT_LIMIT, SOURCE_LIMIT, load, slice};
 use crate::look::Look;
 use crate::modules::{explain_bad_object, explain_unaccepted};
 use crate::named::{Holds, Named, files_of};
-use crate::objects::{explain_long, explain_object};
 use crate::outcomes::explain_outcome;
-use crate::page::Page;
 use crate::refusal::Refusal;
-use crate::sessions::explain_session;
-use crate::sources::{explain_source, has_place};
-use crate::tables::explain_tables;
 use crate::unread::{explain_unread, explain_unread_module};
-use crate::usage::{explain_option_as_file, explain_usage};
 use ft_command::{Command, command_of};
 use ft_edge::Shelf;
 use ft_isa::NoMemory;
+use ft_mistakes::{
+    OBJECT_LIMIT, Page, SOURCE_LIMIT, explain_list, explain_long, explain_object,
+    explain_option_as_file, explain_session, explain_source, explain_tables, explain_text,
+    explain_usage, has_place, load, slice,
+};
 use ft_view::View;
 use std::alloc::Global;
 

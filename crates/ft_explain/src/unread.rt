@@ -1,10 +1,8 @@
 //! Explains files that could not be read.
-use crate::excerpt::Place;
 use crate::look::{Found, Look};
-use crate::page::Page;
-use crate::strikes::is_fault;
 use ft_edge::{LoadFault, Shelf};
 use ft_isa::NoMemory;
+use ft_mistakes::{Page, Place, is_fault};
 
 /// The maximum number of bytes examined of a file.
 const LIMIT: usize = 134_217_728;

@@ -1,14 +1,20 @@
-//! Tests of the object format and of assembly texts, over worked objects and altered ones.
+//! Tests of objects: their bytes, their assembly texts, and the normal forms of their expressions.
 //!
 //! The crate has only tests, since a crate with tests is proved twice. The worked objects' bytes were made
-//! by another implementation of the format. Errors, lines and places are taken from the format's tables and
-//! from the forms by hand.
+//! by another implementation of the format. Errors, lines, places and equal forms were worked out by hand
+//! from the format's tables and the rules of typing.
 #![tactic(auto)]
 
 #[cfg(test)]
 mod altered;
 #[cfg(test)]
 mod assemblies;
+#[cfg(test)]
+mod bits;
+#[cfg(test)]
+mod edges;
+#[cfg(test)]
+mod forms;
 #[cfg(test)]
 mod texts;
 #[cfg(test)]

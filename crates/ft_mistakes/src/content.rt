@@ -1,0 +1,250 @@
+//! Guesses what a file is from how it begins.
+use crate::mnemonics::is_line;
+use crate::page::Page;
+use ft_isa::{NoMemory, read_strike};
+use ft_lexer::{Kind, Lexer, Token};
+use ft_text::read_line;
+use std::alloc::Global;
+
+/// How many bytes of a file are examined.
+const LOOKED_AT: usize = 65_536;
+
+/// What a file is, as far as its beginning shows.
+#[derive(Clone, Copy, Debug, PartialEq, Eq)]
+pub enum Content {
+    /// An object.
+    Object,
+    /// A source.
+    Source,
+    /// An assembly text.
+    Assembly,
+    /// A fault list.
+    List,
+    /// A link map.
+    Map,
+    /// A script of the debugger.
+    Script,
+    /// A program in C.
+    C,
+    /// A module of WebAssembly.
+    Wasm,
+    /// A text with two bytes for each character.
+    Wide,
+    /// An empty file.
+    Empty,
+    /// Other bytes that are not text.
+    Binary,
+    /// Another text.
+    Unknown,
+}
+
+impl Content {
+    /// What it is called.
+    fn words(self) -> &'static str {
+        match self {
+            Content::Object => "an object",
+            Content::Source => "a source",
+            Content::Assembly => "an assembly text",
+            Content::List => "a fault list",
+            Content::Map => "a link map",
+            Content::Script => "a debugger script",
+            Content::C => "a C program",
+            Content::Wasm => "a WebAssembly module",
+            Content::Wide => "UTF-16 text",
+            Content::Empty => "empty",
+            Content::Binary => "a binary file",
+            Content::Unknown => "plain text",
+        }
+    }
+
+    /// What to do with it if something else was expected.
+    fn advice(self, wanted: Content) -> &'static str {
+        match self {
+            Content::Object if wanted == Content::Assembly =>
+                ": `talft dis FILE` writes its assembly text",
+            Content::Object if wanted == Content::Source => ": `talft run FILE` runs it",
+            Content::Object if wanted == Content::Map =>
+                ": a link map is a text with a line `module FILE` for each object",
+            Content::Object if wanted == Content::List =>
+                ": a fault list has one STEP:SITE:WORD on each line; `tools/faults` writes one",
+            Content::Unknown if wanted == Content::Object =>
+                ": `talft compile`, `talft asm` and `tools/cc` make objects",
+            Content::Source => ": `talft compile FILE >OBJECT` makes an object",
+            Content::Assembly => ": `talft asm FILE >OBJECT` makes an object",
+            Content::List => ": pass it with `--faults`",
+            Content::Map => ": `talft link FILE >OBJECT` makes an object",
+            Content::Script => ": `talft debug OBJECT <FILE` runs it",
+            Content::C => ": `tools/cc FILE -o OBJECT` makes an object",
+            Content::Wasm => ": `tools/cc FILE -o OBJECT` makes an object",
+            Content::Wide => ": save it as ASCII text",
+            _ => "",
+        }
+    }
+}
+
+/// Whether bytes begin like an object.
+pub fn begins_as_object(bytes: &[u8]) -> bool {
+    bytes.starts_with(b"TALFT")
+}
+
+/// Whether a byte occurs in text files.
+fn is_of_text(byte: u8) -> bool {
+    matches!(byte, b'\t' | b'\n' | 0x0c | b'\r' | 0x1b | b' '..=b'~' | 0x80..)
+}
+
+/// Whether bytes are a text.
+fn is_text(bytes: &[u8]) -> bool {
+    bytes.iter().all(|byte| is_of_text(*byte))
+}
+
+/// The first line with a word that is not a comment; empty if there is none.
+fn first_said(text: &[u8]) -> &[u8] {
+    let mut rest = text;
+    for _ in 0..text.len() {
+        let Some((line, after)) = read_line(rest) else {
+            return &[];
+        };
+        let said = line.trim_ascii();
+        if !said.is_empty() && !said.starts_with(b"#") {
+            return said;
+        }
+        rest = after;
+    }
+    &[]
+}
+
+/// The kind of the next token.
+fn next_kind(lexer: &mut Lexer<'_>) -> Option<Kind> {
+    match lexer.next() {
+        Some(Ok(Token { kind, .. })) => Some(kind),
+        _ => None,
+    }
+}
+
+/// Whether a line begins a source.
+fn begins_source(line: &[u8]) -> bool {
+    let mut lexer = Lexer::new(line);
+    let first = next_kind(&mut lexer);
+    let second = next_kind(&mut lexer);
+    let third = next_kind(&mut lexer);
+    let is_declared = matches!(third, Some(Kind::Assign | Kind::LBracket | Kind::Semi));
+    match first {
+        Some(Kind::Cell | Kind::Var) => second == Some(Kind::Name) && is_declared,
+        Some(Kind::While | Kind::If) => second == Some(Kind::LParen),
+        Some(Kind::Name) => matches!(second, Some(Kind::Assign | Kind::LBracket)),
+        _ => false,
+    }
+}
+
+/// Whether a line begins a script of the debugger.
+fn begins_script(line: &[u8]) -> bool {
+    let begins = line.starts_with(b"step ")
+        || line.starts_with(b"go ")
+        || line.starts_with(b"zap ");
+    begins || line.starts_with(b"break ") || line == b"where".as_slice()
+}
+
+/// What a text is, from its first line that is neither empty nor a comment.
+fn content_of_line(alloc: Global, line: &[u8]) -> Result<Content, NoMemory> {
+    let content = if line.is_empty() {
+        Content::Unknown
+    } else if begins_source(line) {
+        Content::Source
+    } else if read_strike(line).is_ok() {
+        Content::List
+    } else if line.starts_with(b"module ") {
+        Content::Map
+    } else if begins_script(line) {
+        Content::Script
+    } else if is_line(alloc, line)? {
+        Content::Assembly
+    } else {
+        Content::Unknown
+    };
+    Ok(content)
+}
+
+/// Whether a line is a C preprocessor directive.
+fn has_directive(text: &[u8]) -> bool {
+    let mut rest = text;
+    for _ in 0..text.len() {
+        let Some((line, after)) = read_line(rest) else {
+            return false;
+        };
+        if line.starts_with(b"#include") || line.starts_with(b"#define ") {
+            return true;
+        }
+        rest = after;
+    }
+    false
+}
+
+/// Whether a text is a C program, judging by the name of its file or by a line.
+fn is_c(name: &str, text: &[u8]) -> bool {
+    let name = name.as_bytes();
+    name.ends_with(b".c") || name.ends_with(b".h") || has_directive(text)
+}
+
+/// What a file is, as far as its name and its beginning show.
+pub(crate) fn content_of_file(
+    alloc: Global,
+    name: &str,
+    bytes: &[u8],
+) -> Result<Content, NoMemory> {
+    let content = content_of(alloc, bytes)?;
+    if content == Content::Unknown && is_c(name, bytes.get(..LOOKED_AT).unwrap_or(bytes)) {
+        return Ok(Content::C);
+    }
+    Ok(content)
+}
+
+/// What bytes are, as far as their beginning shows.
+fn content_of(alloc: Global, bytes: &[u8]) -> Result<Content, NoMemory> {
+    let bytes = bytes.get(..LOOKED_AT).unwrap_or(bytes);
+    let content = if bytes.is_empty() {
+        Content::Empty
+    } else if begins_as_object(bytes) {
+        Content::Object
+    } else if bytes.starts_with(b"\0asm") {
+        Content::Wasm
+    } else if bytes.starts_with(b"\xff\xfe") || bytes.starts_with(b"\xfe\xff") {
+        Content::Wide
+    } else if !is_text(bytes) {
+        Content::Binary
+    } else {
+        return content_of_line(alloc, first_said(bytes));
+    };
+    Ok(content)
+}
+
+/// Says what a file is, what was expected, and what to do.
+pub(crate) fn say_kind(
+    page: &mut Page,
+    name: &str,
+    content: Content,
+    wanted: Content,
+) -> Result<(), NoMemory> {
+    page.head(name)?;
+    if content == Content::Empty {
+        return page.say("the file is empty\n");
+    }
+    let is = content.words();
+    let not = wanted.words();
+    let advice = content.advice(wanted);
+    page.say(format_args!("this is {is}, not {not}{advice}\n"))
+}
+
+/// If a file is not what was expected, says what it is and what to do; returns false if it may be as expected.
+pub fn say_other_kind(
+    page: &mut Page,
+    name: &str,
+    bytes: &[u8],
+    wanted: Content,
+) -> Result<bool, NoMemory> {
+    let content = content_of_file(page.alloc(), name, bytes)?;
+    if content == wanted || content == Content::Unknown {
+        return Ok(false);
+    }
+    say_kind(page, name, content, wanted)?;
+    Ok(true)
+}

@@ -1,0 +1,131 @@
+//! Scripts of the debugger with lines that are not commands.
+use crate::elsewhere::of_debugger;
+use crate::excerpt::Place;
+use crate::forms::first_word;
+use crate::lines::wrong_words;
+use crate::loads::load;
+use crate::near::{is_near, say_near};
+use crate::page::Page;
+use crate::strikes::say_site_and_word;
+use ft_edge::Shelf;
+use ft_isa::{NoMemory, read_site};
+use ft_script::{Command, read_script};
+
+/// The maximum size of a script in bytes.
+const SCRIPT_LIMIT: usize = 1_048_576;
+
+/// The maximum number of lines explained.
+const MOST_LINES: usize = 10;
+
+/// The commands of the debugger: the first word of each, and its form.
+const COMMANDS: &[(&str, &str)] = &[
+    ("step", "step N"),
+    ("go", "go N"),
+    ("back", "back N"),
+    ("zap", "zap SITE WORD"),
+    ("reg", "reg R"),
+    ("queue", "queue"),
+    ("cell", "cell NAME"),
+    ("where", "where"),
+    ("break", "break B I"),
+];
+
+/// The form of the command that begins with this word.
+fn form_of(first: &str) -> Option<&'static str> {
+    for (word, form) in COMMANDS {
+        if first == *word {
+            return Some(*form);
+        }
+    }
+    None
+}
+
+/// The place of the word at fault in a line that begins with the name of a command: for a site that is none, and
+/// for the word after a site, its own.
+fn place_in(line: &str) -> usize {
+    let Some((site, _)) = line
+        .strip_prefix("zap ")
+        .and_then(|rest| rest.split_once(' '))
+    else {
+        return 0;
+    };
+    if read_site(site.as_bytes()).is_none() {
+        4
+    } else {
+        site.len().saturating_add(5)
+    }
+}
+
+/// Says what is wrong with the words of a command of this form.
+fn say_invalid(page: &mut Page, line: &str, form: &'static str) -> Result<(), NoMemory> {
+    page.say(format_args!("invalid command: expected `{form}`"))?;
+    match line.strip_prefix("zap ") {
+        Some(rest) => {
+            page.say("; ")?;
+            say_site_and_word(page, rest, ' ')
+        }
+        None => Ok(()),
+    }
+}
+
+/// Says what is wrong with a line that is not a command.
+fn say_bad(page: &mut Page, line: &str) -> Result<(), NoMemory> {
+    let first = first_word(line);
+    if let Some(form) = form_of(first) {
+        return say_invalid(page, line, form);
+    }
+    page.say("unknown command ")?;
+    page.quote(first.as_bytes())?;
+    if let Some(said) = of_debugger(first) {
+        return page.say(format_args!(": {said}"));
+    }
+    for (word, _) in COMMANDS {
+        if is_near(page.alloc(), first, *word)? {
+            return say_near(page, word.as_bytes());
+        }
+    }
+    Ok(())
+}
+
+/// Explains why a line is not a command.
+fn explain_bad(page: &mut Page, start: Place<'_>) -> Result<(), NoMemory> {
+    if let Some((at, words)) = wrong_words(start.line()) {
+        return start.after(at).explain(page, "standard input", words);
+    }
+    let line = str::from_utf8(start.line()).unwrap_or("");
+    let place = start.after(place_in(line));
+    page.head_at("standard input", &place)?;
+    say_bad(page, line)?;
+    page.say("\n")?;
+    place.show(page, 1)
+}
+
+/// Explains the first lines of a script that are not commands.
+fn explain_lines(page: &mut Page, script: &[u8], commands: &[Command<'_>]) -> Result<(), NoMemory> {
+    let mut explained: usize = 0;
+    for (i, command) in commands.iter().enumerate() {
+        if matches!(command, Command::Bad) && explained < MOST_LINES {
+            explained = explained.saturating_add(1);
+            if let Some(start) = Place::of_line(script, i.saturating_add(1)) {
+                explain_bad(page, start)?;
+            }
+        }
+    }
+    Ok(())
+}
+
+/// Explains which lines of a session's script are not commands, if the script can be read again.
+pub fn explain_session<S: Shelf>(
+    page: &mut Page,
+    name: Option<&'static str>,
+    shelf: &mut S,
+) -> Result<(), NoMemory> {
+    let Some(name) = name else {
+        return Ok(());
+    };
+    let Some(script) = load(page.alloc(), name, SCRIPT_LIMIT, shelf)? else {
+        return Ok(());
+    };
+    let commands = read_script(page.alloc(), script.as_slice())?;
+    explain_lines(page, script.as_slice(), commands.as_slice())
+}

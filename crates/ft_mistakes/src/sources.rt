@@ -1,0 +1,322 @@
+//! Explains sources that are refused.
+use crate::content::{Content, say_other_kind};
+use crate::excerpt::{Place, letter_from, part};
+use crate::expected::{
+    Lack, habit, instead_of, instead_of_comma, instead_of_macro, lack_at, unclosed,
+};
+use crate::lines::{MARKED, is_marked};
+use crate::near::{is_near, say_near};
+use crate::page::Page;
+use crate::spaces::space_of;
+use ft_isa::NoMemory;
+use ft_lexer::{Kind, Lexer, Token};
+
+/// Whether a byte may occur in a name.
+fn is_in_name(byte: u8) -> bool {
+    byte.is_ascii_alphanumeric() || byte == b'_'
+}
+
+/// The token that begins at a place; the character or run of digits there if no token begins, and empty at the end.
+fn token_at(source: &[u8], at: usize) -> &[u8] {
+    let rest = part(source, at, source.len());
+    if let Some(Ok(token)) = Lexer::new(rest).next()
+        && token.at == 0
+    {
+        return token.text;
+    }
+    let digits = rest.iter().take_while(|byte| byte.is_ascii_digit()).count();
+    part(rest, 0, digits.max(letter_from(rest, 1)))
+}
+
+/// Whether the next token after the one of so many bytes at a place opens an index.
+fn is_indexed(source: &[u8], past: usize) -> bool {
+    match Lexer::new(part(source, past, source.len())).next() {
+        Some(Ok(token)) => token.kind == Kind::LBracket,
+        _ => false,
+    }
+}
+
+/// Where a name is first declared.
+fn first_declared(source: &[u8], name: &[u8]) -> Option<usize> {
+    let mut lexer = Lexer::new(source);
+    let mut declares = false;
+    for _ in 0..source.len() {
+        let Some(Ok(token)) = lexer.next() else {
+            return None;
+        };
+        if declares && token.text == name {
+            return Some(token.at);
+        }
+        declares = matches!(token.kind, Kind::Cell | Kind::Var);
+    }
+    None
+}
+
+/// Says a token between back quotes, and then words.
+fn say_of(page: &mut Page, token: &[u8], words: &str) -> Result<(), NoMemory> {
+    page.quote(token)?;
+    page.say(words)
+}
+
+/// What is wrong with a byte that begins no token.
+fn say_byte(page: &mut Page, source: &[u8], at: usize, token: &[u8]) -> Result<(), NoMemory> {
+    if at == 0 && is_marked(source) {
+        return page.say(MARKED);
+    }
+    if let Some(words) = space_of(token) {
+        return page.say(words);
+    }
+    if token == b"!".as_slice()
+        && let Some(words) = instead_of_macro(source, at)
+    {
+        return page.say(format_args!("unexpected character `!`: {words}"));
+    }
+    match token {
+        [byte, ..] if is_in_name(*byte) => page.say("a name has at most 32 bytes"),
+        [b','] => {
+            page.say("unexpected character `,`: ")?;
+            page.say(instead_of_comma(source, at))
+        }
+        [b':'] if part(source, at, at.saturating_add(2)) == b":=".as_slice() => {
+            page.say("unexpected character `:`: write `=` to assign")
+        }
+        [byte, ..] => {
+            page.say("unexpected character ")?;
+            say_of(page, token, instead_of(*byte))
+        }
+        [] => page.say("unexpected end of the source"),
+    }
+}
+
+/// Says that a token is not expected, and what to write instead of an idiom of another language.
+fn say_unexpected(page: &mut Page, source: &[u8], at: usize, token: &[u8]) -> Result<(), NoMemory> {
+    if token.is_empty() {
+        return page.say("unexpected end of the source");
+    }
+    page.say("unexpected ")?;
+    page.quote(token)?;
+    match habit(source, at) {
+        Some(words) => page.say(format_args!(": {words}")),
+        None => Ok(()),
+    }
+}
+
+/// What is wrong with a token that is nested too deeply.
+fn say_depth(page: &mut Page, token: &[u8]) -> Result<(), NoMemory> {
+    match token {
+        b"(" | b"{" | b"[" => say_of(page, token, " is nested more than 100 deep"),
+        _ => say_of(
+            page,
+            token,
+            " is the 201st operator of one assignment or test, and at most 200 are allowed: split it with a variable",
+        ),
+    }
+}
+
+/// Says which declared name was probably meant.
+fn say_near_name(page: &mut Page, source: &[u8], name: &[u8]) -> Result<(), NoMemory> {
+    let mut lexer = Lexer::new(source);
+    let mut declares = false;
+    for _ in 0..source.len() {
+        let Some(Ok(token)) = lexer.next() else {
+            break;
+        };
+        if declares && is_near_name(page, name, token.text)? {
+            return say_near(page, token.text);
+        }
+        declares = matches!(token.kind, Kind::Cell | Kind::Var);
+    }
+    Ok(())
+}
+
+/// Whether a name is probably a misspelling of a declared one.
+fn is_near_name(page: &Page, name: &[u8], known: &[u8]) -> Result<bool, NoMemory> {
+    let alloc = page.alloc();
+    let Ok(name) = str::from_utf8(name) else {
+        return Ok(false);
+    };
+    let Ok(known) = str::from_utf8(known) else {
+        return Ok(false);
+    };
+    is_near(alloc, name, known)
+}
+
+/// Says that a name is not declared.
+fn say_undeclared(page: &mut Page, source: &[u8], name: &[u8]) -> Result<(), NoMemory> {
+    say_of(page, name, " is not declared")?;
+    match name {
+        b"true" => page.say(": write 1"),
+        b"false" => page.say(": write 0"),
+        _ => say_near_name(page, source, name),
+    }
+}
+
+/// What is wrong with the token at a place.
+fn say_at(page: &mut Page, number: u64, source: &[u8], at: usize) -> Result<(), NoMemory> {
+    let token = token_at(source, at);
+    match number {
+        2 => say_byte(page, source, at, token),
+        3 => say_of(
+            page,
+            token,
+            " is too large: the largest number is 18446744073709551615 (2^64 - 1)",
+        ),
+        4 => say_unexpected(page, source, at, token),
+        5 => say_depth(page, token),
+        6 => say_of(page, token, " is declared twice"),
+        7 => say_undeclared(page, source, token),
+        11 if is_indexed(source, at.saturating_add(token.len())) => {
+            say_of(page, token, " is not an array and takes no index")
+        }
+        11 => say_of(page, token, " is an array and needs an index, as in `a[0]`"),
+        _ => {
+            page.say("invalid length ")?;
+            say_of(page, token, ": an array has 1 to 1024 cells")
+        }
+    }
+}
+
+/// What is wrong with a whole source, or with one whose bytes are missing.
+fn say_whole(page: &mut Page, number: u64, told: u64) -> Result<(), NoMemory> {
+    match number {
+        1 => page.say(format_args!("the source is too long: at most {told} bytes are allowed")),
+        8 => page.say(format_args!("the source has {told} cells: at most 1024 are allowed")),
+        9 => page.say(format_args!(
+            "the source needs {told} pairs of registers, and there are 32: use fewer variables or shorter expressions"
+        )),
+        10 => page.say(format_args!(
+            "the source is too large: its weight is {told}, and at most 65536 is allowed"
+        )),
+        _ => page.say(format_args!("the source is refused at byte {told}: {}", rule(number))),
+    }
+}
+
+/// What is wrong with a source that is refused with this number.
+fn rule(number: u64) -> &'static str {
+    match number {
+        2 => "a character is not part of the language, or a name has more than 32 bytes",
+        3 => "a number is too large",
+        4 => "unexpected token",
+        5 => "it is nested too deeply, or has too many operators",
+        6 => "a name is declared twice",
+        7 => "a name is not declared",
+        11 => "an array has no index, or something else has one",
+        _ => "an array has 1 to 1024 cells",
+    }
+}
+
+/// Whether a refusal with this number has a place.
+pub fn has_place(number: u64) -> bool {
+    matches!(number, 2..=7 | 11 | 12)
+}
+
+/// Points to where a name is first declared.
+fn point_to_first(page: &mut Page, name: &str, source: &[u8], at: usize) -> Result<(), NoMemory> {
+    let token = token_at(source, at);
+    let Some(first) = first_declared(source, token) else {
+        return Ok(());
+    };
+    let place = Place::of(source, first);
+    page.name(name)?;
+    page.say(format_args!(
+        ":{}:{}: note: the first declaration is here\n",
+        place.number(),
+        place.column()
+    ))?;
+    place.show(page, token.len())
+}
+
+/// Explains what is missing, at the end of the token before it.
+fn explain_lack(
+    page: &mut Page,
+    name: &str,
+    source: &[u8],
+    lack: Lack<'_>,
+) -> Result<(), NoMemory> {
+    let place = Place::of(source, lack.end);
+    page.head_at(name, &place)?;
+    let what = lack.what;
+    page.say(format_args!("expected `{what}` after "))?;
+    say_of(page, lack.text, "\n")?;
+    place.show(page, 1)
+}
+
+/// Explains that a brace is not closed, at the end of the source.
+fn explain_unclosed(
+    page: &mut Page,
+    name: &str,
+    source: &[u8],
+    opened: usize,
+    last: Token<'_>,
+) -> Result<(), NoMemory> {
+    let end = last.at.saturating_add(last.text.len());
+    let brace = Place::of(source, opened);
+    explain_lack(
+        page,
+        name,
+        source,
+        Lack {
+            what: "}",
+            text: last.text,
+            end,
+        },
+    )?;
+    page.name(name)?;
+    page.say(format_args!(
+        ":{}:{}: note: to match this `{{`\n",
+        brace.number(),
+        brace.column()
+    ))?;
+    brace.show(page, 1)
+}
+
+/// Explains what is wrong at a place of a source.
+fn explain_at(
+    page: &mut Page,
+    name: &str,
+    number: u64,
+    at: usize,
+    source: &[u8],
+) -> Result<(), NoMemory> {
+    // What is missing at the end is missing after the last token.
+    let place = Place::of(source, at.min(source.trim_ascii_end().len()));
+    page.head_at(name, &place)?;
+    say_at(page, number, source, at)?;
+    page.say("\n")?;
+    place.show(page, token_at(source, at).len())?;
+    if number == 6 {
+        point_to_first(page, name, source, at)?;
+    }
+    Ok(())
+}
+
+/// Explains why a source is refused. If the refusal has a place, the source is given.
+pub fn explain_source(
+    page: &mut Page,
+    name: &str,
+    number: u64,
+    told: u64,
+    source: Option<&[u8]>,
+) -> Result<(), NoMemory> {
+    let (Some(source), true) = (source, has_place(number)) else {
+        page.head(name)?;
+        say_whole(page, number, told)?;
+        return page.say("\n");
+    };
+    if say_other_kind(page, name, source, Content::Source)? {
+        return Ok(());
+    }
+    let at = told as usize;
+    if number != 4 {
+        return explain_at(page, name, number, at, source);
+    }
+    if let Some(lack) = lack_at(source, at) {
+        return explain_lack(page, name, source, lack);
+    }
+    match unclosed(source) {
+        Some((opened, last)) if token_at(source, at).is_empty() => {
+            explain_unclosed(page, name, source, opened, last)
+        }
+        _ => explain_at(page, name, number, at, source),
+    }
+}

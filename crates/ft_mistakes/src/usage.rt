@@ -1,0 +1,309 @@
+//! Words that are not a command.
+use crate::dashes::{Dashed, dashed_option, first_dashed, say_dashed};
+use crate::forms::{COMMANDS, OPTIONS, command_lines, first_word, most_of, operand_of, value_of};
+use crate::help::{
+    asks_for_help, asks_for_version, is_help, say_commands, say_form, say_help, say_help_of,
+    say_version,
+};
+use crate::near::{is_near, say_near};
+use crate::numbers::{is_number, say_misfit};
+use crate::page::Page;
+use crate::strikes::say_wrong_part;
+use ft_isa::{NoMemory, read_strike, read_wild};
+
+/// Whether an option was given among these words, which are alternately options and values.
+fn is_given(words: &[String], option: &str) -> bool {
+    for (i, word) in words.iter().enumerate() {
+        if i % 2 == 0 && word.as_str() == option {
+            return true;
+        }
+    }
+    false
+}
+
+/// Says what is wrong with the value of `--fault`; false if nothing is.
+fn say_fault(page: &mut Page, value: &str) -> Result<bool, NoMemory> {
+    if read_strike(value.as_bytes()).is_ok() {
+        return Ok(false);
+    }
+    page.say("invalid fault ")?;
+    page.quote(value.as_bytes())?;
+    page.say(": expected STEP:SITE:WORD; ")?;
+    say_wrong_part(page, value)?;
+    Ok(true)
+}
+
+/// Says what is wrong with the value of `--wild`; false if nothing is.
+fn say_wild(page: &mut Page, value: &str) -> Result<bool, NoMemory> {
+    if read_wild(page.alloc(), value.as_bytes()).is_ok() {
+        return Ok(false);
+    }
+    page.say("invalid list ")?;
+    page.quote(value.as_bytes())?;
+    page.say(
+        " for `--wild`: expected at most 4096 answers separated by commas, each a number or `stop`",
+    )?;
+    Ok(true)
+}
+
+/// Says what is wrong with the number of an option, which is at most `most`; false if nothing is.
+fn say_number(page: &mut Page, option: &str, value: &str, most: u64) -> Result<bool, NoMemory> {
+    if is_number(value.as_bytes(), most) {
+        return Ok(false);
+    }
+    page.say("invalid number ")?;
+    page.quote(value.as_bytes())?;
+    page.say(format_args!(" for `{option}`: expected 0 to {most}; "))?;
+    say_misfit(page, value.as_bytes(), most)?;
+    Ok(true)
+}
+
+/// Says what is wrong with the value of an option; false if nothing is.
+fn say_value(page: &mut Page, option: &str, value: &str, most: u64) -> Result<bool, NoMemory> {
+    match option.as_bytes() {
+        b"--fault" => say_fault(page, value),
+        b"--wild" => say_wild(page, value),
+        b"--faults" => Ok(false),
+        _ => say_number(page, option, value, most),
+    }
+}
+
+/// Says which option of a command was probably meant.
+fn say_near_option(page: &mut Page, command: &'static str, word: &str) -> Result<(), NoMemory> {
+    for option in OPTIONS {
+        let option = first_word(*option);
+        if value_of(command, option).is_some() && is_near(page.alloc(), word, option)? {
+            return say_near(page, option.as_bytes());
+        }
+    }
+    Ok(())
+}
+
+/// Whether a word is the option that names the output file in other programs.
+fn is_of_output(word: &str) -> bool {
+    matches!(word.as_bytes(), b"-o" | b"--out" | b"--output")
+}
+
+/// Says that a command does not take an option.
+fn say_unknown_option(page: &mut Page, command: &'static str, word: &str) -> Result<(), NoMemory> {
+    page.say("unknown option ")?;
+    page.quote(word.as_bytes())?;
+    let name = first_word(command);
+    page.say(format_args!(" for `{name}`"))?;
+    if is_of_output(word) {
+        return page.say(": it writes to standard output: add `>FILE`");
+    }
+    say_near_option(page, command, word)
+}
+
+/// Says that an argument follows the operand where only options may.
+fn say_extra(page: &mut Page, command: &'static str, word: &str) -> Result<(), NoMemory> {
+    page.say("unexpected argument ")?;
+    page.quote(word.as_bytes())?;
+    let operand = operand_of(command);
+    page.say(format_args!(" after {operand}: "))?;
+    match first_word(command).as_bytes() {
+        b"link" => page.say("a link map is a text with a line `module FILE` for each object"),
+        b"campaign" | b"survey" => page.say("the fault list comes after `--faults`"),
+        b"debug" => page.say("commands come from standard input"),
+        _ => page.say(format_args!("give only one {operand}")),
+    }
+}
+
+/// Says that a command does not take this argument where only options may follow.
+fn say_untaken(page: &mut Page, command: &'static str, word: &str) -> Result<(), NoMemory> {
+    if word.is_empty() {
+        return page.say("an argument is empty");
+    }
+    if !word.starts_with("-") {
+        return say_extra(page, command, word);
+    }
+    if let Some((option, _)) = word.split_once(' ')
+        && value_of(command, option).is_some()
+    {
+        page.quote(word.as_bytes())?;
+        return page.say(" is one word: write two words");
+    }
+    if let Some((option, _)) = word.split_once('=')
+        && let Some(value) = value_of(command, option)
+    {
+        page.quote(word.as_bytes())?;
+        return page.say(format_args!(" is one word: write `{option} {value}`"));
+    }
+    say_unknown_option(page, command, word)
+}
+
+/// Says what is wrong with an option, after the words before it; false if nothing is.
+fn say_option(
+    page: &mut Page,
+    command: &'static str,
+    before: &[String],
+    option: &str,
+    value: Option<&str>,
+) -> Result<bool, NoMemory> {
+    let Some(called) = value_of(command, option) else {
+        say_untaken(page, command, option)?;
+        return Ok(true);
+    };
+    if is_given(before, option) {
+        page.say(format_args!("`{option}` is given twice"))?;
+        return Ok(true);
+    }
+    match value {
+        // Where an option follows, the value was forgotten.
+        Some(value) if value_of(command, value).is_none() => {
+            say_value(page, option, value, most_of(command))
+        }
+        _ => {
+            page.say(format_args!("missing {called} after `{option}`"))?;
+            Ok(true)
+        }
+    }
+}
+
+/// Says what is wrong with the options of a command.
+fn say_options(page: &mut Page, command: &'static str, options: &[String]) -> Result<(), NoMemory> {
+    for (i, option) in options.iter().enumerate() {
+        let value = options.get(i.saturating_add(1)).map(|value| value.as_str());
+        let before = options.get(..i).unwrap_or(&[]);
+        if i % 2 == 0 && say_option(page, command, before, option.as_str(), value)? {
+            return Ok(());
+        }
+    }
+    page.say("missing `--faults FILE`")
+}
+
+/// Says that the operand of `demo` is not a number of turns.
+fn say_turns(page: &mut Page, word: &str, most: u64) -> Result<(), NoMemory> {
+    page.say("invalid N ")?;
+    page.quote(word.as_bytes())?;
+    page.say(format_args!(": expected a number from 1 to {most}"))
+}
+
+/// Says that an option was given where the operand belongs.
+fn say_misplaced(page: &mut Page, command: &'static str, word: &str) -> Result<(), NoMemory> {
+    let called = operand_of(command);
+    if word == "--" {
+        return page.say(format_args!("unexpected `--`: {called} comes right after the command"));
+    }
+    page.say(format_args!("missing {called}: it comes before options such as "))?;
+    page.quote(word.as_bytes())
+}
+
+/// Explains that a word begins with a typographic dash.
+fn explain_dashed(
+    page: &mut Page,
+    command: Option<&'static str>,
+    dashed: Dashed<'_>,
+) -> Result<(), NoMemory> {
+    say_dashed(page, dashed)?;
+    match command {
+        Some(command) => say_form(page, command),
+        None => Ok(()),
+    }
+}
+
+/// Explains that a file with the name of an option could not be read: probably the operand was forgotten. Returns
+/// false otherwise.
+pub fn explain_option_as_file(page: &mut Page, words: &[String]) -> Result<bool, NoMemory> {
+    let [first, operand, ..] = words else {
+        return Ok(false);
+    };
+    let Some(command) = command_lines(first.as_str()) else {
+        return Ok(false);
+    };
+    if asks_for_help(operand.as_str()) {
+        say_help_of(page, command)?;
+        return Ok(true);
+    }
+    if let Some(dashed) = dashed_option(operand.as_str()) {
+        explain_dashed(page, Some(command), dashed)?;
+        return Ok(true);
+    }
+    if !operand.as_str().starts_with("--") {
+        return Ok(false);
+    }
+    page.say("talft: error: ")?;
+    say_misplaced(page, command, operand.as_str())?;
+    page.say("\n")?;
+    say_form(page, command)?;
+    Ok(true)
+}
+
+/// Says what is wrong with the words after a command.
+fn say_words(page: &mut Page, command: &'static str, rest: &[String]) -> Result<(), NoMemory> {
+    let called = operand_of(command);
+    let [operand, options @ ..] = rest else {
+        let name = first_word(command);
+        return page.say(format_args!("missing {called} after `{name}`"));
+    };
+    if operand.as_str().starts_with("--") {
+        return say_misplaced(page, command, operand.as_str());
+    }
+    if called == "N" && options.is_empty() {
+        return say_turns(page, operand.as_str(), most_of(command));
+    }
+    say_options(page, command, options)
+}
+
+/// Says which command was probably meant.
+fn say_near_command(page: &mut Page, word: &str) -> Result<(), NoMemory> {
+    if matches!(word.as_bytes(), b"version" | b"-v" | b"-version") {
+        return say_near(page, b"--version");
+    }
+    for command in COMMANDS {
+        let name = first_word(*command);
+        if is_near(page.alloc(), word, name)? {
+            return say_near(page, name.as_bytes());
+        }
+    }
+    Ok(())
+}
+
+/// Says that there is no such command.
+fn say_unknown(page: &mut Page, word: &str) -> Result<(), NoMemory> {
+    page.say("talft: error: unknown command ")?;
+    page.quote(word.as_bytes())?;
+    say_near_command(page, word)?;
+    page.say("\n")?;
+    say_commands(page)?;
+    page.say("more: `talft help`, `talft help COMMAND`\n")
+}
+
+/// Says the requested help.
+fn say_help_for(page: &mut Page, rest: &[String]) -> Result<(), NoMemory> {
+    let [name, ..] = rest else {
+        return say_help(page);
+    };
+    match command_lines(name.as_str()) {
+        Some(command) => say_help_of(page, command),
+        None => say_unknown(page, name.as_str()),
+    }
+}
+
+/// Explains why words are not a command.
+pub fn explain_usage(page: &mut Page, words: &[String]) -> Result<(), NoMemory> {
+    let [first, rest @ ..] = words else {
+        page.say("talft: error: missing command\n")?;
+        return say_help(page);
+    };
+    if is_help(first.as_str()) {
+        return say_help_for(page, rest);
+    }
+    if asks_for_version(words) {
+        return say_version(page);
+    }
+    if let Some(dashed) = first_dashed(words) {
+        return explain_dashed(page, command_lines(first.as_str()), dashed);
+    }
+    let Some(command) = command_lines(first.as_str()) else {
+        return say_unknown(page, first.as_str());
+    };
+    if rest.iter().any(|word| asks_for_help(word.as_str())) {
+        return say_help_of(page, command);
+    }
+    page.say("talft: error: ")?;
+    say_words(page, command, rest)?;
+    page.say("\n")?;
+    say_form(page, command)
+}
