@@ -1,4 +1,4 @@
-# Proves, builds, checks and installs the program and the C library. `make` uses all processors by itself.
+# Proves, builds, checks and installs the program and the C library. `make` needs no -j: it uses all processors.
 
 PREFIX = /usr/local
 bin = $(DESTDIR)$(PREFIX)/bin
@@ -30,7 +30,7 @@ program:
 program-aarch64:
 	@bash build/program.sh aarch64
 
-# The gate: all crates, their tests, the wrong bodies, and the program over real files.
+# The gate: all crates, their tests, the wrong bodies, and the program run over real files.
 check:
 	@bash .ci/run
 
@@ -109,7 +109,8 @@ site:
 	rm -rf out/site
 	@python3 build/site.py out/site
 
-# Builds twice, in other folders, at other times, with another locale and number of processors, and compares the bytes.
+# Builds twice, in different folders, at different times, with different locales and numbers of processors, and
+# compares the bytes.
 same-bytes: all library
 	@bash tests/same_bytes.sh
 

@@ -1,8 +1,8 @@
-# Identifies a build: version, commit, kit, and the time that its files get. The caller sets `top` and `program`.
+# Identifies a build: version, commit, kit, and the timestamp of its files. The caller sets `top` and `program`.
 
 version=$(cat "$top/VERSION")
 
-# The commit of the sources, with a plus where files differ from it; `unknown` where there is no repository.
+# The commit of the sources, with a plus if files differ from it; `unknown` outside a repository.
 commit_of_sources() {
   local commit
   if [ "$(git -C "$top" rev-parse --show-toplevel 2>/dev/null)" != "$top" ] ||
@@ -14,7 +14,7 @@ commit_of_sources() {
   echo "$commit"
 }
 
-# The time of a release's files, in seconds: $SOURCE_DATE_EPOCH, or that of the commit.
+# The time of a release's files, in seconds: $SOURCE_DATE_EPOCH, or else the time of the commit.
 time_of_sources() {
   echo "${SOURCE_DATE_EPOCH:-$(git -C "$top" log -1 --format=%ct 2>/dev/null || echo 0)}"
 }

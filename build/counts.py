@@ -1,5 +1,5 @@
 #!/usr/bin/env python3
-"""Writes what was proved and tried, by crate, as a table: `counts.py [LOG]`.
+"""Writes a table of what was proved and tried in each crate: `counts.py [LOG]`.
 
 With the log of a gate run, the numbers come from it. Without one, they are counted in the sources: functions with
 a body, wrong bodies of the gate, and tests.
@@ -34,7 +34,7 @@ def in_sources():
 
 
 def in_log(lines):
-    """The counts of each crate, from what a gate run said. Functions of a crate's tests are among its functions."""
+    """The counts of each crate, from the output of a gate run. Functions of a crate's tests count as its own."""
     functions, edits, tests = collections.Counter(), collections.Counter(), collections.Counter()
     seen, ran = collections.defaultdict(set), 0
     for line in lines:

@@ -1,9 +1,10 @@
-# Compiles crates with rattle itself, over the libraries that a proof leaves. The caller sets `top`, and sources sources.sh and
-# kit.sh. A crate that links code is compiled from its own proof, so it is proved once more, for its target.
+# Compiles crates by calling rattle directly, against the libraries that a proof leaves behind. The caller sets `top`,
+# and sources sources.sh and kit.sh. A crate whose code is linked is compiled from its own proof, so it is proved once
+# more, for its target.
 
 kit_folder() { dirname "$(dirname "$(readlink -f "$(command -v rt)")")"; }
 
-# Whether a file is newer than all that a crate is made from.
+# Whether a file is newer than everything that a crate is built from.
 is_newer_than_sources() {
   local file=$1 crates
   crates=$(needed "$2")
@@ -12,7 +13,7 @@ is_newer_than_sources() {
     -newer "$file" -print -quit 2>/dev/null)" ]
 }
 
-# Copies the crates that a crate depends on to a folder. The file `begun` there is as old as the copy.
+# Copies a crate, and all crates that it depends on, into a folder. The file `begun` there has the time of the copy.
 copy_to() {
   local tree=$1 crates
   crates=$(needed "$2")
@@ -21,7 +22,7 @@ copy_to() {
     tar -C "$top/crates" --exclude=out --exclude=must-fail -cf - $crates | tar -C "$tree/crates" -xf -
 }
 
-# Whether the gate, or a check, has proved each library below a crate, and no source changed since.
+# Whether the gate, or a check, has proved every library that a crate depends on, and no source has changed since.
 are_proved() {
   local crate made oldest='' places=(crates.txt HANDLES)
   for crate in $(needed "$1"); do
@@ -34,7 +35,7 @@ are_proved() {
   [ -z "$(cd "$top" && find "${places[@]}" -newer "$oldest" -print -quit)" ]
 }
 
-# Compiles a crate of a folder for a processor, over libraries in folders of crates:
+# Compiles a crate in TREE for a processor, against the libraries in the crate folders of LIBRARIES:
 # `compile_over LIBRARIES TREE CRATE ARCH OUT ROOT WORDS..`.
 compile_over() {
   local libraries=$1 tree=$2 name=$3 arch=$4 out=$5 root=$6 kit crate words
@@ -55,8 +56,8 @@ compile_over() {
   (cd "$tree/crates/$name" && "$kit/bin/rattle" build "${words[@]}" --backend llvm -o "$out") </dev/null
 }
 
-# Compiles a crate for a processor in a folder, over the libraries that the gate or a check left. If there are none, or they
-# come from runs that do not match, they are proved there first: `make_in TREE CRATE ARCH OUT ROOT WORDS..`.
+# Compiles a copy of a crate in TREE for a processor, against the libraries that the gate or a check left. If there are
+# none, or they come from mismatched runs, they are first proved in TREE: `make_in TREE CRATE ARCH OUT ROOT WORDS..`.
 make_in() {
   local tree=$1 name=$2
   copy_to "$tree" "$name" || return

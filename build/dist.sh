@@ -1,8 +1,8 @@
 #!/usr/bin/env bash
 # Makes a release: `dist.sh tar|deb FOLDER [PROGRAM [LOG]]` writes the tarball or the Debian package into the folder, and
-# prints its name. PROGRAM is the one that `make` proved and built; `make library` makes the C library. LOG is that of a gate
-# run, for the counts in PROOF.md. The bytes depend only on the sources, the kit, the C compiler and LOG: names are sorted,
-# owners are 0, and times are those of the commit, or $SOURCE_DATE_EPOCH.
+# prints its name. PROGRAM is the one that `make` proved and built; `make library` makes the C library. LOG is a gate
+# run's log, for the counts in PROOF.md. The bytes depend only on the sources, the kit, the C compiler and LOG: names
+# are sorted, owners are 0, and times are those of the commit, or $SOURCE_DATE_EPOCH.
 set -eu
 export LC_ALL=C TZ=UTC
 umask 022
@@ -53,7 +53,7 @@ Description: fault-tolerant typed assembly, with a proved checker
  completion, syntax files, examples, the C library with its header, and tools
  for programs in C, fault lists, campaigns, pictures and debugging.
 CONTROL
-    # dpkg then registers the shared library with the system.
+    # This makes dpkg register the shared library with the system.
     echo 'activate-noawait ldconfig' >"$work/deb/DEBIAN/triggers"
     find "$work/deb" -exec touch -h -d "@$SOURCE_DATE_EPOCH" {} +
     dpkg-deb --root-owner-group --threads-max=1 -Zxz -z6 --build "$work/deb" "$to/$name.deb" >/dev/null

@@ -1,6 +1,6 @@
 #!/usr/bin/env bash
-# Writes the evidence for the promises, to be archived: `evidence.sh FOLDER [LOG]` makes FOLDER/evidence-VERSION. LOG is
-# the log of a gate run; without it, the gate is run.
+# Collects the evidence for the promises, for archiving: `evidence.sh FOLDER [LOG]` makes FOLDER/evidence-VERSION. LOG
+# is the log of a gate run; without it, the gate is run.
 set -u
 export LC_ALL=C TZ=UTC
 top=$(cd "$(dirname "${BASH_SOURCE[0]}")/.." && pwd) || exit 2

@@ -1,5 +1,5 @@
-# Writes the program's help, from crates/ft_mistakes/src/forms.rt: `of` names a command, or is empty. `version`
-# is the program's.
+# Writes the program's help, from crates/ft_mistakes/src/forms.rt. `of` names a command, or is empty; `version` is the
+# program's version.
 /^pub\(crate\) const COMMANDS/ { kind = "command"; next }
 /^pub\(crate\) const OPTIONS/ { kind = "option"; next }
 /^];/ { kind = ""; next }

@@ -1,10 +1,10 @@
-# Reports that the Rattle kit is missing or is not the one of the proofs. The caller sets `top`.
+# Reports a Rattle kit that is missing, or is not the one that made the proofs. The caller sets `top`.
 
 # The kit that the proofs were made with, as `rt version` names it.
 kit_of_proofs() { sed -n 's/.*`rt version`: \([^)]*\)).*/\1/p' "$top/docs/PROMISES.md"; }
 
-# Whether the kit keeps what `rt ci` proved, by checksum. `rt ci` then takes names of crates, and --anew. Kits differ in this:
-# one that keeps nothing proves every crate from scratch.
+# Whether the kit keeps, by checksum, what `rt ci` proved. Its `rt ci` then takes names of crates, and --anew. A kit
+# that keeps nothing proves every crate from scratch.
 keeps_proofs() { rt help 2>&1 | grep -q -e --anew; }
 
 # Fails if there is no kit.

@@ -1,5 +1,5 @@
-# Makes the C library from its proved archive. `build/library.sh` calls it from the top of the repository. For another
-# processor that script sets ARCHIVE, CC and AR; HEAP is heap or arena.
+# Makes the C library from its proved archive. `build/library.sh` calls it from the top of the repository, and sets
+# ARCHIVE, OUT, CC and AR for the processor. HEAP is heap or arena.
 CC = cc
 AR = ar
 HEAP = heap
@@ -9,7 +9,7 @@ warnings = -std=c99 -Wall -Wextra -pedantic
 
 all: $(OUT)/libtalft.a $(OUT)/libtalft.so $(OUT)/talft.pc $(OUT)/talft.py
 
-# It is always rebuilt, since HEAP may have changed.
+# heap.o is always rebuilt, since HEAP may have changed.
 .PHONY: all $(OUT)/heap.o
 $(OUT)/heap.o: embed/$(HEAP).c embed/rattle.h include/talft.h
 	$(CC) $(warnings) $(CFLAGS) -fPIC -Iinclude -c embed/$(HEAP).c -o $@

@@ -1,11 +1,12 @@
 #!/usr/bin/env bash
 # Proves the crates that the C library depends on, and makes it: libtalft.a, libtalft.so, talft.pc and talft.py, in
-# crates/ft_c/out/library, or for another processor in crates/ft_c/out/library-ARCH. It uses the libraries that the gate or a
-# check left, or that the kit has kept. A static library is compiled from its crate's proof, so the exports are proved once more.
+# crates/ft_c/out/library, or for another processor in crates/ft_c/out/library-ARCH. It uses the libraries that the gate
+# or a check left, or that the kit has kept. A static library is compiled from its crate's proof, so the exports are
+# proved once more.
 #
 #     build/library.sh [ARCH]        x86_64, or aarch64; CC and AR name the C compiler and the archiver
 set -u
-# The members of an archive are in the order of their names.
+# Sorts the members of an archive the same way in every locale.
 export LC_ALL=C
 top=$(cd "$(dirname "${BASH_SOURCE[0]}")/.." && pwd) || exit 2
 . "$top/build/sources.sh" || exit 2
@@ -18,7 +19,7 @@ case $arch in
   *) echo "talft: error: unknown processor \`$arch\`: expected x86_64 or aarch64" >&2; exit 2 ;;
 esac
 
-# Links the compiled library with the C code of embed/.
+# Links the compiled library with the C code in embed/.
 link() {
   make -s -C "$top" -f build/library.mk ARCHIVE="$out/libft_c.a" OUT="$out" CC="$cc" AR="$ar" HEAP="${HEAP-heap}"
 }

@@ -1,6 +1,6 @@
 #!/usr/bin/env bash
-# Proves the crates that the program depends on, and builds it for another processor: crates/talft/out/talft-ARCH. The kit has
-# its C code only for x86-64, so embed/heap.c and embed/system.c replace it. For x86-64 there is build/prove.sh.
+# Proves the crates that the program depends on, and builds it for another processor: crates/talft/out/talft-ARCH. The
+# kit's C code is only for x86-64, so embed/heap.c and embed/system.c replace it. For x86-64, use build/prove.sh.
 #
 #     build/program.sh [ARCH]        aarch64; CC names the C compiler
 set -u

@@ -1,5 +1,5 @@
 # Shows the progress of a proof in one line. It reads docs/PROVING.md (the minutes of each crate), crates.txt, the prover's
-# output, and the crates that have begun, with the second of their start. `now` and `start` are also seconds.
+# output, and the crates whose proof has begun, each with its start time. `now`, `start` and these times are in seconds.
 FILENAME ~ /PROVING.md$/ {
   if (split($0, cell, "|") > 3 && match(cell[2], /`[a-z_]+`/)) minutes[substr(cell[2], RSTART + 1, RLENGTH - 2)] = cell[3] + 0
   next

@@ -1,7 +1,7 @@
 #!/usr/bin/env bash
 # Proves the crates that the program depends on, lowest first and on all processors, and builds it: `rt ci` over a copy of
 # only these crates, without the gate's wrong bodies. A kit that keeps proofs, by checksum, continues where an earlier run,
-# or the gate, ended. With --anew it reuses nothing from them.
+# or the gate, left off. With --anew it reuses nothing from them.
 set -u
 top=$(cd "$(dirname "${BASH_SOURCE[0]}")/.." && pwd) || exit 2
 . "$top/build/sources.sh" || exit 2
@@ -12,7 +12,7 @@ fi
 . "$top/build/kit.sh" || exit 2
 need_kit || exit 2
 
-# Copies left by killed runs.
+# Removes copies that killed runs have left behind.
 for left in "${TMPDIR:-/tmp}"/talft-prove-*; do
   of=${left#*/talft-prove-}
   [ ! -d "$left" ] || kill -0 "${of%-*}" 2>/dev/null || rm -rf "$left"
@@ -22,7 +22,7 @@ trap 'rm -rf "$copy"' EXIT
 log=$copy/log tree=$copy/tree
 mkdir -p "$tree/.git" "$tree/crates" "$top/crates/talft/out" || exit 2
 : >"$log"
-# The program is as old as the copy of its sources.
+# The program gets the time of the copy of its sources.
 touch "$copy/begun"
 mapfile -t crates < <(needed)
 cp "$top/HANDLES" "$tree" &&
@@ -30,7 +30,7 @@ cp "$top/HANDLES" "$tree" &&
   tar -C "$top/crates" --exclude=out --exclude=must-fail -cf - "${crates[@]}" | tar -C "$tree/crates" -xf - || exit 2
 
 cd "$tree" || exit 2
-# A kit that keeps nothing proves everything from scratch, and does not know --anew.
+# A kit that keeps nothing proves everything from scratch anyway, and has no --anew.
 keeps_proofs || set --
 PYTHONUNBUFFERED=1 rt ci "$@" </dev/null >"$log" 2>&1 &
 proof=$!
@@ -48,7 +48,7 @@ trap 'stopped 129' HUP
 trap 'stopped 130' INT
 trap 'stopped 143' TERM
 
-# Prints a line, which on a terminal the next one replaces.
+# Prints a line; on a terminal it replaces the one that `show_for_now` has left.
 show() {
   if [ -t 1 ]; then printf '\r\033[K%s\n' "$1"; else printf '%s\n' "$1"; fi
 }
@@ -56,7 +56,7 @@ show_for_now() {
   if [ -t 1 ]; then printf '\r\033[K%.*s' "$(($(tput cols 2>/dev/null || echo 80) - 1))" "$1"; fi
 }
 
-# What is done, what is being proved and about how long the rest takes, as one line.
+# What is done, what is being proved, and about how long the rest will take, in one line.
 told() {
   for crate in "${crates[@]}"; do
     [ ! -d "crates/$crate/out" ] || printf '%s %d\n' "$crate" "$(stat -c %Y "crates/$crate")"
@@ -68,7 +68,7 @@ start=$(date +%s) last=
 echo "talft: proving ${#crates[@]} crates on $(nproc) processors"
 while kill -0 "$proof" 2>/dev/null; do
   line=$(told)
-  # Without a terminal, a line appears when a crate begins or is proved.
+  # Without a terminal, a line appears only when the proof of a crate begins or ends.
   if [ ! -t 1 ] && [ "${line%; *}" != "$last" ]; then show "$line"; fi
   show_for_now "$line"
   last=${line%; *}

@@ -25,7 +25,7 @@ def sum_of_file(path):
 
 
 def sum_of_folder(folder, parts=("",)):
-    """The sum over the files of some parts of a folder."""
+    """The checksum over the files in some parts of a folder."""
     found = []
     for part in parts:
         for here, _, names in os.walk(os.path.join(folder, part)):
@@ -78,7 +78,7 @@ def of_crates(released, version, commit):
 
 
 def of_kit(released, kit_folder, kit):
-    """The same of the kit: its libraries that were compiled in, and what proved and compiled."""
+    """Likewise for the kit: the libraries that were compiled in, and the prover and compiler."""
     packages, links, users = [], [], {"std": list(released)}
     for of, (*_, stands_on) in released.items():
         for library in {library for name in stands_on for library in crates()[name]} - set(crates()) - {"std"}:
@@ -94,7 +94,7 @@ def of_kit(released, kit_folder, kit):
 
 
 def of_heap(released, version):
-    """The same of the C code that the library is linked with."""
+    """Likewise for the C code that the library is linked with."""
     users = [of for of in released if of != "program-talft"]
     if not users:
         return [], []

@@ -1,8 +1,8 @@
 #!/usr/bin/env python3
 """Makes a site from the documents, the manual pages, the trace and an example's report: `build/site.py FOLDER`.
 
-Each page is self-contained: one style sheet and one script, nothing from elsewhere. It needs pandoc; the report of an
-example needs the built program and gnuplot, and is left out without them.
+The pages load nothing but the site's own style sheet, scripts and pictures. It needs pandoc; the report of an example
+needs the built program and gnuplot, and is left out without them.
 """
 import html
 import json
@@ -50,7 +50,7 @@ def read(path):
 
 
 def body_of(text, kind):
-    """A document as the inside of a page."""
+    """A document as the HTML inside a page."""
     words = ["pandoc", "-f", kind, "-t", "html", "--wrap=none"]
     return subprocess.run(words, input=text, capture_output=True, text=True, check=True).stdout
 
@@ -61,7 +61,7 @@ def title_of(text):
 
 
 class Site:
-    """The pages, by name, with their searchable text."""
+    """The pages, by name, and the search index."""
 
     def __init__(self, folder):
         self.folder, self.index = folder, []
@@ -79,7 +79,7 @@ class Site:
             file.write(data)
 
     def target(self, path, place, root):
-        """Where a link of a document leads: a page, a copy of a file, or nowhere."""
+        """Where a link in a document leads: to a page, to a copy of a file, or nowhere (None)."""
         name, _, heading = place.partition("#")
         where = os.path.normpath(os.path.join(os.path.dirname(path), name)) if name else path
         heading = f"#{heading}" if heading else ""
@@ -149,7 +149,7 @@ class Site:
         self.write("index.js", f"const INDEX={json.dumps(self.index, ensure_ascii=False)};\n")
 
     def report(self):
-        """The report of a campaign on an example, if the program is built and gnuplot is installed."""
+        """Makes the report of a campaign on an example, if the program is built and gnuplot is installed."""
         program = os.path.join(TOP, "crates/talft/out/talft")
         if not os.access(program, os.X_OK) or not shutil.which("gnuplot"):
             return
@@ -175,7 +175,7 @@ def main(words):
     if not shutil.which("pandoc"):
         sys.exit("site: error: pandoc is missing: install it (Debian: pandoc)")
     if os.path.exists(words[0]) and os.listdir(words[0]):
-        sys.exit(f"site: error: {words[0]} is there already, and not empty")
+        sys.exit(f"site: error: {words[0]} exists already and is not empty")
     os.makedirs(words[0], exist_ok=True)
     Site(os.path.abspath(words[0])).make()
 

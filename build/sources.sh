@@ -2,7 +2,7 @@
 
 program=$top/crates/talft/out/talft
 
-# The crates that a crate stands on, itself among them: the program's, where none is named.
+# A crate and all crates that it depends on; if none is named, those of the program.
 needed() {
   awk -v root="${1-talft}" -F: '/^[a-z]/ { sub(/ staticlib/, "", $1); uses[$1] = $2 }
     function visit(name, parts, count, i) {
@@ -14,7 +14,7 @@ needed() {
     END { visit(root) }' "$top/crates.txt"
 }
 
-# Whether the program exists, and no source has changed, appeared or disappeared since. If that is uncertain, it counts as
+# Whether the program exists, and no source has changed, appeared or disappeared since. In case of doubt, it counts as
 # not built.
 is_built() {
   local crate crates part newer places=(crates.txt HANDLES)

@@ -1,6 +1,6 @@
 #!/usr/bin/env bash
 # Lays out a release in a folder: `stage.sh FOLDER PROGRAM [LOG]`. The folder gets bin/, include/, lib/ and share/, and the
-# files for checking a release: PROOF.md, SBOM.spdx.json and CHECKSUMS. LOG is that of a gate run, for the counts.
+# files for checking a release: PROOF.md, SBOM.spdx.json and CHECKSUMS. LOG is a gate run's log, for the counts.
 set -eu
 export LC_ALL=C TZ=UTC
 umask 022

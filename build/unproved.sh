@@ -1,10 +1,10 @@
 #!/usr/bin/env bash
 # Answers a call of talft before the program is proved: `rt try` compiles its sources and runs them with checks, which
-# takes most of a minute. Words, files, standard input, output and status are the program's. If it cannot guarantee that,
-# it says what to do, and ends with status 70.
+# takes most of a minute. Arguments, files, standard input, output and status are the same as with the proved
+# program. If that cannot be guaranteed, this script says what to do, and exits with status 70.
 set -u
 top=$(cd "$(dirname "${BASH_SOURCE[0]}")/.." && pwd) || exit 70
-# The longest object and script that the program reads, and one byte more, which it refuses.
+# One byte more than the longest object and the longest script that the program accepts.
 most_bytes=67108865 most_script=1048577
 # How long a run may take, in seconds.
 most_seconds=600
@@ -14,7 +14,7 @@ cannot() {
   exit 70
 }
 
-# Help needs no program: its texts are read from the sources. The help of a command, or of all.
+# Prints the help of one command, or of all. It needs no program: the texts come from the sources.
 say_help() {
   [ "${TALFT_EXPLAIN-}" = 0 ] ||
     awk -v of="$1" -v version="$(cat "$top/VERSION")" -f "$top/build/help.awk" "$top/crates/ft_mistakes/src/forms.rt" >&2
@@ -38,7 +38,7 @@ case ${1-} in
     exit 2
     ;;
 esac
-# `talft COMMAND --help`: to the program this is the name of a file, and not a number of turns.
+# `talft COMMAND --help`: the program would take --help as the name of a file, or, after `demo`, as a number of turns.
 case $#:${2-} in
   2:--help | 2:-h)
     [ "$1" != demo ] || help demo
@@ -55,19 +55,19 @@ echo 'talft: not proved yet, so slow: `make` proves and builds it' >&2
 work=$(mktemp -d) || exit 70
 trap 'rm -rf "$work"' EXIT
 words=("$@") data=() lacking=no script=/dev/null
-# An assembly text may have twice as many bytes.
+# An assembly text may be twice as long.
 [ "${1-}" != asm ] || most_bytes=134217729
 declare -A names=([operand]=operand [faults]=faults)
 
-# Like the program, passes no words if one is not a text.
+# Like the program, ignores all arguments if one of them is not UTF-8.
 case $* in
   *[![:ascii:]]*)
     python3 -X utf8 -c 'import sys; "".join(sys.argv[1:]).encode()' "$@" 2>/dev/null || words=()
     ;;
 esac
 
-# Passes the file that a word names, under the name $2: no answer depends on the name. A file that is missing or
-# unreadable is also missing for the program.
+# Passes on the file that argument $1 names, under the name $2: no answer depends on the name. To the program, a missing
+# or unreadable file does not exist.
 hand_over() {
   local file=${words[$1]}
   words[$1]=$2 names[$2]=$file
@@ -94,7 +94,7 @@ if [ "${#words[@]}" -gt 1 ] && [ "${words[0]}" != demo ]; then
       hand_over $((at + 1)) faults
     fi
   done
-  # Without an object the program takes no script.
+  # If there is no object, the program reads no script.
   if [ "${words[0]}" = debug ] && [ "$lacking" = no ]; then
     { [ ! -d /dev/fd/0 ] && : <&0; } 2>/dev/null || cannot 'standard input: cannot be read'
     script=$work/script
@@ -103,7 +103,7 @@ if [ "${#words[@]}" -gt 1 ] && [ "${words[0]}" != demo ]; then
 fi
 
 cd "$top/crates/talft" || exit 70
-# In a separate process group, so that a signal also ends what it starts.
+# In a process group of its own, so that a signal also ends its children.
 set -m
 rt try --steps 1 --seconds "$most_seconds" ${data[@]+"${data[@]}"} -- ${words[@]+"${words[@]}"} \
   <"$script" >"$work/out" 2>"$work/said" &
@@ -127,8 +127,8 @@ trap 'stopped 143' TERM
 
 status=$(sed -n '$s/^run=ended status=\([0-9]*\) .*$/\1/p' "$work/said")
 
-# A line that the program wrote about a file passed under the name $2, with the file's own name. To the program, folders and
-# unreadable files are missing.
+# A line that the program wrote about a file passed under the name $2, with the file's own name. The program calls
+# folders and unreadable files missing.
 said_of() {
   local said=${1#"$2"} file=${names[$2]}
   if [ "$said" = ': error: no such file' ] && [ -d "$file" ]; then
@@ -139,7 +139,7 @@ said_of() {
   printf '%s%s\n' "$file" "$said"
 }
 
-# The program's own messages.
+# Prints the program's own messages.
 say() {
   local line
   while IFS= read -r line; do

@@ -1,5 +1,5 @@
 #!/usr/bin/env python3
-"""Writes a TextMate grammar as the form that bat and Sublime Text read: `sublime.py talft | talft-asm`."""
+"""Writes a TextMate grammar in the format that bat and Sublime Text read: `sublime.py talft | talft-asm`."""
 import json
 import os
 import sys
@@ -10,7 +10,7 @@ with open(os.path.join(os.path.dirname(__file__), f"vscode/{kind}.tmLanguage.jso
 print("%YAML 1.2\n---")
 print(f"# Made by editors/sublime.py from editors/vscode/{kind}.tmLanguage.json.")
 print(f"name: {grammar['name']}")
-# Other languages have files of the same names: the first line decides, or a setting of the project.
+# Other languages use the same file extensions, so the first line decides, or a setting of the project.
 print("file_extensions: []")
 print(f"first_line_match: '{grammar['firstLineMatch']}'")
 print(f"scope: {grammar['scopeName']}")

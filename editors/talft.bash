@@ -84,8 +84,8 @@ _talft_site() {
   compopt -o nospace 2>/dev/null
 }
 
-# The tools: their options, from --help, and files. Other programs are also called `cc` and `build`, and `set` is a shell
-# builtin: of these, only files next to the tool `campaign` are tools. The others keep their own completion.
+# The tools: their options, from --help, and files. There are other programs called `cc` and `build`, and `set` is a
+# shell builtin: only those next to the tool `campaign` are tools. The others keep their own completion.
 _talft_tool() {
   local word=${COMP_WORDS[COMP_CWORD]} at
   COMPREPLY=()

@@ -1,14 +1,14 @@
 /*
- * Memory from one block of the caller, for systems without a heap. This file replaces heap.c: `make library HEAP=arena`.
- * Allocation takes the first free block that is large enough; free neighbours are joined. Only one thread at a time may
- * call the library.
+ * Memory from one block that the caller provides, for systems without a heap. This file replaces heap.c:
+ * `make library HEAP=arena`. Allocation takes the first free block that is large enough, joining free neighbours on the
+ * way. Only one thread at a time may call the library.
  */
 #include "rattle.h"
 #include "talft.h"
 
 #include <string.h>
 
-/* Each block has a head of one unit. With it, the block is a whole number of units. */
+/* Each block begins with a head of one unit. Its size, including the head, is a whole number of units. */
 enum { UNIT = 16 };
 
 struct head {
@@ -16,7 +16,7 @@ struct head {
     uint64_t is_free;
 };
 
-/* The heads, from the first one to their end. */
+/* The first head, and the end of the last block. */
 static struct head *first, *end;
 static struct head nothing;
 
@@ -33,7 +33,7 @@ void talft_arena(void *memory, size_t size)
     end = first + first->units;
 }
 
-/* Joins the free blocks after a free one to it. */
+/* Joins a block with the free blocks that follow it. */
 static void join(struct head *block)
 {
     struct head *next = block + block->units;

@@ -3,10 +3,10 @@
 
 #include <stdlib.h>
 
-/* An address for when malloc gave none. Nothing reads or writes it. */
+/* Its address stands in for a block when malloc fails. Nothing reads or writes it. */
 static char nothing[16];
 
-/* A block of this many bytes, if there is one. A size of 0 also asks for a block. */
+/* What an allocation that gave p returns. A request for 0 bytes gets a block, too. */
 static struct tried told(void *p)
 {
     struct tried tried = {p != NULL, p != NULL ? p : nothing};

@@ -1,5 +1,5 @@
-/* What the program talft needs from C besides the C library, on a processor for which the kit has no C code: written
- * after the declarations of the kit's crate os. Linked with heap.c. */
+/* The C functions that the program talft needs besides heap.c and the C library, for a processor for which the kit has
+ * no C code. They follow the declarations in the kit's crate os. */
 #include <errno.h>
 #include <stddef.h>
 #include <stdint.h>
@@ -23,7 +23,7 @@ __attribute__((constructor)) static void keep(int argc, char **argv)
     words = argv;
 }
 
-/* Copies a text into a buffer. Returns its length; -1 if there is none; -2 if it does not fit, and the buffer is full. */
+/* Copies a text into a buffer. Returns its length, or -1 if there is no text, or -2 if it only fills the buffer. */
 static ptrdiff_t put(const char *text, uint8_t *buf, size_t room)
 {
     size_t at = 0;

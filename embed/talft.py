@@ -22,7 +22,7 @@
     ValueError: invalid fault '4:x:6': expected STEP:SITE:WORD
     >>> talft.run(data, fault="4:r1:6", wild="x")
     Traceback (most recent call last):
-    ValueError: no plan: fault '4:r1:6', wild 'x'
+    ValueError: invalid fault or answers: fault '4:r1:6', wild 'x'
     >>> talft.run("five.obj")
     Traceback (most recent call last):
     TypeError: expected the object's bytes, not a name
@@ -38,7 +38,7 @@
     ('done', [('n', 42)])
     >>> talft.set_cell(counter, "n", 41)
     Traceback (most recent call last):
-    TypeError: the cell is a number from 0
+    TypeError: the cell must be a number, from 0
     >>> talft.set_cell(counter, 7, 0)
     Traceback (most recent call last):
     IndexError: no cell 7
@@ -52,7 +52,7 @@
     ('idle', 0)
     >>> talft.campaign(data, ["4:r1:6", "900:r2:7"])
     Traceback (most recent call last):
-    TypeError: faults is one text, a fault per line
+    TypeError: faults must be one text, with a fault per line
     >>> talft.campaign(data, "4:x:6")
     Traceback (most recent call last):
     talft.Refused: list 1 1
@@ -64,8 +64,8 @@
     Traceback (most recent call last):
     KeyError: 'no module 0 of the link map'
 
-The library is the one that $TALFT_LIBRARY names, or else next to this file, or else found by the system. Each function
-may be called from several threads at once; what `stream` gives stays on its thread.
+The library is the one that $TALFT_LIBRARY names, or the one next to this file, or the one that the system finds. Each
+function may be called from several threads at once; a generator from `stream` must stay on its thread.
 """
 
 import ctypes
@@ -120,8 +120,8 @@ class _Machine(ctypes.Structure):
 
 
 class Refused(ValueError):
-    """Why bytes or a text are refused: `status`, `part`, `number`, `place`, `index`, and `module` of a link, as in talft.h.
-    Its text is the line that the command writes."""
+    """Why bytes or a text are refused: `status`, `part`, `number`, `place` and `index`, and for a link `module`, as in
+    talft.h. Its text is the line that the command writes."""
 
     def __init__(self, status, why, module=0):
         self.status, self.part, self.number = status, why.part, why.number
@@ -194,7 +194,7 @@ def _object(data):
 
 
 def _number(value, bits=64):
-    """The number itself; ctypes would take the rest modulo 2^bits."""
+    """The number, if it fits into this many bits; ctypes would silently reduce it modulo 2^bits."""
     value = operator.index(value)
     if not 0 <= value < 2**bits:
         raise OverflowError(f"{value} is not from 0 to 2^{bits} - 1")
@@ -208,7 +208,7 @@ def _answer(status, why, module=0):
 
 
 def _written(function, *asked):
-    """What a function writes into a buffer, which grows as needed."""
+    """What a function writes into a buffer that grows as needed."""
     room, made, why = 65536, ctypes.c_size_t(0), _Refusal()
     while True:
         out = ctypes.create_string_buffer(room)
@@ -229,7 +229,7 @@ def check(data):
 
 
 def _run(function, data, steps, fault, wild):
-    """What a function that runs an object returns, with an array that grows as needed."""
+    """What a function that runs an object returns; its array grows as needed."""
     data, room, steps = _object(data), 1024, _number(steps)
     plan = _bytes(fault), _bytes(wild)
     ran, why = _Ran(), _Refusal()
@@ -249,7 +249,7 @@ def _run(function, data, steps, fault, wild):
     if status == _BAD_PLAN:
         if status_of(plan[0], b"") == _BAD_PLAN and status_of(b"", b"") != _BAD_PLAN:
             raise ValueError(f"invalid fault {fault!r}: expected STEP:SITE:WORD")
-        raise ValueError(f"no plan: fault {fault!r}, wild {wild!r}")
+        raise ValueError(f"invalid fault or answers: fault {fault!r}, wild {wild!r}")
     if status not in _ENDS:
         _answer(status, why)
     pairs, names = out[: ran.count], {}
@@ -260,8 +260,8 @@ def _run(function, data, steps, fault, wild):
 
 
 def run(data, steps=1_000_000, fault="", wild=""):
-    """Checks an object and runs it: how it ended ("done", "detected", "cut"), and the names and words of its outputs.
-    `fault` is a text such as "4:r1:6", and `wild` one such as "5,stop"."""
+    """Checks an object and runs it. Returns how it ended ("done", "detected", "cut"), and the names and words of its
+    outputs. `fault` is a text such as "4:r1:6", and `wild` one such as "5,stop"."""
     return _run(_LIBRARY.talft_run, data, steps, fault, wild)[:2]
 
 
@@ -274,8 +274,8 @@ def recover(data, steps=1_000_000, fault="", wild=""):
 
 
 def stream(data, steps=1_000_000):
-    """Checks an object and runs it in slices of steps; yields the name and the word of each output as it comes. How it
-    ended ("done", "cut") is the generator's value, as `yield from` returns it."""
+    """Checks an object and runs it in slices of steps; yields the name and the word of each output as it comes. The
+    generator's value, which `yield from` returns, says how the run ended ("done", "cut")."""
     data, machine, why, ran, steps = _object(data), _Machine(), _Refusal(), _Ran(), _number(steps)
     status = _LIBRARY.talft_open(data, len(data), ctypes.byref(machine), ctypes.byref(why))
     if status != _OK:
@@ -295,7 +295,7 @@ def stream(data, steps=1_000_000):
 
 
 def compile(text):
-    """An object that stands for a source."""
+    """Compiles a source to an object."""
     text = _bytes(text)
     return _written(_LIBRARY.talft_compile, text, len(text))
 
@@ -329,7 +329,7 @@ def set_cell(data, cell, word):
     accepted exactly when the object is."""
     data, why = _object(data), _Refusal()
     if isinstance(cell, str):
-        raise TypeError("the cell is a number from 0")
+        raise TypeError("the cell must be a number, from 0")
     out = ctypes.create_string_buffer(data)
     status = _LIBRARY.talft_set_cell(out, len(data), _number(cell, 32), _number(word), ctypes.byref(why))
     if status == _NO_CELL:
@@ -362,10 +362,10 @@ def link(text, modules):
 
 
 def campaign(data, faults, steps=1_000_000, wild=""):
-    """Checks an object and tries each fault of a list: for each, in order, its verdict ("masked", "detected", "idle"), and
-    the step that detected it, or 0. `faults` is a text of lines such as "4:r1:6"."""
+    """Checks an object and tries each fault of a list. Returns for each, in order, its verdict ("masked", "detected",
+    "idle"), and the step that detected it, or 0. `faults` is a text of lines such as "4:r1:6"."""
     if not isinstance(faults, (str, bytes, bytearray, memoryview)):
-        raise TypeError("faults is one text, a fault per line")
+        raise TypeError("faults must be one text, with a fault per line")
     data, faults, wild, steps = _object(data), _bytes(faults), _bytes(wild), _number(steps)
     room, totals, why = faults.count(b"\n") + 1, _Totals(), _Refusal()
     out = (_Verdict * room)()
@@ -373,7 +373,7 @@ def campaign(data, faults, steps=1_000_000, wild=""):
         data, len(data), faults, len(faults), wild, len(wild), steps, out, room, ctypes.byref(totals), ctypes.byref(why),
     )
     if status == _BAD_PLAN:
-        raise ValueError(f"no plan: wild {wild!r}, {steps} steps")
+        raise ValueError(f"invalid answers, or too many steps: wild {wild!r}, {steps} steps")
     if status != _OK:
         _answer(status, why)
     return [(_VERDICTS[one.verdict], one.at) for one in out[: totals.count]]

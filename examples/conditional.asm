@@ -12,7 +12,7 @@ mov r0 G 1048577 ref:int
 mov r32 B 1048577 ref:int
 ld_G r1 r0
 ld_B r33 r32
-# If it is 0, to block 1, which begins at instruction 16. The green branch records the target; the blue one compares
+# If it is 0, go to block 1, which begins at instruction 16. The green branch records the target; the blue one compares
 # it with its own, and jumps. The memory there is node 0, as nothing was stored.
 mov r2 G 16 code:0
 mov r34 B 16 code:0

@@ -1,4 +1,4 @@
-# index.asm: stores in the cell `out` the cell of `a` that the cell `i` selects, and halts.
+# index.asm: copies the cell of `a` that the cell `i` selects to the cell `out`, and halts.
 
 # The cells of `a` are a run of three. The address of a[0] is 1048576, that of `i` is 1048579, that of `out` 1048580.
 cell a[0] int 10

@@ -14,9 +14,9 @@ node 1 sub 1 3
 node 0 word 1048576
 node 1 upd 0 5 1
 
-# Code type 0, of the first block and the last: nothing is known.
+# Code type 0, for the first block and the last: nothing is known.
 type 0 0
-# Code type 1, of the loop: r1 and r33 hold the number left to count.
+# Code type 1, for the loop: r1 and r33 hold the number left to count.
 type 1 0
 reg r1 G int 1
 reg r33 B int 1
@@ -28,7 +28,7 @@ mov r1 G 3 int
 mov r33 B 3 int
 mov r2 G 7 code:1
 mov r34 B 7 code:1
-# Into the loop: the memory is node 0, as it was, and node 2, the word 3, stands for its variable.
+# Into the loop: the memory is still node 0, and node 2, the word 3, is passed for its variable.
 jmp_G r2
 jmp_B r34 0 2
 
@@ -44,7 +44,7 @@ mov r2 G 21 code:0
 mov r34 B 21 code:0
 bz_G r1 r2
 bz_B r33 r34 6
-# Otherwise once more: the memory is node 6, and node 4 stands for the variable.
+# Otherwise, once more: the memory is node 6, and node 4 is passed for the variable.
 mov r2 G 7 code:1
 mov r34 B 7 code:1
 jmp_G r2

@@ -62,7 +62,7 @@ enum {
     TALFT_NOT_NOW = 17,      /* the talft_machine is already open (talft_open) or not open (other calls) */
     TALFT_NOT_STRUCK = 18,   /* nothing is struck: there was a strike before, the run has stopped, or the site is absent */
     TALFT_OTHER_TYPE = 19,   /* the cell is not of type `int` */
-    TALFT_NO_MODULE = 20     /* the link map gives a name that no module in the array has */
+    TALFT_NO_MODULE = 20     /* the link map names a module that is not in the array */
 };
 
 /* Why something is refused. Its part is 0 if the result is none of 6, 7, 8, 11, 12 and 13. */
@@ -102,15 +102,15 @@ uint32_t talft_check(const uint8_t *bytes, size_t len, talft_refusal *why);
 
 /*
  * Checks an object, and runs it from its start for at most `steps` steps. `fault` is empty, or a text such as `4:r1:6`:
- * before step 4 register r1 becomes 6. `wild` is empty, or a text such as `5,stop`: what the first wild loads give. A load is
- * wild if it finds nothing at its address. Later wild loads stop the machine.
+ * before step 4 register r1 becomes 6. `wild` is empty, or a text such as `5,stop`: the results of the first wild
+ * loads. A load is wild if it finds nothing at its address. Later wild loads stop the machine.
  *
  * OK if the run is done, DETECTED, CUT if all steps were taken, or FULL: the array holds `room` outputs, and steps
  * are left. The outputs in the array are those of the first ran->steps steps, in order. DETECTED comes only under a fault.
  * Whatever the fault, the outputs are a prefix of those of the run without it, and equal to them unless the result is
  * DETECTED.
  *
- * Or BAD_PLAN, MALFORMED, REFUSED or NO_MEMORY. Then *ran is 0, and the array is unchanged.
+ * Or BAD_PLAN, MALFORMED, REFUSED or NO_MEMORY. In these cases *ran is 0, and the array is unchanged.
  */
 uint32_t talft_run(const uint8_t *bytes, size_t len, const uint8_t *fault, size_t fault_len, const uint8_t *wild,
                    size_t wild_len, uint64_t steps, talft_output *outputs, size_t room, talft_ran *ran,
@@ -127,10 +127,10 @@ uint32_t talft_recover(const uint8_t *bytes, size_t len, const uint8_t *fault, s
 
 /*
  * On OK, each call below that takes `out` has written bytes to its start and their number to *made. NO_ROOM: *made is the
- * number needed. In every other case *made is 0. In each case but OK `out` is unchanged.
+ * number needed. In all other cases *made is 0. In all cases but OK `out` is unchanged.
  */
 
-/* An object that stands for a source, in version 2 of the format. OK, NO_ROOM, BAD_SOURCE or NO_MEMORY. */
+/* Compiles a source to an object, in version 2 of the format. OK, NO_ROOM, BAD_SOURCE or NO_MEMORY. */
 uint32_t talft_compile(const uint8_t *text, size_t len, uint8_t *out, size_t room, size_t *made, talft_refusal *why);
 
 /*
@@ -154,9 +154,9 @@ uint32_t talft_name(const uint8_t *bytes, size_t len, uint32_t cell, uint8_t *ou
                     talft_refusal *why);
 
 /*
- * Changes the bytes of an object so that they spell the same object with another initial word in a cell, which is of type
- * `int`. The object is accepted exactly when it was before, so an object that was checked need not be checked again. OK,
- * MALFORMED, NO_CELL or OTHER_TYPE; in each case but OK the bytes are unchanged. It allocates no memory.
+ * Changes the bytes of an object so that they spell the same object with another initial word in a cell, which must be
+ * of type `int`. The object is accepted exactly when it was before, so an object that was checked need not be checked
+ * again. OK, MALFORMED, NO_CELL or OTHER_TYPE; in all cases but OK the bytes are unchanged. It allocates no memory.
  */
 uint32_t talft_set_cell(uint8_t *bytes, size_t len, uint32_t cell, uint64_t word, talft_refusal *why);
 
@@ -175,8 +175,8 @@ typedef struct talft_module {
  *
  * NOT_LINKED, part 7: the number of the refusal is that of the command `talft link`. MALFORMED or REFUSED: talft_check
  * returns this for a module. NO_MODULE: no module has the name. In these cases *module is the module's number in the map,
- * from 0; it is 0 if the refusal is about the map or a line of it. Or NO_MEMORY. In each case but OK `out` is unchanged. In
- * each case but OK and NO_ROOM *made is 0.
+ * from 0; it is 0 if the refusal is about the map or a line of it. Or NO_MEMORY. In all cases but OK `out` is
+ * unchanged. In all cases but OK and NO_ROOM *made is 0.
  */
 uint32_t talft_link(const uint8_t *map, size_t map_len, const talft_module *modules, size_t count, uint8_t *out,
                     size_t room, size_t *made, uint32_t *module, talft_refusal *why);
@@ -188,7 +188,7 @@ enum {
     TALFT_FAULT_IDLE = 2      /* nothing was struck */
 };
 
-/* The verdict of a fault, and the number of the step that detected it, from 0; else 0. */
+/* The verdict on a fault, and the number of the step that detected it, from 0; 0 if none did. */
 typedef struct talft_verdict {
     uint64_t verdict;
     uint64_t at;
@@ -205,11 +205,11 @@ typedef struct talft_totals {
 /*
  * Checks an object, and runs it without a fault and under each fault of a list, each for at most `steps` steps. OK only if
  * `steps` is at most 1,000,000. The list is a text of at most 65,536 lines such as `4:r1:6`; `wild` is as in talft_run. OK:
- * the array has the verdict of each fault, in the list's order, and the totals count them. NO_ROOM: totals->count is how many
- * faults there are, and the other totals are 0. BAD_LIST, part 8: number 1, a line is not a fault; 2, there are too many, or
- * the text has more than 4,194,304 bytes; 3, faults times steps exceeds 1,000,000,000. Or BAD_PLAN,
- * MALFORMED, REFUSED or NO_MEMORY. In each case but OK and NO_ROOM the totals are 0, and in each but OK the array is
- * unchanged.
+ * the array has the verdict on each fault, in the list's order, and the totals count them. NO_ROOM: totals->count is
+ * how many faults there are, and the other totals are 0. BAD_LIST, part 8: number 1, a line is not a fault; 2, there
+ * are too many, or the text has more than 4,194,304 bytes; 3, faults times steps exceeds 1,000,000,000. Or BAD_PLAN,
+ * MALFORMED, REFUSED or NO_MEMORY. In all cases but OK and NO_ROOM the totals are 0, and in all cases but OK the array
+ * is unchanged.
  */
 uint32_t talft_campaign(const uint8_t *bytes, size_t len, const uint8_t *list, size_t list_len, const uint8_t *wild,
                         size_t wild_len, uint64_t steps, talft_verdict *verdicts, size_t room, talft_totals *totals,
@@ -217,7 +217,7 @@ uint32_t talft_campaign(const uint8_t *bytes, size_t len, const uint8_t *list, s
 
 /*
  * A run that continues from call to call. Initialize it with TALFT_NO_MACHINE, and neither read nor write its fields. A copy
- * of it is not another run. Two calls never use one talft_machine at the same time.
+ * of it is not another run. No two calls may use one talft_machine at the same time.
  */
 typedef struct talft_machine {
     uint64_t there;
@@ -228,30 +228,29 @@ typedef struct talft_machine {
 
 /*
  * Checks an object, and begins its run. The object is copied, so the bytes may be freed. OK, MALFORMED, REFUSED, NO_MEMORY,
- * or NOT_NOW if the machine is open. In each case but OK the machine holds the same run, or none, as before.
+ * or NOT_NOW if the machine is open. In all cases but OK the machine holds the same run, or none, as before.
  */
 uint32_t talft_open(const uint8_t *bytes, size_t len, talft_machine *machine, talft_refusal *why);
 
 /*
  * Takes at most `steps` further steps, and writes the outputs of these steps, in order. OK if the run is done, DETECTED,
- * CUT if all steps were taken (or 2^64 - 1 in all), FULL if the array is full and steps are left, NOT_NOW if the machine is
- * not open, and then *ran and the array are unchanged. ran->steps is how many steps this call took: none after
- * the end of the run, and none with no room for outputs.
- * DETECTED comes only after a strike: then the outputs so far are a prefix of those of the run without it. A wild load stops
- * the machine.
+ * CUT if all steps were taken (or 2^64 - 1 in all), FULL if the array is full and steps are left, or NOT_NOW if the
+ * machine is not open; then *ran and the array are unchanged. ran->steps is how many steps this call took: none after
+ * the end of the run, and none if there is no room for outputs. DETECTED comes only after a strike: then the outputs so
+ * far are a prefix of those of the run without it. A wild load stops the machine.
  */
 uint32_t talft_advance(talft_machine *machine, uint64_t steps, talft_output *outputs, size_t room, talft_ran *ran);
 
 /*
  * Strikes the run before its next step, for tests: `site` is a text such as `r1`, `d`, `pcg`, `pcb`, `qa0` or `qv7`, and
- * the word there becomes `value`. OK, BAD_PLAN, NOT_NOW or NOT_STRUCK. In each case but OK the machine
- * holds the same run, or none, as before.
+ * the word there becomes `value`. OK, BAD_PLAN, NOT_NOW or NOT_STRUCK. In all cases but OK the machine holds the same
+ * run, or none, as before.
  */
 uint32_t talft_strike(talft_machine *machine, const uint8_t *site, size_t site_len, uint64_t value);
 
 /*
- * Restarts the run, without a strike. OK, NO_MEMORY or NOT_NOW. In each case but OK the machine holds the same run, or none,
- * as before.
+ * Restarts the run, without a strike. OK, NO_MEMORY or NOT_NOW. In all cases but OK the machine holds the same run, or
+ * none, as before.
  */
 uint32_t talft_restart(talft_machine *machine);
 

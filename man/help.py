@@ -9,17 +9,17 @@ LISTS = {"positional arguments": "ARGUMENTS", "options": "OPTIONS", "optional ar
 
 
 def plain(text):
-    """Text as it is, with everything escaped that man would interpret."""
+    """The text, with everything escaped that man would interpret."""
     for sign, written in (("\\", "\\e"), ("-", "\\-"), ("'", "\\(aq"), ("`", "\\(ga"), ("^", "\\(ha"), ("~", "\\(ti")):
         text = text.replace(sign, written)
     return re.sub(r"^\.", r"\\&.", text)
 
 
 def prose(text):
-    """A paragraph: code is bold, and a document is the page that is made from it."""
+    """A paragraph, with code in bold, and each document cited as the page that is made from it."""
     for document, page in PAGES.items():
         text = text.replace(document, f"`{page}`")
-    # A document that is not a page is not installed.
+    # Other documents are not installed as pages, so sentences that name one are left out.
     text = " ".join(part for part in re.split(r"(?<=[.:]) (?=[A-Z`])", text) if "docs/" not in part)
     parts = text.split("`")
     return "".join(f"\\fB{plain(part)}\\fR" if at % 2 else plain(part) for at, part in enumerate(parts))
@@ -38,7 +38,7 @@ def entries(lines):
 
 
 def listed(lines):
-    """The lines of man for a list; a line without a text stays as it is."""
+    """A list as lines for man; a term without a text stands alone."""
     return [part for term, text in entries(lines)
             for part in (".TP", f"\\fB{plain(term)}\\fR", *([prose(text)] if text else ["\\&"]))]
 

@@ -1,11 +1,11 @@
 #!/usr/bin/env bash
-# Makes the manual pages from the documents in docs/, with pandoc, and from the --help of each tool. Each page contains
-# checksums of its sources and of itself. With --stale it makes nothing, needs no pandoc, and names each page whose
-# checksums no longer match.
+# Makes the manual pages from the documents in docs/, with pandoc, and from each tool's --help. Each page contains
+# checksums of its sources and of itself. With --stale this script makes nothing, needs no pandoc, and names each page
+# whose checksums no longer match.
 set -u
 cd "$(dirname "$0")/.." || exit 2
 
-# The page, its section, its document, and what it is about.
+# Each page: its name, its section, its document, and what it is about.
 pages() {
   cat <<'PAGES'
 talft 1 COMMANDS compiles, checks and runs fault-tolerant typed assembly, and tries faults on it
@@ -21,10 +21,11 @@ talft-c 7 C programs in C for talft
 talft-debugging 7 DEBUGGING debugging of objects, assembly texts and sources of talft, forward and back
 PAGES
 }
-# The scripts of tools/ that have their own page.
+# The scripts in tools/: each has its own page.
 tools() { grep -lE '^#!' tools/* 2>/dev/null | sed 's|tools/||'; }
 
-# A document, or the chapters of it that a page has. Chapters about the proof, or only about a clone, are not for users.
+# A document, or the chapters of it that belong on a page. Chapters about the proof, or only about a clone, are not for
+# users.
 is_of_faults='^### (Strikes|Campaigns|Sessions of the debugger)$'
 not_for_users='^## (Before the proof|Forms by number|What is proved( of them)?|What typing means for runs|How the code (meets them|does it)|How many steps a check takes|Why it holds|The code|The walk|What was tried)$'
 document() {
@@ -56,7 +57,7 @@ lines() {
   pages | awk -v page="$name.$section" '$1 "." $2 != page { printf "%s.BR %s (%d)", n++ ? " ,\n" : "", $1, $2 } END { print "" }'
 }
 
-# The same for the C library: its document, and the header verbatim.
+# Likewise for the C library: its document, and the header verbatim.
 lines_of_library() {
   lines talft 3 EMBEDDING 'the checker, the machine and the compiler of talft as a C library' | sed '/^\.SH SEE ALSO$/,$d'
   printf '.SH THE HEADER\n.nf\n'
@@ -65,7 +66,7 @@ lines_of_library() {
   pages | awk '{ printf "%s.BR %s (%d)", n++ ? " ,\n" : "", $1, $2 } END { print "" }'
 }
 
-# The same for a tool's page.
+# Likewise for a tool's page.
 lines_of_tool() {
   head_of "talft-$1" 1
   COLUMNS=100 "tools/$1" --help | python3 man/help.py "$1" || return

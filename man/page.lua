@@ -15,8 +15,8 @@ local pages = {
   ["DEBUGGING.md"] = "talft-debugging(7)",
 }
 
--- What a reader of a page cannot look up: files of the repository, and words of the proofs. A page leaves out the
--- sentences that have them, and the columns of tables that name definitions.
+-- What a reader of a page cannot look up: files of the repository, and terms of the proofs. A page leaves out sentences
+-- that contain them, and columns of tables that name definitions.
 local unknown = { "crates/", "%.antt", "tests/", "%.md", "[Cc]lause", "[Ss]hel[fv]", "[Ss]ink", "[Dd]efinition", "lemma", "Before the proof" }
 local dropped = { definition = true, words = true, ranges = true, clause = true, clauses = true, derivation = true,
   ["its lexemes, before others"] = true, ["its tree"] = true }
@@ -64,7 +64,7 @@ local function close_up(sentence)
   end
 end
 
--- The sentences that stand alone. A sentence ends with a full stop before a space.
+-- The sentences that make sense on the page alone. A sentence ends with a full stop before a space.
 local function standing(inlines)
   local kept, sentence = pandoc.List(), pandoc.List()
   local function close()
@@ -136,7 +136,7 @@ function Code(code)
   return pandoc.Strong({ pandoc.Str(page or code.text) })
 end
 
--- The sections of a page have capitals.
+-- Section headings of a page are in capitals.
 function Header(header)
   if header.level > 1 then
     return header
@@ -154,7 +154,7 @@ function Link(link)
     or link.content
 end
 
--- Text as it stands, indented.
+-- Verbatim text, indented.
 function CodeBlock(block)
   if block.text:match("tests/") then
     return {}

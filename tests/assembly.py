@@ -12,7 +12,7 @@ MAGIC = b"TALFT\0\0"
 
 
 def words_of(text):
-    """Returns the words of the lines that say something."""
+    """Returns the words of the lines that are neither empty nor comments."""
     for line in text.split(b"\n"):
         words = [it for it in line.replace(b"\t", b" ").split(b" ") if it]
         if words and not words[0].startswith(b"#"):

@@ -1,5 +1,5 @@
 #!/usr/bin/env python3
-"""Compares the bounds of tools/bounds.py with tables, closed forms and sums of exact fractions, and prints the differences."""
+"""Compares the bounds of tools/bounds.py with tables, closed forms and sums of exact fractions; prints differences."""
 import fractions
 import math
 import os
@@ -9,7 +9,7 @@ sys.dont_write_bytecode = True
 sys.path.insert(0, os.path.join(os.path.dirname(os.path.dirname(os.path.abspath(__file__))), "tools"))
 from bounds import tail, upper
 
-# (count, drawn, doubt): the bound as tables of exact binomial limits have it. Those at 0.025 are upper ends of the
+# (count, drawn, doubt): the bound, from tables of exact binomial limits. Those at 0.025 are upper ends of the
 # two-sided interval of Clopper and Pearson (1934) at 95 %; those at 0.05 are one-sided.
 KNOWN = {
     (0, 10, 0.025): 0.3085, (1, 10, 0.025): 0.4450, (2, 10, 0.025): 0.5561, (5, 10, 0.025): 0.8129,

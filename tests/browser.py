@@ -3,8 +3,8 @@
 
     python3 tests/browser.py PAGE [PICTURE] <SCRIPT
 
-Each line is a JavaScript expression; its value is written as text. Last is the number of errors in the console; each
-is on standard error. PICTURE gets a PNG of the page."""
+Each line is a JavaScript expression; its value is written as text. The last line is the number of errors in the
+console, which go to standard error. PICTURE gets a PNG of the page."""
 import base64
 import json
 import os
@@ -16,7 +16,7 @@ NAMES = ("chromium", "chromium-browser", "google-chrome")
 
 
 class Browser:
-    """A browser that is spoken to over two pipes: texts in JSON, each ended by a zero byte."""
+    """A browser, driven over two pipes by JSON texts, each ended by a zero byte."""
 
     def __init__(self, name, folder):
         take, their_out = os.pipe()
@@ -43,7 +43,7 @@ class Browser:
         return json.loads(text)
 
     def ask(self, method, **words):
-        """Sends a question and waits for its answer; other messages are kept."""
+        """Sends a request and waits for its answer; other messages are kept."""
         self.count += 1
         question = {"id": self.count, "method": method, "params": words}
         self.give.write(json.dumps(question | ({"sessionId": self.page} if self.page else {})).encode() + b"\0")
@@ -59,7 +59,7 @@ class Browser:
             self.events.append(self.message())
 
     def errors(self):
-        """What the console has of errors, and exceptions that nothing caught."""
+        """The errors in the console, and uncaught exceptions."""
         for event in self.events:
             of, told = event.get("method"), event.get("params", {})
             if of == "Runtime.exceptionThrown":

@@ -1,7 +1,6 @@
 #!/usr/bin/env bash
 # Runs the proved program over real files and real standard input and output, which no proof covers. Each line
-# `expect NAME STATUS TEXT WORDS..` runs it and compares what it wrote. At the end are programs that use the
-# libraries, some of which must not compile.
+# `expect NAME STATUS TEXT WORDS..` in tests/cli/ runs it, and compares its output and its status.
 set -u
 top=$(cd "$(dirname "$0")/.." && pwd)
 . "$top/tests/report.sh"
@@ -14,7 +13,7 @@ expect() {
   report "$name" "$(printf '%b/%d' "$text" "$status")" "$got"
 }
 
-# The same for a script of tools/. Its standard error is kept in the file `said`.
+# Likewise for a script in tools/. Its standard error goes to the file `said`.
 tool() {
   local name=$1 status=$2 text=$3 script=$4 got
   shift 4
@@ -22,23 +21,23 @@ tool() {
   report "$name" "$(printf '%b/%d' "$text" "$status")" "$got"
 }
 
-# `refuses NAME SAID SCRIPT WORDS..`: the script writes nothing, says SAID in its last line, and ends with status 1.
+# `refuses NAME SAID SCRIPT WORDS..`: the script writes nothing, its last message is SAID, and its status is 1.
 refuses() {
   local name=$1 said=$2
   shift 2
   tool "$name" 1 '' "$@"
-  report "what is said of $name" "$said" "$(tail -n 1 said)"
+  report "the message about $name" "$said" "$(tail -n 1 said)"
 }
 
-# What the program writes and its status, under a limit on its memory in KB.
+# What the program writes, and its status, under a memory limit in KB.
 within() {
   local limit=$1
   shift
   (ulimit -v "$limit" && "$top/crates/talft/out/talft" "$@" </dev/null 2>"$work/errors"; printf '/%d' $?)
 }
 
-# `least_memory TEXT WORDS..` is the least limit, in steps of 512 KB, under which the words write the text and end with the
-# status after it, or `none` if there is no such limit up to 256 MB.
+# `least_memory OUTPUT/STATUS WORDS..` prints the smallest limit, in steps of 512 KB, under which the program has this
+# output and status, or `none` if no limit up to 256 MB suffices.
 least_memory() {
   local text=$1 limit
   shift

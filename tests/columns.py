@@ -1,10 +1,10 @@
 #!/usr/bin/env python3
 """Lists lines of proofs that are over 120 columns.
 
-    tests/columns.py               writes a line for each, and nothing where there is none
+    tests/columns.py               prints a line for each of them
     tests/columns.py --fold FILE.. folds the long lines of these .antt files in place
 
-A line is folded at the places where a reader would: after `in`, `;`, an arrow or a comma, or before an operator, at the
+A line is folded where a reader would fold it: after `in`, `;`, an arrow or a comma, or before an operator, at the
 outermost bracket that has such a place. A long import becomes several of the same module.
 """
 import glob
@@ -19,7 +19,7 @@ BEFORE_OPERATOR = re.compile(r"(∙|≡|×|\+\+|&&|then |else |\| )")
 
 
 def rank(before, after):
-    """How bad a place between two words is for a fold: 0 is best."""
+    """How bad it is to fold between two words: 0 is best."""
     if re.search(r"( in|;)$", before):
         return 0
     if re.search(r"(→|,|\.)$", before) or BEFORE_OPERATOR.match(after):
@@ -46,7 +46,7 @@ def places(line, start):
 
 
 def folded_code(line):
-    """A long line of code as several: those after the first are indented further."""
+    """A long line of code as several lines; all but the first are indented further."""
     start = len(line) - len(line.lstrip(" "))
     further = " " * (start + (2 if start else 4))
     while len(line) > WIDTH:
@@ -96,7 +96,7 @@ def fold(path):
 
 
 def check():
-    """Writes what is too long, and answers whether anything is."""
+    """Prints what is too long, and returns whether anything is."""
     long = False
     for path in sorted(glob.glob(os.path.join(TOP, "crates/*/proofs/**/*.antt"), recursive=True)):
         with open(path, encoding="utf-8") as file:

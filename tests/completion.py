@@ -1,6 +1,6 @@
 #!/usr/bin/env python3
-"""Completes words in bash under a terminal: python3 tests/completion.py COMPLETION_FILE FOLDER. Each line is typed
-with a tab at its end, and the shell prints the completed line. The status is 1 if a line is not as expected."""
+"""Completes words in bash on a terminal: python3 tests/completion.py COMPLETION_FILE FOLDER. Each line is typed with a
+tab at its end, and the shell prints the completed line. The status is 1 if a line is not as expected."""
 import os
 import pty
 import select
@@ -21,7 +21,7 @@ LINES = [
 
 
 def main(completions, folder):
-    # A terminal that is wide enough for a line.
+    # The terminal is wide enough for a whole line.
     child, terminal = pty.fork()
     if child == 0:
         os.chdir(folder)

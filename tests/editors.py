@@ -3,7 +3,7 @@
 
     python3 tests/editors.py textmate|vim|bat FILE..
 
-`textmate` goes through the grammar as an editor does; `vim` and `bat` run those programs. The last line counts the bytes
+`textmate` applies the grammar as an editor does; `vim` and `bat` run those programs. The last line counts the bytes,
 and those of a wrong class; the status is 1 if there are any.
 """
 import json
@@ -62,7 +62,7 @@ def classes(text):
 
 
 def scopes_of(text, grammar):
-    """The scope of each byte, as an editor finds it by a TextMate grammar."""
+    """The scope of each byte, as an editor finds it in a TextMate grammar."""
     with open(f"{EDITORS}/vscode/{grammar}.tmLanguage.json", encoding="utf-8") as file:
         patterns = [(re.compile(it["match"]), it["name"]) for it in json.load(file)["patterns"]]
     found = []
@@ -89,7 +89,7 @@ def scope_class(scope):
 
 
 def groups_of(file_name, folder):
-    """The name that Vim gives to the syntax of each byte of a file, and an empty one for each end of a line."""
+    """The name that Vim gives to the syntax of each byte of a file, and an empty name for each line end."""
     script, told = f"{folder}/script.vim", f"{folder}/told"
     with open(script, "w", encoding="utf-8") as file:
         file.write(

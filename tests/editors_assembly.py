@@ -28,7 +28,7 @@ CLASSES = {
 
 
 def is_type(word):
-    """Some times `ref:`, and then `int` or `code:T`."""
+    """Whether this is `int` or `code:T` after any number of `ref:`."""
     while word.startswith("ref:"):
         word = word[4:]
     return word == "int" or word.startswith("code:") and word[5:].isdigit()
@@ -48,7 +48,7 @@ def class_of(word, is_first):
 
 
 def classes(line):
-    """The class of each byte of a line; of a blank it is empty."""
+    """The class of each byte of a line; empty for a blank."""
     if line.lstrip(" \t").startswith("#"):
         return ["comment"] * len(line)
     found, is_first = [], True

@@ -1,5 +1,5 @@
 #!/usr/bin/env python3
-"""Prints the output that a program of examples/ must have, computed in ordinary Python over lists: `examples.py NAME`."""
+"""Prints the output that a program in examples/ must have, computed in plain Python over lists: `examples.py NAME`."""
 import sys
 import zlib
 
@@ -7,7 +7,7 @@ LINES = []
 
 
 class Cells(list):
-    """An array that records each word stored in it, and takes an index modulo its length."""
+    """An array that records each word stored in it, and takes indices modulo its length."""
 
     def __init__(self, name, length, word=0):
         super().__init__([word] * length)

@@ -1,5 +1,5 @@
-/* The allocation with the number FAIL_AT fails, counted from 1; how many there were is written to the file
-   COUNT_TO. Both are names in the environment. It is loaded before the C library. */
+/* Makes the allocation number $FAIL_AT fail, counted from 1, and writes how many there were to the file $COUNT_TO. It
+   is loaded before the C library. */
 #define _GNU_SOURCE
 #include <dlfcn.h>
 #include <stddef.h>

@@ -1,9 +1,9 @@
 """Runs a guide as a reader would: `guide.py GUIDE TOP` runs the blocks of a Markdown file, in one shell at TOP.
 
 A chapter with the comment `<!-- needs PROGRAM .. -->` is left out if one of these is missing, and a line says so.
-In a block of `console`, a line that begins with `$ ` is a command, lines that begin with `> ` go on with it, and the
-lines below are what it must write on standard output. A block `text NAME` is put into the file NAME. Other blocks are
-only for the reader. It prints a line for each command that writes something else, and a last one with the counts."""
+In a `console` block, a line that begins with `$ ` is a command, lines that begin with `> ` continue it, and the lines
+below are what it must write on standard output. A block `text NAME` is written to the file NAME. Other blocks are only
+for the reader. It prints a line for each command that writes something else, and a last one with the counts."""
 import os
 import re
 import shutil
@@ -41,7 +41,7 @@ def main(guide, top):
     with open(guide, encoding="utf-8") as text:
         asked = list(calls("".join(chapters(text.read()))))
     script = "".join(f"{{ {words.rstrip()}\n}} </dev/null\nprintf '\\036'\n" for words, _ in asked)
-    # Functions of the caller's shell are none of the reader's.
+    # A reader does not have the functions of the caller's shell.
     names = {name: value for name, value in os.environ.items() if not name.startswith("BASH_FUNC_")}
     run = subprocess.run(["bash", "-c", script], cwd=top, env=names, capture_output=True, text=True, check=False,
                          timeout=1800)

@@ -1,6 +1,6 @@
-/* Standard output through a writer that halts. Each other write is interrupted by a signal, and one that is not takes at most
-   TAKES bytes. After ROOM bytes a write fails as on a full disk. Both are names in the environment; without ROOM there is room
-   for all. It is loaded before the C library. */
+/* Makes writes to standard output halt. Every other write is interrupted by a signal, and the rest take at most $TAKES
+   bytes each. After $ROOM bytes, writes fail as on a full disk; without ROOM there is room for all. It is loaded before
+   the C library. */
 #define _GNU_SOURCE
 #include <errno.h>
 #include <stdlib.h>

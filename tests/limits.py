@@ -1,13 +1,13 @@
-"""The inputs of limits.sh. `limits.py list` prints each row's command and name. `limits.py NAME full|half|N` writes the files of
-that row into the current folder, and prints what it is, its size, the power with which work grows with the size, the
-status and the last line that are wanted, and then the words, one a line."""
+"""The inputs of limits.sh. `limits.py list` prints each row's command and name. `limits.py NAME full|half|N` writes the
+files of that row into the current folder, and prints what the input is, its size, the power of the size with which the
+work grows, the expected status and last line, the words as a table shows them, and then the words, one per line."""
 import sys
 
 sys.dont_write_bytecode = True
 import limits_tables, limits_chains, limits_runs, limits_sources, limits_texts, limits_links  # noqa: E401, E402, F401
 from limits_rows import COMMANDS, ROWS, put  # noqa: E402
 
-# Words that depend on the size.
+# Arguments that depend on the size.
 SPECIAL = {"N": lambda n: [str(n)], "ANSWERS": lambda n: [",".join(["18446744073709551615"] * n)],
            "DIGITS": lambda n: ["1" * n], "WORDS": lambda n: ["--steps"] * n}
 

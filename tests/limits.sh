@@ -1,11 +1,11 @@
 #!/usr/bin/env bash
-# Measures the proved program at every limit: valid and invalid inputs for each command, at their greatest size and at half
-# of it, under a native stack of 1 MB. Writes one row for each, as in tests/limits.tsv:
+# Measures the proved program at every limit: valid and invalid inputs for each command, at their largest size and at
+# half of it, with a native stack of 1 MB. Writes one row for each, as in tests/limits.tsv:
 #     bash tests/limits.sh >tests/limits.tsv
-# Words are patterns for the names of rows (limits.py list). A row fails if the status or the last line is wrong, if there is a
-# crash message, if the program takes more than 1.5 GB, or if time or memory grow faster than the work. Time and memory are
-# those without an explanation; each full row is then run once more with one. It takes ten minutes, needs Python 3 and GNU
-# time, and is not part of the gate.
+# Arguments are patterns for the names of rows (limits.py list). A row fails if the status or the last line is wrong, if
+# there is a crash message, if the program takes more than 1.5 GB, or if time or memory grow faster than the work. Time
+# and memory are measured without explanations; each full row is then run once more with them. It takes ten minutes,
+# needs Python 3 and GNU time, and is not part of the gate.
 set -u
 top=$(cd "$(dirname "$0")/.." && pwd)
 work=$(mktemp -d)
@@ -20,8 +20,8 @@ fails() {
   failed=$((failed + 1))
 }
 
-# Runs the program on the input of a row at a size. Sets `row`, `status`, `said`, `time` in milliseconds of the processor and
-# `peak` in KB.
+# Runs the program on the input of a row at a size. Sets `row`, `status`, `said`, `time` in milliseconds of processor
+# time, and `peak` in KB.
 measure() {
   local least=1000000000 spent=0 turn words user system
   mapfile -t row < <(python3 "$top/tests/limits.py" "$name" "$1")

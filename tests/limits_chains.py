@@ -22,7 +22,7 @@ def chain(name, what, make, full=1048576, unit="nodes", power=1, answers=None):
 
 
 def pairs_of(op, version=1):
-    """Each node is the operation on the one before it, twice."""
+    """Each node applies the operation to the one before it, taken twice."""
     return lambda n: own(variables(1) + b"".join(operation(op, k - 1, k - 1, 1) for k in range(2, n)), n - 1, version=version)
 
 
@@ -32,7 +32,7 @@ def remainders(n):
 
 
 def steps_by(op, value):
-    """Each node is the operation on the one before it and a word."""
+    """Each node applies the operation to the one before it and a word."""
     return lambda n: own(variables(1) + word(value, 1) + b"".join(
         operation(op, k - 1 if k > 3 else 1, 2, 1) for k in range(3, n)), n - 1)
 
@@ -64,7 +64,7 @@ def levels(n):
 
 
 def scaled(n):
-    """The product of two sums of eight products, with 64 monomials of four atoms, and then each node three times the one
+    """The product of two sums of eight products, with 64 monomials of four atoms; then each node is three times the one
     before it."""
     nodes = variables(32) + word(3, 32) + b"".join(operation(MUL, 1 + k, 17 + k, 32) for k in range(16))
     nodes += total(34, 8, 50, 32) + total(42, 8, 57, 32) + operation(MUL, 56, 63, 32)
@@ -72,7 +72,7 @@ def scaled(n):
 
 
 def products(n, degree=1):
-    """Products of sums of eight monomials of a degree, all unlike: each has 64 monomials. Comparisons join them."""
+    """Products of sums of eight monomials of a degree, all different: each has 64 monomials. Comparisons join them."""
     nodes, at, sums = [variables(128)], 129, ([], [])
     for side in (0, 1):
         parts = [1 + 64 * side + k for k in range(64)]
@@ -115,8 +115,8 @@ def monomials(n, count=1024):
 
 
 def sliding(n, count=4096):
-    """Sums of 63 and 64 of so many products of four variables. Each is the one before it, less the oldest of its products
-    or with one more. The products are added in another order in each round."""
+    """Sums of 63 and 64 of this many products of four variables. Each is the one before it without the oldest of its
+    products, or with one more. The order in which products are added changes in each round."""
     nodes, at = [variables(32)], 33
     pairs = [[(i, j) for i in range(low, low + 16) for j in range(i + 1, low + 16)][:64] for low in (1, 17)]
     nodes += [operation(MUL, i, j, 32) for i, j in pairs[0] + pairs[1]]
@@ -137,14 +137,14 @@ def sliding(n, count=4096):
 
 
 def updates(n):
-    """Each node is the memory before it with another word at an address; addresses take turns, so no update replaces one."""
+    """Each node is the memory before it with a new word at an address. The addresses take turns: none is replaced."""
     nodes = variables(2) + upd(0, 1, 2, 2) + b"".join(upd(k - 1, 1 + k % 2, 1, 2) for k in range(4, n))
     return own(nodes + sel(n - 1, 1, 2), n, 2)
 
 
 def walks(n):
-    """A fifth of the nodes each: addresses, updates there, other addresses, the words there, and comparisons that join them.
-    Each word is sought through all updates."""
+    """A fifth of the nodes each: addresses, updates there, other addresses, the words there, and comparisons that join
+    them. The search for each word passes all updates."""
     count = n // 5
     nodes = [variables(1), b"".join(word(OUT + k, 1) for k in range(2 * count))]
     at = 2 + 2 * count
@@ -156,7 +156,7 @@ def walks(n):
 
 
 def long_walks(n):
-    """As `walks`, but each address is a sum of 63 variables and a word."""
+    """Like `walks`, but each address is a sum of 63 variables and a word."""
     count = n // 7
     nodes = [variables(63), total(1, 63, 64, 63)]
     nodes += [word(OUT + k, 63) for k in range(2 * count)]
@@ -192,7 +192,7 @@ chain("long-walks", "nodes, of which a seventh are words sought through as many 
 
 
 def tower(n, towers, jumps):
-    """A block for each jump, which hands another word to a block whose register holds a tower of n multiples of it."""
+    """A block for each jump, which passes a new word to a block whose register holds a tower of n multiples of it."""
     nodes = [variables(1), word(3, 1), operation(MUL, 1, 2, 1)]
     nodes += [operation(MUL, k - 1, 2, 1) for k in range(4, n + 3)]
     words, instrs = [], [HALT, mov(1, GREEN, 2, code(1)), mov(33, BLUE, 2, code(1)), jump(GREEN, 1), jump(BLUE, 33, 0, 1, 0)]
@@ -216,8 +216,8 @@ chain("tower", "nodes under each of 16 jumps, each with another word", lambda n:
 
 
 def turned(n, sums=16384):
-    """Blocks that jump to one another, each with the 64 variables in another order under a tower of sums. What the registers
-    hold is the last sum less itself, so all are accepted."""
+    """Blocks that jump to one another, each with the 64 variables in another order under a tower of sums. The registers
+    hold the last sum minus itself, so all jumps are accepted."""
     nodes = variables(64) + total(1, 32, 65, 64) + total(33, 32, 96, 64) + operation(ADD, 95, 126, 64) + operation(ADD, 127, 126, 64)
     top = 127 + sums - 1
     nodes += b"".join(operation(ADD, k - 1, k - 2, 64) for k in range(129, top + 1)) + operation(SUB, top, top, 64)

@@ -1,4 +1,4 @@
-"""Link maps, over an object with many stubs and another one."""
+"""Link maps over two objects, one of which has many stubs."""
 from limits_objects import *
 from limits_rows import *
 

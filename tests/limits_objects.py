@@ -1,4 +1,4 @@
-"""Writes objects of both versions of the format, each section as the bytes of its records. It checks no rules."""
+"""Writes objects in both versions of the format, each section as the bytes of its records. It checks no rules."""
 import struct
 
 GREEN, BLUE = 0, 1
@@ -8,7 +8,7 @@ OUT = 1048576
 
 
 def code(number):
-    """The basic type of the addresses of blocks of a code type."""
+    """The basic type of the addresses of blocks with a code type."""
     return struct.pack(">BBH", 0, 1, number)
 
 

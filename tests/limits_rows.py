@@ -23,12 +23,12 @@ def put(name, data):
 
 
 def to_length(text, length):
-    """So much of a text that is repeated."""
+    """Repeats a text up to a length."""
     return (text * (length // len(text) + 1))[:length]
 
 
 def object_words(command):
-    """Words of a command over the object; faults and script are one line."""
+    """The words of a command over the object; the fault list and the script have one line."""
     if command in ("campaign", "survey"):
         return [command, "object", "--faults", "faults", "--steps", "100"]
     if command == "link":
@@ -44,7 +44,7 @@ def put_object(data):
 
 
 def over_objects(name, what, full, unit, make, answers, **more):
-    """A row for each of these commands over the same object. An answer is a function of the size."""
+    """Adds a row for each of these commands over the same object. An answer is a function of the size."""
     for command, want in answers.items():
         add(f"{name}-{command}", what, object_words(command), full, unit, lambda n: put_object(make(n)), want, **more)
 
@@ -60,14 +60,14 @@ def refused(line):
 RUNNING = "at 0 running pcg 1 pcb 1 block 0 index 0"
 MASKED = "faults 1 masked 1 detected 0 idle 0 corrupt 0"
 IDLE = "faults 1 masked 0 detected 0 idle 1 corrupt 0"
-# What each command says about an object that is accepted, outputs nothing and halts.
+# What each command says about an accepted object that outputs nothing and halts.
 HALTS = {"check": same(0, "accepted"), "run": same(0), "trial": same(0), "campaign": same(0, MASKED),
          "survey": same(0, MASKED), "debug": same(0, RUNNING), "upgrade": same(0, None), "dis": same(0, "entry 0"),
          "schedule": same(0, None), "recover": same(0), "link": same(0, None)}
 
 
 def unaccepted(line, trial=0):
-    """What each command says of an object that is refused by the checker."""
+    """What each command says about an object that the checker refuses."""
     return {"check": same(8, line), "run": same(8, line), "trial": same(trial), "campaign": same(8, line),
             "survey": same(0, MASKED), "debug": same(0, RUNNING), "upgrade": same(0, None), "dis": same(0, "entry 0"),
             "schedule": same(8, line), "recover": same(8, line), "link": same(8, line)}

@@ -1,4 +1,4 @@
-"""Bytes that are not an object, and lawful objects with every table at its limit."""
+"""Bytes that are not an object, and valid objects with every table at its limit."""
 from limits_objects import *
 from limits_rows import *
 
@@ -21,7 +21,7 @@ over_objects("kinds", "nodes, the last of an unknown kind", 1048576, "nodes",
              {c: (lambda n: (7, f"object 5 {64 + 16 * (n - 1)}")) for c in OBJECT_COMMANDS})
 
 
-# Lawful objects at the limits.
+# Valid objects at the limits.
 def names_of(count, length=32):
     return b"".join(b"n%0*d" % (length - 1, number) for number in range(count))
 
@@ -31,7 +31,7 @@ def cells_of(count, length=32, word=0):
 
 
 def many_types(count, registers, queue):
-    """Types, all but the first with rows for this many registers and pairs, of nodes from 1 on."""
+    """Types; all but the first have rows for this many registers and pairs, with nodes from 1 on."""
     types, regs, queues, node = [code_type()], [], [], 1
     for number in range(1, count):
         for register in range(registers):
@@ -43,7 +43,7 @@ def many_types(count, registers, queue):
 
 
 def largest(n, version=1, length=32):
-    """All counts but those of rows at a 65,536th of n of their limits; the last blocks jump without need."""
+    """All tables but those of rows are filled to n / 65,536 of their limits; the last blocks jump without need."""
     types, regs, queues = many_types(n // 16, 64, 8)
     jumps = n // 8
     return spell(memory() + words_from(1, 16 * n - 1), HALT * (n - jumps) + b"".join(

@@ -1,6 +1,6 @@
-"""Links modules as texts: `link.py MAP` writes the assembly text of the object that a map links. The modules' texts
-are next to their objects, MODULE.asm next to MODULE.obj, as `talft dis` writes them. It is written only from the
-rules, and refuses nothing."""
+"""Links modules as texts: `link.py MAP` writes the assembly text of the object that a map links. The texts of the
+modules, as `talft dis` writes them, are next to the objects: MODULE.asm next to MODULE.obj. This linker is written
+from the rules alone, and refuses nothing."""
 import sys
 
 

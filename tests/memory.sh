@@ -1,7 +1,7 @@
 #!/usr/bin/env bash
-# Runs every command over its example with each allocation failing in turn, and over a large input under memory limits that
-# rise until they suffice. Each run must end with status 5 and write nothing, or end as it does without a failure.
-# It needs a C compiler and Python 3, and is not part of the gate.
+# Runs every command on its example with each allocation failing in turn, and on a large input under memory limits that
+# rise until they suffice. Each run must end with status 5 and write nothing, or end as it does without a failure. It
+# needs a C compiler and Python 3, and is not part of the gate.
 set -u
 top=$(cd "$(dirname "$0")/.." && pwd)
 work=$(mktemp -d)
@@ -12,7 +12,7 @@ cc -O1 -fPIC -shared -o "$work/failing_malloc.so" "$top/tests/failing_malloc.c" 
 cd "$top/examples" || exit
 passed=0 failed=0
 
-# `each NAME INPUT WORDS..` runs the words over standard input from a file.
+# `each NAME INPUT WORDS..` runs the program with these arguments, and with standard input from a file.
 each() {
   local name=$1 input=$2 total number wanted status got
   shift 2
@@ -48,7 +48,7 @@ each 'mean' /dev/null mean fibonacci.src
 each 'debug' five.script debug five.obj
 each 'demo' /dev/null demo 3
 each 'upgrade' /dev/null upgrade five.obj
-each 'upgrade of bytes that are no object' /dev/null upgrade five.faults
+each 'upgrade of bytes that are not an object' /dev/null upgrade five.faults
 each 'dis' /dev/null dis five.obj
 each 'asm' /dev/null asm five.asm
 each 'asm of a refused text' /dev/null asm five.faults
@@ -60,15 +60,15 @@ each 'link' /dev/null link caller.map
 cd "$top/examples" || exit
 each 'a missing file' /dev/null trial missing
 
-# Standard error is then not the program's.
+# From here on, the program writes nothing to standard error.
 export TALFT_EXPLAIN=0
-# The least memory in KB under which the program says `usage`.
+# The least memory in KB under which the program writes `usage`.
 least=2048
 until [ "$(ulimit -v "$least" && "$program" 2>"$work/errors" </dev/null)" = usage ] || [ "$least" -gt 262144 ]; do
   least=$((least + 512))
 done
 
-# `rising NAME INPUT WORDS..` runs the words under limits from the least on, in steps of 1 MB.
+# `rising NAME INPUT WORDS..` runs the program under limits from the least on, in steps of 1 MB.
 rising() {
   local name=$1 input=$2 limit wanted status wrong=0
   shift 2
@@ -90,7 +90,7 @@ rising() {
   printf '%s: enough with %d KB, %d more than the least, status %d\n' "$name" "$limit" $((limit - least)) "$wanted"
 }
 
-# Large inputs: a source of the greatest weight, its object, the most faults, and a script of 1 MiB.
+# Large inputs: a source of maximum weight, its object, the maximum number of faults, and a script of 1 MiB.
 {
   printf 'cell out = 0; var i; while (i < 3) { i = i + 1; '
   for ((n = 0; n < 10914; n++)); do printf 'out = 7; '; done

@@ -20,7 +20,7 @@ def chunks(data):
 
 
 def unfiltered(kind, row, above, size):
-    """A row of dots, each of this many bytes; its bytes are differences from others, depending on the filter."""
+    """A row of dots of this many bytes each; depending on the filter, bytes are differences from other bytes."""
     out = bytearray(row)
     for at, byte in enumerate(row):
         left = out[at - size] if at >= size else 0

@@ -1,4 +1,4 @@
-# Counts what passed, failed and was skipped, in a temporary folder. The scripts of this folder begin with it.
+# Counts what passed, failed and was skipped, and makes a temporary folder. The test scripts begin with it.
 work=$(mktemp -d)
 trap 'rm -rf "$work"' EXIT
 passed=0 failed=0 skipped=0
@@ -26,7 +26,7 @@ has() {
   return 1
 }
 
-# The last line, and the status.
+# Prints the last line, and sets the status.
 close() {
   [ "$skipped" -eq 0 ] || printf '%d skipped, ' "$skipped"
   echo "$passed passed, $failed failed"

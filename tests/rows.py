@@ -1,13 +1,13 @@
 #!/usr/bin/env python3
-"""Compares the program with worked rows: words, output and status.
+"""Compares the program with worked rows: arguments, output and status.
 
     tests/rows.py PROGRAM
 
-Each file of tests/rows/ is a table. A row is the status, the words, the text and what the words are over, with `|`
-between them. A line feed is written `\\n`. The head of a table says what the last part is: standard input, or a file by
-its name. The worked objects are next to it, named as in crates/ft_worked_objects. Rows whose files are generated are in
-rows_made.py. Values come from the definitions and from another implementation. Writes a line for each row that fails,
-and finally how many passed and failed.
+Each file in tests/rows/ is a table. A row has the status, the arguments, the output and the input, separated by `|`. A
+line feed is written `\\n`. The head of a table says what the input is: standard input, or a named file. The worked
+objects are in the same folder as that file, named as in crates/ft_worked_objects. Rows whose files are generated are in
+rows_made.py. The values come from the definitions and from another implementation. Writes a line for each row that
+fails, and finally how many passed and failed.
 """
 import os
 import re
@@ -21,7 +21,7 @@ TOP = os.path.dirname(os.path.dirname(os.path.abspath(__file__)))
 
 
 def literal(text):
-    """The bytes of a byte string of Rust, whose `\\0` takes no further digits."""
+    """The bytes of a Rust byte string, in which the escape `\\0` ends after the 0."""
     marks = {"0": b"\0", "n": b"\n", "r": b"\r", "t": b"\t"}
     made = b""
     for byte, mark, plain in re.findall(r"\\x([0-9a-f]{2})|\\([^\n])|\\\n\s*|([^\\])", text):
@@ -30,7 +30,7 @@ def literal(text):
 
 
 def worked_objects():
-    """The worked objects, by their names there."""
+    """The worked objects, by name."""
     with open(os.path.join(TOP, "crates/ft_worked_objects/src/lib.rt"), encoding="utf-8") as file:
         constants = re.findall(r'pub const (\w+): &\[u8\] =\s*b"((?:[^"\\]|\\.)*)"', file.read(), re.S)
     objects = {name: literal(text) for name, text in constants}
@@ -43,7 +43,7 @@ def worked_objects():
 
 
 class Calls:
-    """Calls of the program in a folder of their own, and how many rows passed and failed."""
+    """Calls the program in a folder of its own, and counts the rows that pass and fail."""
 
     def __init__(self, program, folder, objects):
         self.program, self.folder, self.objects = program, folder, objects
@@ -57,20 +57,20 @@ class Calls:
             file.write(content)
 
     def answer(self, words, script=b""):
-        """What the program writes on these words, and its status."""
+        """What the program writes for these arguments, and its status."""
         done = subprocess.run(
             [self.program, *words], cwd=self.folder, input=script, capture_output=True, timeout=60, check=False
         )
         return done.stdout, done.returncode
 
     def expect(self, words, text, status, script=b""):
-        """Counts the row."""
+        """Compares a row, and counts it."""
         got = self.answer(words, script)
         wanted = (text, status)
         self.count(got == wanted, f"{' '.join(words)}: wanted {str(wanted)[:200]}, got {str(got)[:200]}")
 
     def count(self, holds, what):
-        """Counts a row that holds or not."""
+        """Counts a row as passed or failed."""
         if holds:
             self.passed += 1
         else:

@@ -1,4 +1,4 @@
-"""Rows of tests/rows.py whose files are generated: altered objects, long texts, and outputs compared with each other."""
+"""Rows for tests/rows.py whose files are generated: altered objects, long texts, and outputs to be compared."""
 import struct
 
 # The object that stores 5, as an assembly text.
@@ -41,7 +41,7 @@ MODULES = {
     # It stores its own code address.
     "s": "node 0 memory|type 0 0|block 0|mov r0 G 1048576 ref:int|mov r1 G 1 code:0|mov r32 B 1048576 ref:int|"
     "mov r33 B 1 code:0|st_G r0 r1|st_B r32 r33|halt",
-    # A register row has a code type as its base.
+    # A register row has the type of a code address.
     "r": "node 0 memory|node 0 word 1|type 0 0|reg r2 G code:0 1|type 0 0|block 1|halt",
 }
 
@@ -121,7 +121,7 @@ def over(calls, name, content, rows):
 
 
 def no_objects(calls):
-    """Bytes that spell no object."""
+    """Bytes that do not spell an object."""
     commands = [f"{command} file" for command in ("check", "trial", "upgrade")]
     first = calls.objects["A"]
     files = [(first[:n], b"object 2 %d\n" % n) for n in range(len(first))]
@@ -241,7 +241,7 @@ def sources(calls):
 
 
 def compiled(calls):
-    """Compiled objects: they are accepted, written again from what they spell, and run as `exec` runs."""
+    """Compiled objects: they are accepted, `upgrade` does not change them, and they run as `exec` does."""
     for source in SOURCES:
         calls.add("file", source)
         written, _ = calls.answer(["compile", "file"])
@@ -262,7 +262,7 @@ def compiled(calls):
 
 
 def endless(calls):
-    """A loop without an end is cut after a front of the counting."""
+    """An endless loop is cut, and writes the first numbers."""
     calls.add("file", b"cell out = 0; while (1) { out = out + 1; }")
     written, status = calls.answer(["exec", "file", "--steps", "1000"])
     counting = b"".join(b"out %d\n" % n for n in range(1, 1000))

@@ -1,9 +1,10 @@
 #!/usr/bin/env bash
-# Builds program, C library, tarball and package twice, and compares the bytes: in other folders, one after the other, under
-# another user, umask, locale, time zone and number of processors. Without --packages, program and library are compiled in
-# each copy, from proofs that the kit has kept; with --anew, or if the kit keeps nothing, each copy is proved from scratch.
-# With `--packages PROGRAM` the library is linked twice from the archive that is built here, and the tarball and the package
-# are made twice from it and from this program. That takes seconds, so the gate does it. It prints a line for each file.
+# Builds the program, the C library, the tarball and the package twice, one after the other, and compares the bytes. The
+# second build has another folder, user, umask, locale, time zone and number of processors. Without --packages, program
+# and library are compiled in each copy, from proofs that the kit has kept; with --anew, or if the kit keeps nothing,
+# each copy is proved from scratch. With `--packages PROGRAM` the library is linked twice from the archive that is built
+# here, and the tarball and the package are made twice from it and from PROGRAM; that takes seconds, so the gate does
+# it. Prints a line for each file.
 set -u
 from=$(cd "$(dirname "$0")/.." && pwd)
 way=${1-} given=${2-}
@@ -12,7 +13,7 @@ trap 'rm -rf "$room"' EXIT
 chmod 755 "$room"
 one=$room/one two=$room/another/and/longer
 mkdir -p "$two" "$one" || exit 2
-# The time of the commit; a copy has no repository.
+# The time of the commit: the copies are not repositories.
 SOURCE_DATE_EPOCH=$(git -C "$from" log -1 --format=%ct 2>/dev/null || echo 1)
 export SOURCE_DATE_EPOCH
 for copy in "$one" "$two"; do
@@ -36,7 +37,7 @@ export -f built
 as=
 if [ "$(id -u)" = 0 ]; then
   chown -R nobody "$two" "$room/another"
-  # The kit keeps its proofs for its own user. What only that user can run is not on another user's path.
+  # The kit keeps its proofs for its own user. Another user's PATH has nothing that only that user can run.
   [ "$way" != --packages ] || as='env PATH=/usr/local/bin:/usr/bin:/bin setpriv --reuid=nobody --clear-groups'
 fi
 # The kit runs the tests of crates as nobody, who must be able to read them.

@@ -1,13 +1,14 @@
 #!/usr/bin/env python3
-"""Schedules the blocks of an assembly text as the definition of a schedule says, by exchanging neighbours until no exchange is
-permitted: `python3 tests/schedule.py TEXT` writes the text. It does not know how the program finds the order."""
+"""Schedules the blocks of an assembly text as the definition of a schedule says, by exchanging neighbours until no
+exchange is permitted: `python3 tests/schedule.py TEXT` writes the text. It knows nothing about how the program finds
+the order."""
 import sys
 
 FIXED = ("jmp_", "bz_", "halt")
 
 
 def registers(words):
-    """Returns the register that an instruction writes, if it writes one, and those that it reads."""
+    """Returns the register that an instruction writes, if any, and those that it reads."""
     named = [word for word in words[1:] if word[0] == "r" and word[1:].isdigit()]
     if words[0] == "mov":
         return named[0], []

@@ -1,6 +1,6 @@
 #!/usr/bin/env python3
 """Checks a site made by `make site`: `tests/site.py FOLDER` writes each link that leads nowhere, each page without a title, and
-each script, style sheet or picture from elsewhere. The last line counts the pages and the links.
+each script, style sheet or picture that is loaded from elsewhere. The last line counts the pages and the links.
 """
 import html.parser
 import os
@@ -9,7 +9,7 @@ import urllib.parse
 
 
 class Page(html.parser.HTMLParser):
-    """The links of a page, and the places in it that links name."""
+    """The links of a page, and the places in it that links can name."""
 
     def __init__(self, path):
         super().__init__()

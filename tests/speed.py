@@ -1,7 +1,7 @@
-"""The inputs of speed.sh, and its table. `speed.py inputs FOLDER TALFT` writes the sources, maps and faults of all rows
-into the folder, and has the program make their objects and texts. `speed.py table ROWS COUNTS DOCUMENT` puts the counts
-into the table of the document that begins with `| row |`. `speed.py times ROWS TALFT PLAIN DOCUMENT` runs each row twenty
-times with both programs in turn, and puts the medians into the table that begins with `| timed row |`.
+"""The inputs of speed.sh, and its tables. `speed.py inputs FOLDER TALFT` writes the sources, maps and faults of all
+rows into the folder, and lets the program make their objects and texts. `speed.py table ROWS COUNTS DOCUMENT` puts the
+counts into the document's table that begins with `| row |`. `speed.py times ROWS TALFT PLAIN DOCUMENT` runs each row
+twenty times with both programs in turn, and puts the medians into the table that begins with `| timed row |`.
 """
 import os
 import statistics
@@ -43,7 +43,7 @@ def put(name, data):
 
 
 def drawn(count, most):
-    """So many numbers below a bound, the same ones each time."""
+    """This many random numbers below a bound, the same ones each time."""
     state = 1
     for _ in range(count):
         state = (state * 6364136223846793005 + 1442695040888963407) % 2**64
@@ -51,7 +51,7 @@ def drawn(count, most):
 
 
 def faults():
-    """Strikes at steps and registers that are drawn."""
+    """Strikes at random steps and registers."""
     numbers = drawn(3 * FAULTS, 1 << 30)
     return "".join(f"{next(numbers) % STEPS}:r{next(numbers) % 64}:{next(numbers)}\n" for _ in range(FAULTS))
 
@@ -79,7 +79,7 @@ def read_rows(rows):
 
 
 def put_table(document, table):
-    """Puts a table in the place of the one in the document that begins with the same name of a column."""
+    """Replaces the table in the document whose first column has the same name."""
     head = table[0].split("|")[1]
     with open(document, encoding="utf-8") as text:
         lines = text.read().split("\n")

@@ -1,16 +1,16 @@
 #!/usr/bin/env bash
-# Counts the machine instructions of each command with valgrind's callgrind; load on the machine does not affect them.
-# A row fails if its count is more than 2 % above the one in tests/speed.counts. It is part of the gate. The C library
-# selects its copying functions by processor: here it uses those that every processor has. Counts with another version
-# of that library are not compared.
+# Counts the machine instructions of each command with valgrind's callgrind; the load on the machine does not affect
+# them. A row fails if its count is more than 2 % above the one in tests/speed.counts. It is part of the gate. The C
+# library selects its copying functions by processor: here it uses those that every processor can run. Counts with
+# another version of that library are not compared.
 #
 #     bash tests/speed.sh [--write] [ROW..]
 #     PLAIN=.. bash tests/speed.sh --times
 #
-# Calls are counted without explanations: to explain a run, talft repeats it, and no other program does.
+# Calls are counted without explanations: to explain a run, talft repeats it, which the other program does not do.
 #
-# PLAIN names another program, with words that precede those of a row. Its counts are then taken as well; otherwise the
-# recorded ones are shown. With --write the new counts are recorded and put into docs/SPEED.md. With --times both
+# PLAIN names another program, with any arguments that precede those of a row. It is then counted as well; otherwise the
+# recorded counts are shown. With --write the new counts are recorded and put into docs/SPEED.md. With --times both
 # programs run each row twenty times in turn, and docs/SPEED.md gets the medians of their times: run nothing else.
 set -u
 top=$(cd "$(dirname "$0")/.." && pwd)
@@ -31,7 +31,7 @@ if [ "$write$times" = nono ] && ! grep -qs "^# $library\$" "$kept"; then
 fi
 bash "$top/build/prove.sh" >"$work/said" || { cat "$work/said"; exit 1; }
 
-# Each row's name, and its words.
+# Each row's name, and its arguments.
 rows() {
   cat <<'ROWS'
 check-assignments check assignments.obj
@@ -58,7 +58,7 @@ campaign campaign counting.obj --faults faults --steps 15000
 ROWS
 }
 
-# `count FILE WORDS..` runs the words under callgrind, and puts their machine instructions into the file.
+# `count FILE WORDS..` runs a command under callgrind, and writes its machine instructions to the file.
 count() {
   local to=$1
   shift

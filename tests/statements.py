@@ -3,9 +3,9 @@
 
     tests/statements.py
 
-A lemma of crates/*/proofs/ is read up to its first equation, an `abbrev` with its equations. Two are the same if
-they differ only in bound names and refer to the same definitions: a name of this repository is identified by its module.
-Writes a line for each group, with its places, and nothing if each statement occurs once.
+A lemma in crates/*/proofs/ is read up to its first equation, an `abbrev` with its equations. Two are the same if they
+differ only in bound names and refer to the same definitions: a name from this repository is identified by its module.
+Prints a line for each group, with its places.
 """
 import collections
 import glob
@@ -24,7 +24,7 @@ LEAST = 5
 
 
 def imported(lines):
-    """The names of this repository that a file imports, each with where it comes from."""
+    """The names from this repository that a file imports, each with its origin."""
     names = {}
     for line in lines:
         use = USE.match(line)
@@ -47,7 +47,7 @@ def defined(lines, module):
 
 
 def after(lines, at):
-    """Where the lines that belong to the line before `at` end."""
+    """Where the lines end that belong to the line before `at`."""
     while at < len(lines) and lines[at].startswith(" "):
         at += 1
     return at
@@ -83,7 +83,7 @@ def normal(name, statement, known):
 
 
 def places():
-    """Each statement of the repository, with the file, the line and the name of each place."""
+    """Each statement in the repository, with the file, the line and the name of each of its places."""
     found = collections.defaultdict(list)
     for path in sorted(glob.glob(os.path.join(TOP, "crates/*/proofs/**/*.antt"), recursive=True)):
         with open(path, encoding="utf-8") as file:

@@ -3,10 +3,10 @@
 
     tests/times.py OUT COMMAND..
 
-as in `tests/times.py times.md rt ci`, followed by --anew if the kit keeps proofs. It looks at all processes of the prover
-twice a second, so proofs of another run at the same time are counted too: run it alone. The table OUT has each crate's minutes in
-the order of crates.txt, by proof, tests and wrong bodies, their sum, and how long the command took. The status is the
-command's.
+for example `tests/times.py times.md rt ci`, with --anew if the kit keeps proofs. It looks at all processes of the
+prover twice a second, so it also counts proofs of other runs: run it alone. The table OUT has each crate's minutes in
+the order of crates.txt, for its proof, tests and wrong bodies, their sum, and how long the command took. The status is
+the command's.
 """
 import os
 import re
@@ -21,7 +21,7 @@ PARTS = ("proof", "tests", "wrong bodies")
 
 
 def part_of(words):
-    """The crate and the part that a process of the prover works at, if it is one."""
+    """The crate and the part that a process works on, if it is one of the prover."""
     if not words or os.path.basename(words[0]) != "rattle" or "--crate-name" not in words:
         return None
     crate = words[words.index("--crate-name") + 1]
@@ -31,7 +31,7 @@ def part_of(words):
 
 
 def look(seen):
-    """Notes how much time each process of the prover has taken so far, with its children that have ended."""
+    """Notes how much time each process of the prover has taken so far, including its ended children."""
     for pid in filter(str.isdigit, os.listdir("/proc")):
         try:
             with open(f"/proc/{pid}/cmdline", "rb") as file:
@@ -49,7 +49,7 @@ def look(seen):
 
 
 def watched(command):
-    """What the command's processes of the prover took, its status, and how long it ran."""
+    """What the prover's processes took during the command, its status, and how long it ran."""
     seen, ended = {}, threading.Event()
 
     def watch():

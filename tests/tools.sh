@@ -22,7 +22,7 @@ trap 'stop; sleep 1; rm -rf "$work"' EXIT
 is_built || { echo 'tests/tools.sh: the program is not proved yet: run `make`'; exit 1; }
 unset DISPLAY
 
-# `measured NAME WORDS..` runs the words, and prints how long they took.
+# `measured NAME WORDS..` runs a command, and prints how long it took.
 measured() {
   local name=$1 start status
   start=$(date +%s%N)
@@ -64,7 +64,7 @@ large() {
   done
 }
 
-# Ten parts, and a program that is slow for each.
+# Ten parts, and a program that takes its time for each.
 ten_parts() {
   unset TALFT
   rm -rf here
@@ -104,7 +104,7 @@ goes_on() {
   report "the lines of $1" '' "$(cmp written wanted 2>&1)"
 }
 
-# Two machines over ssh: two servers on this one, only for this user's key.
+# Two machines over ssh: two servers on this machine, which accept only this user's key.
 machine() {
   cat >"$1.conf" <<END
 Port $2
@@ -138,7 +138,7 @@ over_ssh() {
   hosts="ssh -F $work/hosts.conf one,ssh -F $work/hosts.conf two"
   begins 'two machines' --engine parallel --hosts "$hosts" --jobs 1
   ends
-  report 'each part is done once' 10 "$(sort -u given | wc -l)"
+  report 'each part is run once' 10 "$(sort -u given | wc -l)"
   begins 'a machine that goes away' --engine parallel --hosts "$hosts" --jobs 1
   server=$(cat two.pid)
   pkill -KILL -P "$server"
@@ -156,8 +156,8 @@ over_ssh() {
   machine one 22463
   sed -i 's/22461/22463/' hosts.conf
   rm given
-  goes_on 'the campaign when the machine is there again'
-  report 'only what was left is done' $((10 - done_before)) "$(wc -l <given)"
+  goes_on 'the campaign once the machine is back'
+  report 'only the missing parts are run' $((10 - done_before)) "$(wc -l <given)"
 }
 
 # Slurm, with a controller and one node on this machine.
@@ -204,7 +204,7 @@ over_slurm() {
   if servers_of_slurm; then
     begins 'an array of jobs' --engine slurm --jobs 2
     ends
-    report 'each part is done by one job' 10 "$(wc -l <given)"
+    report 'each part is run by one job' 10 "$(wc -l <given)"
     begins 'a killed run of jobs' --engine slurm --jobs 1
     kill -KILL "$run"
     wait "$run" 2>errors
@@ -255,7 +255,8 @@ in_c() {
   report 'programs of csmith' '' "$(grep 'failed [1-9]\|wrong [1-9]' said)"
 }
 
-# The debugger: walks over many programs, random sources, what it knows about the machine, and how long its commands take.
+# The debugger: walks over many programs, random sources, what it knows about the machine, and the times of its
+# commands.
 debugger() {
   local tests=$top/tests/debugging program
   unset TALFT
@@ -263,7 +264,7 @@ debugger() {
     report "walks over $program" '10 walks: 0 failed' \
       "$(python3 -B "$tests/walks.py" "$top/examples/$program" 100 40 10 2>&1 | tail -n 1)"
   done
-  report 'what the tools know of the machine' '0 wrong' "$(cd "$top/examples" && python3 -B "$tests/facts.py" 7 60 150 \
+  report 'what the tools know about the machine' '0 wrong' "$(cd "$top/examples" && python3 -B "$tests/facts.py" 7 60 150 \
     {five,loop,index,stores,conditional}.asm {mixed,reload}.obj {fibonacci,sieve,sort}.src 2>&1 | tail -n 1 |
     sed 's/.*: //')"
   report 'lines of 1,000 random sources' '1000 sources: 0 wrong' \
@@ -271,16 +272,16 @@ debugger() {
   measured 'the debugger over 1,000,000 steps' python3 -B "$tests/speeds.py" 22800
 }
 
-# The configurations for nvim-dap and dape, which Debian lacks: they load over stand-ins, and name the adapter.
+# The configurations for nvim-dap and dape, which Debian does not have: they load over stand-ins, and name the adapter.
 stand_ins() {
   local load="(progn (defvar dape-configs nil) (provide 'dape) (load \"$top/editors/debugging/dape.el\" nil t))"
   if has nvim 'Neovim'; then
-    report 'what nvim-dap would be told' "executable|$top/tools/dap|talft talft launch \${file}|talft talft launch \${file}|\
+    report 'the configuration that nvim-dap gets' "executable|$top/tools/dap|talft talft launch \${file}|talft talft launch \${file}|\
 asm talft launch \${file}|asm talft launch \${file}|<F6> is mapped|<S-F5> is mapped" \
       "$(TALFT_TOOLS=$top/tools nvim --headless -u NONE -c "luafile $top/tests/debugging/neovim.lua" -c qa 2>&1 |
         paste -sd '|')"
   fi
-  ! has emacs 'dape' || report 'what dape would be told' "$top/tools/dap" "$(TALFT_TOOLS=$top/tools emacs -Q --batch \
+  ! has emacs 'dape' || report 'the configuration that dape gets' "$top/tools/dap" "$(TALFT_TOOLS=$top/tools emacs -Q --batch \
     --eval "$load" --eval "(princ (plist-get (cdr (assq 'talft dape-configs)) 'command))" 2>&1 | tail -n 1)"
 }
 
@@ -322,23 +323,23 @@ embed() {
   report 'the loader under sanitizers' 'answers are the same' "$(bash "$top/tests/embed/compare.sh" \
     "$top/crates/talft/out/talft" ./loader_checked -- "$@" 2>&1 | sed 's/^[0-9]* //')"
   cc "${words[@]}" -O1 -fsanitize=address,undefined "$top/tests/embed/tries.c" "$library/libft_c.a" -o tries_checked
-  report 'a million damages under sanitizers' 0 "$(measured 'a million damages' ./tries_checked $((1000000 / $# + 1)) 7 "$@" >tried 2>&1; echo $?)"
+  report 'a million damaged objects under sanitizers' 0 "$(measured 'a million damaged objects' ./tries_checked $((1000000 / $# + 1)) 7 "$@" >tried 2>&1; echo $?)"
   cc "${words[@]}" -O2 "$top/tests/embed/tries.c" "$library/libft_c.a" -o tries
   if has valgrind 'the library under valgrind'; then
     report 'the library under valgrind' 0 "$(valgrind -q --error-exitcode=9 --leak-check=full ./tries 30 3 "$@" >tried 2>&1; echo $?)"
   fi
-  # The library that takes its memory from one block of the caller.
+  # The library that takes its memory from one block that the caller provides.
   cc "${words[@]}" -O2 "$top/tests/embed/arena.c" "$top/embed/arena.c" "$library/libft_c.a" -o in_arena
   report 'the library in one block' 0 "$(./in_arena "$@" >tried 2>&1; echo $?)"
   if has aarch64-linux-gnu-gcc 'the library for ARM' && has qemu-aarch64 'the library for ARM'; then
     report 'the library for ARM is made' 0 "$(bash "$top/build/library.sh" aarch64 >said 2>&1; echo $?)"
     aarch64-linux-gnu-gcc "${words[@]}" -O2 -static "$top/examples/c/loader.c" "$library-aarch64/libtalft.a" -o loader_arm
-    report 'the loader for ARM answers as the command' 'answers are the same' "$(bash "$top/tests/embed/compare.sh" \
+    report 'the loader for ARM answers like the command' 'answers are the same' "$(bash "$top/tests/embed/compare.sh" \
       "$top/crates/talft/out/talft" qemu-aarch64 ./loader_arm -- "$@" 2>&1 | sed 's/^[0-9]* //')"
     aarch64-linux-gnu-gcc "${words[@]}" -O2 -static "$top/tests/embed/tries.c" "$library-aarch64/libft_c.a" -o tries_arm
-    report 'ARM answers as x86-64' "$(./tries 100 5 "$@")" "$(qemu-aarch64 ./tries_arm 100 5 "$@")"
+    report 'ARM answers like x86-64' "$(./tries 100 5 "$@")" "$(qemu-aarch64 ./tries_arm 100 5 "$@")"
     report 'the program for ARM is made' 0 "$(bash "$top/build/program.sh" aarch64 >said 2>&1; echo $?)"
-    report 'the program for ARM answers as the command' 'answers are the same' "$(python3 "$top/tests/embed/alike.py" 1000 \
+    report 'the program for ARM answers like the command' 'answers are the same' "$(python3 "$top/tests/embed/alike.py" 1000 \
       "$top/crates/talft/out/talft" qemu-aarch64 -L /usr/aarch64-linux-gnu "$top/crates/talft/out/talft-aarch64" -- \
       "$top"/examples/*.src "$top"/examples/*.asm "$@" 2>&1 | sed 's/^[0-9]* //')"
   fi

@@ -18,7 +18,7 @@ def main(path):
     for at in range(start, start + 16 * instrs, 16):
         kind, address, value, colour = data[at:at + 4]
         if kind == 4 and colour == 1:
-            # The blue register of a pair is 32 above the green one.
+            # The number of a pair's blue register is 32 above that of the green one.
             data[at + 1:at + 3] = bytes([address - 32, value - 32])
     sys.stdout.buffer.write(data)
 

@@ -1,6 +1,6 @@
 #!/usr/bin/env python3
-"""Takes a clause, a wrong body, a test, a heading and more away from a copy of the repository, one at a time, and
-prints each that docs/trace.py does not miss there."""
+"""Removes a clause, a wrong body, a test, a heading and more from a copy of the repository, one at a time, and prints
+each removal that docs/trace.py does not notice."""
 import os
 import re
 import shutil
@@ -12,7 +12,7 @@ TOP = os.path.dirname(os.path.dirname(os.path.abspath(__file__)))
 
 
 def change(old, new):
-    """A change that replaces a text, which must be there."""
+    """A change that replaces a text, which must occur."""
     def changed(text):
         assert old in text, old
         return text.replace(old, new, 1)

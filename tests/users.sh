@@ -1,6 +1,6 @@
 #!/usr/bin/env bash
-# Does what a new user does in a clean clone: the first answer, `make`, and an installed program with its manual, completion
-# and syntax files, which is then removed. It prints what it measured. It is not part of the gate.
+# Does what a new user does in a clean clone: gets a first answer, runs `make`, installs the program with its manual,
+# completion and syntax files, and removes it again. It prints what it measured. It is not part of the gate.
 #
 #     bash tests/users.sh [--quick | --anew]
 #
@@ -23,12 +23,12 @@ start=$(date +%s)
 got=$(./talft trial examples/five.obj 2>"$work/said"; printf '/%d' $?)
 took=$(seconds_since "$start")
 report 'the first answer' "$(printf 'out 5\n/0')" "$got"
-report 'what is said of it' 'talft: not proved yet, so slow: `make` proves and builds it' "$(cat "$work/said")"
+report 'the message about it' 'talft: not proved yet, so slow: `make` proves and builds it' "$(cat "$work/said")"
 report 'the first answer within a minute' yes "$([ "$took" -lt 60 ] && echo yes || echo "$took seconds")"
 echo "seconds to the first answer: $took"
 
-# Calls before the proof, two at a time: `tried NAME STATUS TEXT COMMAND` has the status and the text of the proved program,
-# or status 70 if the sources cannot be run in this way.
+# Calls before the proof, on half of the processors: `tried NAME STATUS TEXT COMMAND` expects the status and the text of
+# the proved program, or status 70 if the sources cannot be run in this way.
 tried() {
   local name=$1 status=$2 text=$3 of
   shift 3
@@ -50,13 +50,13 @@ tried 'a campaign' 0 '4:r1:6 detected 11\n10:r1:6 masked\n0:pcg:3 detected 0\n9:
   'cd "$top/examples" && "$talft" campaign five.obj --faults five.faults --steps 14'
 tried 'an object as its own fault list' 11 'list 1 1\n' 'cd "$top/examples" && "$talft" survey five.obj --faults five.obj'
 tried 'a session' 0 "$session" '"$talft" debug "$top/examples/five.obj" <"$top/examples/five.script"'
-tried 'a session of a pipe' 0 "$session" 'cat "$top/examples/five.script" | "$talft" debug "$top/examples/five.obj"'
+tried 'a session from a pipe' 0 "$session" 'cat "$top/examples/five.script" | "$talft" debug "$top/examples/five.obj"'
 tried 'an object that is made' 0 'accepted\n' \
   '"$talft" compile "$top/examples/sum.src" >"$work/sum.obj" && "$talft" check "$work/sum.obj"'
 tried 'a missing file' 3 '' '"$talft" trial "$work/missing"'
 tried 'a folder' 3 '' '"$talft" trial "$work"'
-tried 'no words' 2 'usage\n' '"$talft"'
-tried 'a word that is no text' 2 'usage\n' '"$talft" trial $'"'\\xff'"
+tried 'no arguments' 2 'usage\n' '"$talft"'
+tried 'an argument that is not UTF-8' 2 'usage\n' '"$talft" trial $'"'\\xff'"
 tried 'standard output on a full device' 4 '' '"$talft" trial "$top/examples/five.obj" >/dev/full'
 tried 'standard output that is closed' 4 '' '"$talft" trial "$top/examples/five.obj" >&-'
 tried 'a run without output' 9 '' '"$talft" trial "$top/examples/five.obj" --steps 11 >&-'
@@ -68,7 +68,7 @@ for name in "$work"/tried/*.name; do
   of=${name%.name}
   report "before the proof: $(cat "$name")" "$(cat "$of.wanted")" "$(cat "$of.got")"
 done
-report 'the clone is as it was' '' "$(git status --short)"
+report 'the clone is unchanged' '' "$(git status --short)"
 
 # `make`.
 if [ "$way" = --quick ]; then
@@ -107,7 +107,7 @@ if has mandoc 'the lint of the manual pages'; then
 fi
 if has pandoc 'the making of the manual pages'; then
   bash man/make.sh
-  report 'the manual pages, made anew' '' "$(git diff -U0 man | grep '^[-+][^-+]' | grep -v '^[-+]\.TH \|^[-+]\.\\" [0-9a-f]* [0-9a-f]*$')"
+  report 'the manual pages, regenerated' '' "$(git diff -U0 man | grep '^[-+][^-+]' | grep -v '^[-+]\.TH \|^[-+]\.\\" [0-9a-f]* [0-9a-f]*$')"
   git checkout -q man
 fi
 sources="$top/examples/*.src $top/tests/sources/tokens.src"
@@ -132,6 +132,6 @@ make -s uninstall DESTDIR="$here" PREFIX=/usr >"$work/said" 2>&1
 report 'make uninstall' '' "$(find "$here" -type f)"
 make -s clean
 report 'make clean' '' "$(find . -name out)"
-report 'the clone in the end' '' "$(git status --short --ignored)"
+report 'the clone at the end' '' "$(git status --short --ignored)"
 
 close

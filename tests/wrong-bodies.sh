@@ -1,8 +1,8 @@
 #!/usr/bin/env bash
 # Tries the wrong bodies that the gate leaves out: tests/wrong-bodies/CRATE/*.edit, each of which the prover must refuse.
-# The gate tries those in crates/CRATE/must-fail. With names, only those crates are tried. A kit that keeps proofs starts from
-# what `rt ci` has proved; another one uses the libraries that `rt check` built, and proves missing ones. The last line is
-# "N refused, M not".
+# The gate tries those in crates/CRATE/must-fail. If crates are named, only theirs are tried. A kit that keeps proofs
+# starts from what `rt ci` has proved; any other uses the libraries that `rt check` built, and proves missing ones. The
+# last line is "N refused, M not".
 #   bash tests/wrong-bodies.sh [CRATE..]
 set -u
 top=$(cd "$(dirname "${BASH_SOURCE[0]}")/.." && pwd) || exit 2
@@ -18,8 +18,8 @@ tar -C "$top" --exclude=out --exclude=must-fail -cf - crates | tar -C "$room" -x
 for crate in "${crates[@]}"; do
   cp -r "$top/tests/wrong-bodies/$crate" "$room/crates/$crate/must-fail" || exit 2
 done
-# Takes the libraries that `rt check` built for the crates below these: as hard links, or copied if they are on another file
-# system. The kit replaces their files, and changes none in place.
+# Takes the libraries that `rt check` built for these crates and those that they depend on: as hard links, or as copies
+# if they are on another file system. Links are safe: the kit replaces their files, and changes none in place.
 take_libraries() {
   local crate out
   for crate in $(for crate in "${crates[@]}"; do needed "$crate"; done | sort -u); do

@@ -1,4 +1,4 @@
-"""What a campaign over a sample says about all faults that it was drawn from: counts by class of site, and bounds."""
+"""What a campaign over a sample says about all faults that it is drawn from: counts by class of site, and bounds."""
 import json
 import math
 
@@ -15,7 +15,7 @@ def class_of(site):
 
 
 def tail(count, drawn, share):
-    """The probability that at most `count` of `drawn` have a property that this share of all have: a binomial tail."""
+    """The probability that at most `count` of `drawn` have a property that a `share` of all have: a binomial tail."""
     if share >= 1:
         return float(count >= drawn)
     if share <= 0:
@@ -52,13 +52,14 @@ def upper(count, drawn, doubt=DOUBT):
 
 
 def about(places_of, each, drawn, words):
-    """What tools/faults records about a list: how many faults of each class it is drawn from, how many it has, and its words."""
+    """What tools/faults records about a list: how many faults of each class it is drawn from, how many it has, and the
+    arguments that made it."""
     of = {name: places * each for name, places in places_of.items()}
     return json.dumps({"of": of, "drawn": drawn, "words": words}) + "\n"
 
 
 def read_about(path):
-    """What is recorded about a list, with counts as whole numbers."""
+    """Reads what is recorded about a list, with the counts as integers."""
     try:
         with open(path, encoding="utf-8") as file:
             told = json.load(file)
@@ -74,7 +75,7 @@ def share(value):
 
 
 def summary(counts, told):
-    """Lines with the counts by class, and what they say about all faults. `told` is what `read_about` gives."""
+    """Lines with the counts by class, and what they say about all faults. `told` is what `read_about` returns."""
     of, drawn, words = told
     by_class = {name: dict.fromkeys(VERDICTS, 0) for name in CLASSES}
     for (site, verdict), count in counts.items():

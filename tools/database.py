@@ -13,10 +13,10 @@ TABLES = """
 CREATE TABLE IF NOT EXISTS campaign (
   id INTEGER PRIMARY KEY,
   object TEXT NOT NULL,    -- the SHA-256 of the object
-  faults TEXT NOT NULL,    -- that of the list
+  faults TEXT NOT NULL,    -- the SHA-256 of the list
   words TEXT NOT NULL,     -- campaign or survey, with its options
-  about TEXT,              -- the words of `faults` where they are known
-  sampled INTEGER,         -- 1 where the list is a sample, 0 where it has all faults of these words
+  about TEXT,              -- the arguments of `faults`, if they are known
+  sampled INTEGER,         -- 1 if the list is a sample, 0 if it has all faults of these arguments
   version TEXT, began TEXT,
   UNIQUE (object, faults, words)
 );

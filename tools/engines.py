@@ -12,7 +12,7 @@ MOST_TASKS = 1_000
 
 
 class Progress:
-    """Reports the progress of the campaign: on a terminal at once, otherwise every ten seconds."""
+    """Reports the progress of the campaign: on a terminal twice a second, otherwise every ten seconds."""
 
     def __init__(self, campaign):
         self.campaign, self.all = campaign, sum(campaign.counts)
@@ -33,7 +33,7 @@ class Progress:
         print(f"\r\033[K{line}" if terminal else line, end=end, file=sys.stderr, flush=True)
 
     def clear(self):
-        """Clears the line on a terminal, so that the next message starts a line."""
+        """Clears the line on a terminal, so that the next message starts a new line."""
         if sys.stderr.isatty():
             print("\r\033[K", end="", file=sys.stderr, flush=True)
 
@@ -47,8 +47,8 @@ def end(process):
 
 
 def built(name):
-    """The proved program, where a repository's script `talft` would run it: the script looks at all sources at each call.
-    Else the name as it is."""
+    """The proved program itself, if a repository's script `talft` would run it: the script checks all sources at each
+    call. Otherwise the name as it is."""
     top = os.path.dirname(name)
     if os.path.basename(name) != "talft" or not os.path.isfile(os.path.join(top, "build", "sources.sh")):
         return name
@@ -59,7 +59,7 @@ def built(name):
 
 
 def local(campaign, asked, progress):
-    """Runs several parts at once on this machine. The next part begins before an answer is taken."""
+    """Runs several parts at once on this machine. The next part begins before the last answer is taken."""
     waiting, running, ended, jobs = campaign.left(), {}, [], asked.jobs or os.cpu_count()
     campaign.called = built(campaign.called)
     try:
@@ -84,7 +84,7 @@ def local(campaign, asked, progress):
 
 
 def spread(campaign, progress, command, stop, grace=0):
-    """Runs an engine's command, and takes the answers as they arrive; after its end it waits for outstanding ones."""
+    """Runs an engine's command, and takes the answers as they arrive; once it has ended, waits for outstanding ones."""
     waiting, ended = campaign.left(), None
     out = os.path.join(campaign.folder, f"{campaign.run}.engine")
     with open(out, "wb") as told:
@@ -120,7 +120,7 @@ def parallel(campaign, asked, progress):
     write(os.path.join(campaign.folder, "jobs"), "".join(f"{part:06}\n" for part in campaign.left()).encode())
 
     def stop(engine, _):
-        # At the first signal it starts no further job, at the second it ends the running ones.
+        # At the first signal, parallel starts no further job; at the second, it ends the running ones.
         end(engine)
         time.sleep(0.1)
         end(engine)
@@ -130,7 +130,7 @@ def parallel(campaign, asked, progress):
 
 
 def slurm(campaign, asked, progress):
-    """An array of jobs, each of which does some of the parts."""
+    """A job array; each job runs some of the parts."""
     parts = campaign.left()
     tasks = min(len(parts), MOST_TASKS)
     write(os.path.join(campaign.folder, "jobs"), "".join(f"{part:06}\n" for part in parts).encode())
@@ -155,5 +155,5 @@ done
 
 
 ENGINES = {"local": local, "parallel": parallel, "slurm": slurm}
-# What an engine calls.
+# The command that each engine calls.
 CALLS = {"local": "sh", "parallel": "parallel", "slurm": "sbatch"}

@@ -11,7 +11,8 @@ from common import SITES, VERDICT, Refused, check_object, in_this_process, not_r
 from debugging.sessions import length_of_run
 from messages import named
 
-# How many faults of each verdict are retried to test whether lines belong to an object, and among how many they are sought.
+# How many faults of each verdict are retried to test whether lines belong to an object, and how many lines are searched
+# for them.
 MOST_TRIED, MOST_LOOKED_AT = 16, 100_000
 Kept = collections.namedtuple("Kept", "object words wild command faults version began is_cut steps")
 
@@ -36,7 +37,7 @@ def kept_in(folder):
 
 
 def some_of(path):
-    """The first faults of each verdict but idle: number of the line, fault, verdict, and a step up to which its run is known."""
+    """The first faults of each verdict but idle: line number, fault, verdict, and the last known step of its run."""
     found = collections.defaultdict(list)
     for number, line in enumerate(itertools.islice(verdicts(path), MOST_LOOKED_AT), 1):
         step, site, word, verdict, at = line
@@ -47,12 +48,12 @@ def some_of(path):
 
 
 def is_possible(told, again):
-    """Whether a fault with this verdict may have the other one in a run that is cut after the last known step."""
+    """Whether a fault with the first verdict may get the second in a run that is cut after the last known step."""
     return told == again or again == "corrupt" or (told in ("masked", "corrupt") and again == "masked")
 
 
 def check_lines(path, object_file, wild=None):
-    """Refuses lines from another object, as far as retrying some of their faults shows it."""
+    """Refuses lines from another object, as far as retrying some of their faults shows."""
     some = some_of(path)
     if not some:
         return
@@ -117,7 +118,7 @@ def used_registers(object_file):
 
 
 def told_of_cut(count, most, steps):
-    """How many struck runs were still running, and what to do about it; or nothing."""
+    """How many struck runs were still running, as text; None if none was."""
     if not most:
         return None
     number = f"{count:,}" if count == most else f"{count:,} to {most:,}" if count else f"up to {most:,}"

@@ -9,18 +9,18 @@ REASONS = {errno.ENOENT: "no such file", errno.EISDIR: "is a folder", errno.EACC
            errno.EEXIST: "exists already", errno.ENOSPC: "no space left on the device",
            errno.ENAMETOOLONG: "the name is too long", errno.ENOEXEC: "cannot be executed"}
 
-# What people leave out at the end of a name.
+# The extensions that people leave out of file names.
 ENDS = ".obj", ".src", ".asm", ".map", ".faults", ".c"
 
 
 def escaped(letter):
-    """An invisible letter, or one that would move the cursor, as Python writes it."""
+    """An invisible character, or one that would move the cursor, as Python escapes it."""
     byte = ord(letter) - 0xDC00
     return f"\\x{byte:02x}" if 0x80 <= byte <= 0xFF else letter.encode("unicode_escape").decode()
 
 
 def printable(text, kept=""):
-    """The text with everything escaped that a terminal does not print, except these letters."""
+    """The text with everything escaped that a terminal does not print, except the characters in `kept`."""
     return "".join(letter if letter.isprintable() or letter in kept else escaped(letter) for letter in text)
 
 
@@ -28,7 +28,7 @@ def quoted(text):
     """User input as part of a message: printable, and not long."""
     shown = printable(text[:MOST_QUOTED + 1])
     if len(shown) > MOST_QUOTED:
-        # Escapes are not cut.
+        # An escape is never cut in two.
         shown = re.sub(r"\\(x[0-9a-f]?)?$", "", shown[:MOST_QUOTED - 2]) + ".."
     return f"`{shown}`"
 
@@ -41,7 +41,7 @@ def named(path):
 
 
 def wrong_folder(path):
-    """What is wrong with the folder of a path; nothing where it is there."""
+    """What is wrong with the folder of a path; empty if it exists."""
     folder = os.path.dirname(path)
     if not folder or os.path.isdir(folder):
         return ""
@@ -63,14 +63,14 @@ def reason(error):
 
 
 def listed(words, last="or"):
-    """Words as a person lists them: `a`, `b` or `c`."""
+    """Words as prose lists them: `a`, `b` or `c`."""
     words = [quoted(word) for word in words]
     return f" {last} ".join(filter(None, [", ".join(words[:-1]), words[-1]]))
 
 
 def near(word, known):
-    """What the author of an unknown word may have meant, to be appended to the message; or nothing."""
-    # Loaded only for a mistake, since it takes time.
+    """Suggestions for an unknown word, to be appended to the message; empty if there are none."""
+    # Imported only when a word is unknown, since it takes time.
     from difflib import SequenceMatcher
     likeness = {other: SequenceMatcher(None, word.lower(), other.lower()).ratio() for other in known}
     best = max(likeness.values(), default=0)

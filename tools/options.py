@@ -12,7 +12,7 @@ TOLD = ((r"argument (?P<name>.*?): expected one argument", "{name} needs a value
         (r"argument (?P<name>.*?): expected at least one argument", "missing {name}"),
         (r"argument (?P<name>.*?): ignored explicit argument .*", "{name} takes no value"),
         (r"argument (?P<name>.*?): (?P<rest>.*)", "{name}: {rest}"))
-# How other programs call the file that they write.
+# What other programs call the option for the output file.
 OUTPUT = "-o", "--out", "--output"
 DASHES = "\u2010\u2011\u2012\u2013\u2014\u2212"
 
@@ -28,10 +28,10 @@ class Once(argparse.Action):
 
 
 class Parser(argparse.ArgumentParser):
-    """Reads the words of a tool.
+    """Parses the arguments of a tool.
 
-    `others` are beginnings of words for another program. `instead` says what to do about one word too many, and
-    `elsewhere` about options that other programs have, by their names."""
+    `others` are prefixes of options for another program. `instead` says what to do about an argument too many, and
+    `elsewhere` what to do instead of options that other programs have, by their names."""
 
     def __init__(self, name, about, more, others=(), instead=None, elsewhere=None, **rest):
         super().__init__(prog=name, description=about, epilog=more,
@@ -42,7 +42,7 @@ class Parser(argparse.ArgumentParser):
             self.register("action", action, Once)
 
     def parse_intermixed_args(self, args=None, namespace=None):
-        # It asks for words that may be missing, too.
+        # argparse would ask for optional arguments, too.
         self.spare = {action.metavar for action in self._actions if action.nargs == "*"}
         self.check(args)
         return self.none_more(*self.parse_known_intermixed_args(args, namespace))
@@ -56,7 +56,7 @@ class Parser(argparse.ArgumentParser):
         return self.none_more(*self.parse_known_args(args, namespace))
 
     def none_more(self, asked, more):
-        """The options, if no word is left."""
+        """The parsed arguments, if none is left over."""
         if more:
             self.error(f"unexpected argument {quoted(more[0])}" + (f": {self.instead}" if self.instead else ""))
         return asked
@@ -66,7 +66,7 @@ class Parser(argparse.ArgumentParser):
         return [name for action in self._actions for name in action.option_strings]
 
     def check(self, words):
-        """Refuses an unknown option, before missing ones are reported."""
+        """Refuses unknown options before missing ones are reported."""
         for word in words[:words.index("--")] if "--" in words else words:
             name, known = word.partition("=")[0], self.options()
             if word.lstrip("-")[:1] in tuple(DASHES):
@@ -78,13 +78,13 @@ class Parser(argparse.ArgumentParser):
                 self.unknown(name)
 
     def no_dash(self, word, name):
-        """Refuses an option that begins with a typographic dash, where its name is one of an option."""
+        """Refuses a word with a typographic dash that would otherwise be an option."""
         for option in "--" + name, "-" + name:
             if name and (option in self.options() or option.startswith(self.others)):
                 self.error(f"{quoted(word)} begins with a typographic dash: write {quoted(option)}")
 
     def unknown(self, name):
-        """Refuses an option, and names those that may be meant."""
+        """Refuses an unknown option, and suggests what may be meant."""
         if name in OUTPUT and not set(OUTPUT).intersection(self.options()):
             self.error(f"unknown option {quoted(name)}: {self.prog} writes to standard output: add `>FILE`")
         if name in self.elsewhere:
@@ -93,17 +93,17 @@ class Parser(argparse.ArgumentParser):
         self.error(f"unknown option {quoted(name)}{self.meant(name) or passed}")
 
     def meant(self, name):
-        """What the author of an unknown option may have meant, to be appended to the message; or nothing."""
+        """Suggestions for an unknown option, to be appended to the message; empty if there are none."""
         short = re.fullmatch(r"-([a-zA-Z]{1,2})(\d*)", name)
         if not short:
             return near("--" + name.strip("-"), self.options())
-        # One or two letters are near to too many names: only those that begin with them are meant.
+        # One or two letters resemble too many names: only names that begin with them are suggested.
         found = [f"{option} {short[2]}".rstrip() for action in self._actions for option in action.option_strings
                  if option.startswith("--" + short[1]) and not (short[2] and action.nargs == 0)]
         return f"; did you mean {listed(found)}?" if found and not self.others else ""
 
     def told_name(self, name):
-        """An option or a word as messages name it, and what its value is called."""
+        """An option or an argument as messages name it, and what its value is called."""
         for action in self._actions:
             if "/".join(action.option_strings) == name or name in (action.metavar, action.dest):
                 called = action.option_strings[-1] if action.option_strings else None
@@ -128,7 +128,7 @@ class Parser(argparse.ArgumentParser):
         return message
 
     def error(self, message):
-        """Ends the tool: it cannot do what was asked."""
+        """Ends the tool with a message about its arguments."""
         self.exit(2, f"{self.prog}: {self.told(message)}\n`{self.prog} --help` lists the arguments and options\n")
 
 
@@ -142,7 +142,7 @@ def wild_answers(text):
 
 
 def number(least=0, most=None, step=1):
-    """Reads a whole number between these."""
+    """A function that reads whole numbers in this range."""
     def read(text):
         if re.fullmatch(r"[0-9]{1,20}", text):
             found = int(text)

@@ -5,11 +5,11 @@ import collections
 from common import SITES, VERDICTS, Refused, verdicts
 from messages import named
 
-# From the top of a cell to its bottom.
+# The order of the verdicts, from the top of a cell to its bottom.
 ORDER = ("corrupt", "detected", "masked", "idle")
-# A picture of this width is not scaled down on a repository's page.
+# A picture of this width is not scaled down on a repository's web page.
 WIDTH = 760
-# The row of the registers that no instruction names.
+# The one row for all registers that no instruction names.
 FOLDED = len(SITES)
 
 
@@ -49,11 +49,11 @@ class Panel:
         """The share of a verdict among the faults at sites that are not folded, as text."""
         total = sum(self.shown.values())
         share = 100 * self.shown[verdict] / total if total else 0
-        # No fault differs from one in a million.
+        # One fault in a million must not look like none.
         return "0%" if share == 0 else "<0.1%" if share < 0.1 else "100%" if share == 100 else f"{min(share, 99.9):.1f}%"
 
     def still_running(self, is_cut):
-        """How many struck runs were still running at the last step: bounds, judging by the lines."""
+        """Bounds on how many struck runs were still running at the last step, judging by the lines."""
         same = self.counts["masked"] if is_cut else 0
         return same, same + self.counts["corrupt"]
 
@@ -77,7 +77,7 @@ class Grid:
             self.cells[column, at][verdict] = count
 
     def gaps(self):
-        """How many cells have no fault, of those at sites that always exist."""
+        """The share of cells that have no fault, among those at sites that always exist."""
         always = [at for at, site in enumerate(self.rows) if site == FOLDED or SITES[site][0] != "q"]
         full = sum(at in always for _, at in self.cells)
         return 1 - full / (len(always) * self.columns) if always else 0
@@ -88,7 +88,7 @@ class Grid:
         self.sort()
 
     def raster(self, colours, blank):
-        """The cells as dots, from the bottom row to the top one: each as high as in the picture, and one dot across."""
+        """The cells as dots, from the bottom row to the top one: each as high as in the picture, and one dot wide."""
         # Gnuplot draws no image with a single column.
         twice = 2 if self.columns == 1 else 1
         out = bytearray()
@@ -101,7 +101,7 @@ class Grid:
 
 
 def stack(counts, high):
-    """Which verdict each dot of a cell shows, from the top; nothing if there is no fault."""
+    """Which verdict each dot of a cell shows, from the top; None if there is no fault."""
     if counts is None:
         return None
     if max(counts) == sum(counts):

@@ -1,4 +1,4 @@
-"""The parts of a fault list, and whether an answer belongs to its part. Lists are long, so no line is handled by itself."""
+"""Parts of a fault list, and whether an answer belongs to its part. Lists are long, so lines are handled in bulk."""
 import collections
 import hashlib
 import os
@@ -9,16 +9,16 @@ from common import SITES, VERDICTS, WORDS, Refused, wrong_fault
 from messages import named, reason
 
 MOST_FAULTS, MOST_PRODUCT = 65_536, 1_000_000_000
-# This many faults are worth a call of the program.
+# How many faults make a call of the program worthwhile.
 WORTH = 4_096
 FAULT = re.compile(r"(0|[1-9]\d{0,19}):(?:%s):(0|[1-9]\d{0,19})" % "|".join(SITES))
 VERDICT_OF_LINE = re.compile(rb" (?:masked|idle|corrupt|detected \d{1,20})$", re.MULTILINE)
-# How many files are written at once: a disk takes them together.
+# How many files are written at once: a disk syncs several together.
 AT_ONCE = 8
 
 
 def keep_file(path, name):
-    """Gives a file the name under which it is kept, once all of it is on the disk."""
+    """Renames a file to its final name, once all of it is on the disk."""
     try:
         with open(path, "rb") as data:
             os.fsync(data.fileno())
@@ -38,7 +38,7 @@ def write(path, data):
 
 
 def write_all(files):
-    """Writes files, each with its name, completely or not at all. Only a few at a time are held in memory."""
+    """Writes files, given with their names, each completely or not at all. Holds only a few at a time in memory."""
     with ThreadPoolExecutor(AT_ONCE) as pool:
         begun = collections.deque()
         for path, data in files:
@@ -72,9 +72,9 @@ def digest(path):
 
 
 def parts_of(path, size, lines, steps, jobs):
-    """The parts of a list of this size: each within one call of the program, and spread evenly over jobs."""
+    """The parts of a list of this size: each fits into one call of the program, and the jobs get equal shares."""
     most = min(MOST_FAULTS, MOST_PRODUCT // steps)
-    # Parts are cut by their bytes, so some have more lines than others.
+    # The list is cut by bytes, so some parts have more lines than others.
     count = max(1, -(-lines * 8 // (most * 7)))
     count = max(count, min(-(-count // jobs) * jobs, lines // WORTH))
     with open(path, "rb") as data:
@@ -94,7 +94,7 @@ def within(part, most):
 
 
 def bad_line(part):
-    """The first line of a part that is not a fault: its place, counted from 0, its text and what is wrong; or nothing."""
+    """The first line of a part that is not a fault: its place, counted from 0, its text and what is wrong; or None."""
     for place, line in enumerate(part.decode("ascii", "replace").split("\n")[:-1]):
         match = FAULT.fullmatch(line)
         if not match or any(len(text) == 20 and int(text) >= WORDS for text in match.groups()):
@@ -103,7 +103,7 @@ def bad_line(part):
 
 
 def without_last(answer):
-    """The lines of an answer but the last one, and that one."""
+    """All lines of an answer but the last one, and the last one."""
     at = answer.rfind(b"\n", 0, len(answer) - 1) + 1
     return answer[:at], answer[at:]
 

@@ -1,4 +1,4 @@
-"""The words that the run without a fault has at the struck places."""
+"""The words that the run without a fault holds at the struck places."""
 import itertools
 
 from debugging.sessions import ask
@@ -8,7 +8,7 @@ WORDS_AT_ONCE = 30_000
 
 
 def words_there(object_file, wild, places):
-    """The word at each of these places, pairs of step and site in the order of steps."""
+    """The word at each of these places: pairs of a step and a site, ordered by step."""
     found = {}
     for at in range(0, len(places), WORDS_AT_ONCE):
         found.update(some_words(object_file, wild, places[at:at + WORDS_AT_ONCE]))
@@ -16,7 +16,7 @@ def words_there(object_file, wild, places):
 
 
 def some_words(object_file, wild, places):
-    """The same for as many places as fit into one session. A site that does not exist has no word."""
+    """Likewise for as many places as fit into one session. A site that does not exist has no word."""
     lines, here, found = [], 0, {}
     groups = [(step, [site for _, site in group]) for step, group in itertools.groupby(places, lambda place: place[0])]
     for step, sites in groups:

@@ -3,7 +3,7 @@
 (require 'dap-mode)
 (defvar talft-dap (expand-file-name "dap" (or (getenv "TALFT_TOOLS") "/usr/local/share/talft/tools")))
 (defun talft-dap-populate (conf)
-  "Fills in what CONF lacks."
+  "Fills in the missing properties of CONF."
   (dap--put-if-absent conf :dap-server-path (list talft-dap))
   (dap--put-if-absent conf :program (buffer-file-name))
   (dap--put-if-absent conf :cwd default-directory)

@@ -7,7 +7,7 @@ static uint8_t box[256], state[16], key[16];
 static uint8_t doubled(uint8_t x) { return x << 1 ^ (x >> 7) * 0x1b; }
 static uint8_t turned(uint8_t x, int by) { return x << by | x >> (8 - by); }
 
-// The S-box, from the powers of 3 and those of its inverse.
+// The S-box, from the powers of 3 and of its inverse.
 static void fill_box(void) {
   uint8_t power = 1, inverse = 1;
   do {

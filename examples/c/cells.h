@@ -1,11 +1,11 @@
-// Cells for the examples: each PUT writes a line `NAME VALUE`, on the machine with cells and on any other.
+// Cells for the examples: each PUT writes a line `NAME VALUE`, on talft's machine and on any other.
 #ifndef CELLS_H
 #define CELLS_H
 
 #include <stdint.h>
 
 #ifdef __wasm__
-// A separate word of 8 bytes, so that its cell has its name. It is volatile, so that each store is kept.
+// A word of 8 bytes at an address of its own, so that its cell gets its name; volatile, so that each store is kept.
 #define CELL(name) volatile uint64_t name __attribute__((aligned(8)))
 #define PUT(name, value) ((name) = (uint64_t)(value))
 #define ENTRY void run(void)

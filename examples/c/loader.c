@@ -1,5 +1,5 @@
 /* An on-board loader: it reads, checks and runs an object, or says why it is refused. It prints what the commands
- * `talft check` and `talft run` print, and ends with their status. docs/EMBEDDING.md explains how to build it.
+ * `talft check` and `talft run` print, and exits with their status. docs/EMBEDDING.md explains how to build it.
  *
  *     loader FILE [STEPS [FAULT [WILD]]]    - for FILE reads standard input; FAULT and WILD as in `talft run`
  *     loader --damaged FILE                 checks the object with each of its bits flipped, one at a time
@@ -46,7 +46,7 @@ static uint8_t *read_all(const char *name, size_t *len)
     return bytes;
 }
 
-/* The line of a refusal. */
+/* Prints the line of a refusal. */
 static void tell(const talft_refusal *why)
 {
     switch (why->part) {
@@ -67,7 +67,7 @@ static void tell(const talft_refusal *why)
     }
 }
 
-/* The line of an output. */
+/* Prints the line of an output. */
 static void put(const uint8_t *bytes, size_t len, const talft_output *output)
 {
     uint8_t name[40] = {0};

@@ -4,8 +4,8 @@
  *
  *     task FILE SLICE [CYCLES [STEP SITE VALUE]] [CELL=WORD,WORD,..]
  *
- * prints the lines of each cycle, and ends with the status of the last one. Cycle i starts with word i in the cell; after the
- * last word, the cell keeps it.
+ * prints the lines of each cycle, and exits with the status of the last one. Cycle i starts with word i in the cell;
+ * once the words are used up, the cell keeps the last one.
  */
 #include "talft.h"
 
@@ -30,7 +30,7 @@ static void hand_out(const talft_output *output)
         printf("%.*s %" PRIu64 "\n", (int)made, (const char *)name, output->value);
 }
 
-/* Sets a cell, by its name, to the next word of a text, and returns the rest, or nothing if there is no such cell. */
+/* Sets a cell, given by its name, to the first word of a text. Returns the rest of the text, or NULL if that fails. */
 static const char *set_input(const char *text, size_t name_len, const char *words)
 {
     uint8_t name[40] = {0};

@@ -1,6 +1,6 @@
 #!/usr/bin/env python3
-"""Prints the output that a program of examples/c or tests/c must have, from Python's libraries, vectors or plain
-numbers: `answers.py NAME`."""
+"""Prints the output that a program of examples/c or tests/c must have, from Python's libraries, test vectors or plain
+arithmetic: `answers.py NAME`."""
 import hashlib
 import sys
 import zlib
@@ -183,7 +183,7 @@ def bits():
 
 
 def control():
-    """Ten cycles: the number, where the body is, and the force."""
+    """Ten cycles: the number, the position of the body, and the force."""
     place = speed = total = last = 0
     for cycle in range(1, 11):
         error = 655360 - place

@@ -1,8 +1,8 @@
 #!/usr/bin/env python3
 """Generates C programs with csmith, and compiles them with tools/cc: `csmith.py FIRST COUNT`.
 
-Each puts its variables into one at the end. gcc -m32, whose `long` is as long as for wasm32, must give the same words.
-Programs that do not end, or that gcc cannot take, are left out."""
+At its end, each program stores its variables in one word. gcc -m32, whose `long` is as long as for wasm32, must give
+the same words. Programs that do not end, or that gcc cannot compile, are left out."""
 import os
 import re
 import subprocess
@@ -41,7 +41,7 @@ int printf(const char *, ...);
 
 
 def program(seed, folder):
-    # csmith leaves a file `platform.info` where it runs.
+    # csmith leaves a file `platform.info` in its working folder.
     made = subprocess.run(["csmith", "--seed", str(seed), *SMALL], stdout=subprocess.PIPE, text=True, check=True,
                           cwd=folder).stdout
     made = re.sub(r"^(\s+)csmith_sink_ = (.*);$", r"\1SINK(\2);", made, flags=re.MULTILINE)
@@ -54,7 +54,7 @@ def program(seed, folder):
 
 
 def native(source, folder):
-    """What gcc's program writes, or None where it does not end."""
+    """What gcc's program writes, or None if it cannot be compiled or does not end."""
     made = os.path.join(folder, "native")
     words = ["gcc", "-m32", "-w", "-O1", "-fwrapv", "-fno-strict-aliasing", "-I/usr/include/csmith", source, "-o", made]
     if subprocess.run(words, stderr=subprocess.DEVNULL).returncode:
@@ -71,7 +71,7 @@ def tried(seed, level, folder):
     wanted = native(source, folder)
     if wanted is None:
         return "left out", None
-    # A stack that is too small overwrites data, in the module as in the object: such a program gets a larger one.
+    # If the stack is too small, it overwrites data, in the module as in the object: such a program gets a larger one.
     for stack in 1024, 2048:
         failed = compiled(source, level, made, "-w", "-fwrapv", "-fno-strict-aliasing", "-I/usr/include/csmith", stack=stack)
         if failed:

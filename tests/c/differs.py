@@ -1,5 +1,5 @@
 #!/usr/bin/env python3
-"""Shows that a wrong translation is found: `differs.py MODULE OLD NEW` verifies it with another number in its text."""
+"""Shows that a wrong translation is found: `differs.py MODULE OLD NEW` changes a number in the text and verifies it."""
 import os
 import subprocess
 import sys

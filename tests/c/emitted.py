@@ -1,15 +1,15 @@
 """Compares the emitted code with the graph that it comes from, block by block, over symbolic words.
 
-A block begins with each value in its pair. At each jump and branch that leaves it, the values that the instructions
-computed, and their stores, must be the graph's. So copies of edges, constants that are kept in pairs, loop tests that
-are repeated, and jumps past empty blocks are tested along every path."""
+A block begins with each value in its pair. At each jump and branch that leaves it, the values and the stores of the
+instructions must be those of the graph. So copies on edges, constants kept in pairs, repeated loop tests, and jumps
+past empty blocks are tested along every path."""
 from common import Refused
 from wasm.emit import FIRST
 from wasm.words import M64
 
 
 class Symbols:
-    """Symbolic words, each with a number; what is made alike is the same."""
+    """Symbolic words, each with a number; words that are made the same way are the same."""
 
     def __init__(self):
         self.numbers, self.rows = {}, []
@@ -21,7 +21,7 @@ class Symbols:
         return number
 
     def operation(self, op, a, b):
-        """Numbers that are added in turn are one, so that copies and ways to a frame and back are nothing."""
+        """Merges constants that are added in turn, so that a copy, or a move to a frame and back, changes nothing."""
         first, second = self.rows[a], self.rows[b]
         if op == "add" and second[0] == "word":
             if first[0] == "add" and self.rows[first[2]][0] == "word":
@@ -31,14 +31,14 @@ class Symbols:
         return self(op, a, b)
 
     def is_turned(self, cond, tested):
-        """Whether a word is 0 exactly where the condition is not."""
+        """Whether a word is 0 exactly if the condition is not."""
         cond, tested = self.rows[cond], self.rows[tested]
         return cond[1:] == tested[1:] and (cond[0] == "eq") != (tested[0] == "eq") and \
             {cond[0], tested[0]} <= {"eq", "xor", "sub"}
 
 
 class Follower:
-    """Follows the code of one block, and of those that go on from it without a jump."""
+    """Follows the code of one block, and of those that follow it without a jump."""
 
     def __init__(self, emitter, symbols, block, at):
         self.emitter, self.program, self.pairs, self.start = emitter, emitter.program, emitter.pairs, emitter.start
@@ -76,7 +76,7 @@ class Follower:
             self.wanted.append((self.return_cell(home), self.symbol("back", home)))
 
     def stack(self, i, by=0):
-        """A word of the stack of frames, and so much more."""
+        """Word i about the stack of frames, plus `by`."""
         return self.symbol.operation("add", self.symbol("stack", i), self.symbol("word", by))
 
     def return_cell(self, function):
@@ -93,7 +93,7 @@ class Follower:
         return self.env[x]
 
     def run_block(self):
-        """The values of the block where the graph is, once."""
+        """Computes the values of the current block of the graph, once."""
         if self.has_run:
             return
         self.has_run = True
@@ -119,14 +119,14 @@ class Follower:
         return self.symbol.operation(v.op, self.word(v.a), self.word(v.b))
 
     def take(self, edge):
-        """On along an edge."""
+        """Follows an edge."""
         given = [self.word(x) for x in edge.args]
         self.env.update(zip(edge.to.params, given))
         self.block, self.has_run, self.is_past = edge.to, False, True
 
     # The code
     def run_code(self):
-        """Runs what comes before the next jump, branch or end, which it gives."""
+        """Runs the instructions up to the next jump, branch or end, and returns that."""
         code, held = self.emitter.code, self.held
         while True:
             op, colour, *fields = ins = code[self.at]
@@ -170,7 +170,7 @@ class Follower:
         if self.stores != self.wanted:
             self.wrong("the stores are not those of the graph")
 
-    # Where both leave
+    # Where code and graph leave the block
     def follow(self):
         while True:
             op, _, *fields = self.run_code()
@@ -226,7 +226,7 @@ class Follower:
         self.take(other)
 
     def arrive(self):
-        """Each value is in its pair where the next block begins, and so is what passes through."""
+        """Where the next block begins, each value is in its pair, and so is what passes through."""
         block = self.block
         self.same_stores()
         for v in self.start[block]:
@@ -236,7 +236,7 @@ class Follower:
         self.passes(block.home)
 
     def passes(self, home, by=(0, 0)):
-        """What callers keep is where it was, and the stack of frames is moved by so many words."""
+        """What callers keep has not moved, and the stack of frames has moved by `by`."""
         for pair in home.kept if home else ():
             self.need(pair, self.symbol("kept", pair), "what a caller keeps")
         if home in self.program.backs and not home.circle:
@@ -275,7 +275,7 @@ class Follower:
 
 
 def follow(emitter):
-    """All blocks of a program that has been emitted."""
+    """Follows all blocks of an emitted program."""
     symbols = Symbols()
     for block, at, _ in emitter.heads:
         Follower(emitter, symbols, block, at).follow()

@@ -12,7 +12,7 @@ BITS = {F32: (0xBC, 0xBE, I32, 0x5B), F64: (0xBD, 0xBF, I64, 0x61)}
 
 
 def instructions():
-    """Each instruction with what it takes and gives."""
+    """Each instruction, with the types that it takes and gives."""
     for kind, test, one, two in ((F32, 0x5B, 0x8B, 0x92), (F64, 0x61, 0x99, 0xA0)):
         yield from ((test + n, [kind, kind], I32) for n in range(6))
         yield from ((one + n, [kind], kind) for n in range(7))
@@ -26,7 +26,7 @@ def instructions():
 
 
 def word(draw, kind):
-    """The bits of a number: edges, sizes near 1, whole numbers, and any."""
+    """The bits of a number: an edge case, a magnitude near 1, an integer, or any."""
     width, exponent = {I32: (32, 0), I64: (64, 0), F32: (32, 8), F64: (64, 11)}[kind]
     if not exponent:
         return draw.getrandbits(draw.choice((8, width)))
@@ -49,7 +49,7 @@ def operand(draw, kind):
 
 
 def module(draw, op, takes, gives):
-    """A module whose `run` gives the bits of the result; of what is no number it gives 7, as its bits may be any."""
+    """A module whose `run` returns the bits of the result, or 7 for a NaN, as its bits are not determined."""
     code = b"".join(operand(draw, kind) for kind in takes)
     code += bytes([0xFC, op & 255]) if op >= 0xFC00 else bytes([op])
     kind = gives

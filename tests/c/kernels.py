@@ -1,9 +1,9 @@
 #!/usr/bin/env python3
 """Compiles the examples with tools/cc at each level, strikes each 1,000 times, and prints a table: `kernels.py [LEVEL ..]`.
 
-The lines must be those of answers.py, the object accepted and verified, and no fault corrupt. The ratio is that of the
-instructions that the object runs, in both colours, to those that the module runs. The example in Rust is among them if
-$RUSTC, or rustc, can compile for wasm32."""
+The lines must be those of answers.py, the object must be accepted and verified, and no fault may be corrupt. The ratio
+is the number of instructions that the object runs, in both colours, to those that the module runs. The example in Rust
+is included if $RUSTC, or rustc, can compile for wasm32."""
 import glob
 import math
 import os
@@ -36,7 +36,7 @@ def struck(made, folder, steps):
 
 
 def of_rust(name, level, folder):
-    """The module that rustc makes of an example, as the example's own head tells; or None where it makes none."""
+    """The module that rustc makes from an example, as the example's head comment says; or None if it fails."""
     module = os.path.join(folder, "module.wasm")
     run(os.environ.get("RUSTC", "rustc"), "--target", "wasm32-unknown-unknown", "--crate-type", "cdylib", "-C",
         "opt-level=" + level[2:], "-C", "panic=abort", "-C", "linker=wasm-ld", "-C", "link-arg=--emit-relocs",
@@ -70,7 +70,7 @@ def tried(name, level, folder):
 
 def programs():
     """The names of the examples."""
-    # A program for `cc` has its cells from cells.h. The others are for the C library.
+    # A program for `cc` includes cells.h. The others use the C library of talft.
     names = sorted(os.path.basename(path)[:-2] for path in glob.glob(os.path.join(top, "examples", "c", "*.c"))
                    if '#include "cells.h"' in open(path, encoding="utf-8").read())
     with tempfile.TemporaryDirectory() as folder:

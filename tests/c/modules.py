@@ -1,8 +1,8 @@
 #!/usr/bin/env python3
-"""Makes random WebAssembly modules: `modules.py FOLDER FIRST COUNT` writes valid ones, and with `damaged` broken ones.
+"""Makes random WebAssembly modules: `modules.py FOLDER FIRST COUNT` writes valid ones, and damaged ones with `damaged`.
 
-A module exports `run` and its memory, of which it uses the addresses 1024 to 1280. All that it does ends: loops have a
-counter of their own, and recursion goes down. The same number gives the same module."""
+A module exports `run` and its memory, of which it uses the addresses 1024 to 1280. Every run ends: each loop has a
+counter of its own, and recursion counts down. The same number gives the same module."""
 import os
 import random
 import sys
@@ -46,7 +46,7 @@ def const(kind, word):
 
 
 class Body:
-    """A function's code. A label is the kinds that a branch to it takes; that of a loop is None, not to be aimed at."""
+    """A function's code. A label lists the types that a branch to it takes; a loop's label is None, and no target."""
 
     def __init__(self, module, params, results, size, index):
         self.module, self.random, self.index = module, module.random, index
@@ -89,7 +89,7 @@ class Body:
     def of_two(self, kind, depth):
         operation = self.random.randrange(15)
         second = self.value(kind, depth)
-        if 3 <= operation <= 6 and self.random.random() < 0.95:      # seldom a trap
+        if 3 <= operation <= 6 and self.random.random() < 0.95:      # rarely a trap
             second = self.word(kind) if self.random.random() < 0.3 else second
             second += const(kind, 255) + bytes([0x71 if kind == I32 else 0x83])
             second += const(kind, self.pick(1, 3, 64)) + bytes([0x72 if kind == I32 else 0x84])
@@ -164,7 +164,7 @@ class Body:
         return b"\x3F\x00" if kind == I32 else self.leaf(kind)
 
     def pair(self, kind, depth):
-        """A block with a parameter and two results, of which the second goes."""
+        """A block with a parameter and two results, the second of which is dropped."""
         first = self.value(kind, depth)
         self.labels.append([kind, I32])
         second = self.value(I32, depth)
@@ -243,7 +243,7 @@ class Body:
 
     def leave(self, depth):
         roll = self.random.random()
-        if roll < 0.15:      # out of the whole function
+        if roll < 0.15:      # leaves the function
             return self.value(I32, 2) + b"\x04\x40" + b"".join(self.value(k, 2) for k in self.results) + b"\x0F\x0B"
         if not self.aims():
             return b"\x01"
@@ -311,7 +311,7 @@ class Module:
 
 
 def damaged(data, seed):
-    """The module with some bytes changed, taken away or put in."""
+    """The module with some bytes changed, removed or inserted."""
     draw, out = random.Random(seed), bytearray(data)
     for _ in range(draw.choice((1, 1, 2, 5))):
         at = draw.randrange(len(out)) if out else 0

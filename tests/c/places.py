@@ -1,14 +1,14 @@
 #!/usr/bin/env -S python3 -B
-"""Runs tools/cc with a test of where values are: `places.py WORDS..`, the words of tools/cc.
+"""Runs tools/cc with a test of where values are kept: `places.py WORDS..`, with the arguments of tools/cc.
 
-The graph before registers are given tells which value each use means. The graph after it tells from which place the use
-reads. This follows all values through registers, spill cells, frames and copies, along every path at once, and fails
-where a place need not hold the value that is meant. It knows nothing of colours, groups and costs. What is emitted is
-followed by emitted.py.
+The graph before register allocation says which value each use means. The graph after it says from which place the use
+reads. This test follows all values through registers, spill cells, frames and copies, along every path at once, and
+fails if a place need not hold the value that is meant. It knows nothing about colours, groups and costs. emitted.py
+follows the emitted code.
 
-A state is, for each place, the names of what is there: a value of the first graph, ("word", w), ("index", name) for the
-address of a cell by an index, or ("result", i) of the call before. Where paths meet, a place has the names of all of
-them."""
+A state has, for each place, the names of its content: a value of the first graph, ("word", w), ("index", name) for the
+address of a cell by an index, or ("result", i) of the last call. Where paths meet, a place has the names that it has on
+all of them."""
 import os
 import runpy
 import sys
@@ -26,7 +26,7 @@ WITHOUT_RESULT = "st", "ref"
 
 
 def mentions(name, values):
-    """Whether a name is that of one of these values, or of an address by it."""
+    """Whether a name is that of one of these values, or of an address by one."""
     return (name[1] if isinstance(name, tuple) and name[0] == "index" else name) in values
 
 
@@ -62,8 +62,8 @@ class Places:
         raise Refused(f"function {where}: block {block.id}: {what}: the translation is wrong; report it")
 
     def run(self, starts, inner):
-        """From the block where it begins to all others, until no state changes. `starts`: what is live where other
-        functions begin; `inner`: whether a call may come back to this function."""
+        """Follows all blocks, from the first on, until no state changes. `starts`: what is live where other functions
+        begin; `inner`: whether a call may lead back to this function."""
         first, order = self.blocks[0], {b: i for i, b in enumerate(self.blocks)}
         self.entering[first] = {("pair", self.pairs[p]): frozenset([p]) for p in first.params
                                 if p in self.start[first]}
@@ -79,7 +79,7 @@ class Places:
                     todo.add(e.to)
 
     def meet(self, b, state):
-        """Takes what comes into a block on one more way: whether less is known there now."""
+        """Adds another way into a block; returns whether less is known there now."""
         old = self.entering.get(b)
         if old is None:
             self.entering[b] = state
@@ -91,7 +91,7 @@ class Places:
 
     # Within a block
     def holds(self, x):
-        """The names of what an operand is, in the graph after."""
+        """The names of what an operand holds, in the graph after allocation."""
         if isinstance(x, int):
             return frozenset([("word", x)])
         if x.op == "ref":
@@ -110,7 +110,7 @@ class Places:
                 self.added(b, v)
                 continue
             row = next(rows)
-            while row[0] is not v:      # made again at each use
+            while row[0] is not v:      # computed again at each use
                 if row[1] not in ("const", "idx"):
                     self.wrong(b, f"{row[0]} is gone")
                 row = next(rows)
@@ -128,7 +128,7 @@ class Places:
                 self.read(b, back, back, "the return")
 
     def kept(self, b, v, op, first, second):
-        """A value of the graph before: it reads what it read, and is in its pair now."""
+        """A value that was in the graph before: it reads the same values, and is in its pair now."""
         for x, meant in ((v.a, first), (v.b, second)):
             if isinstance(meant, Value) and op != "return":
                 self.read(b, x, meant, f"{v} ({op})")
@@ -147,7 +147,7 @@ class Places:
         self.state["pair", self.pairs[v]] = frozenset(names)
 
     def added(self, b, v):
-        """An instruction that the spiller has put in: a word, an address, or a load or store of a cell."""
+        """An instruction that the spiller has inserted: a word, an address, or a load or store of a cell."""
         if v.op == "const":
             names = frozenset([("word", v.a)])
         elif v.op == "idx":
@@ -164,7 +164,7 @@ class Places:
         self.state["pair", self.pairs[v]] = names
 
     def cell(self, b, address):
-        """The place that an address of the spiller means."""
+        """The place that an address made by the spiller means."""
         if address.op == "ref":
             self.cells.add(address.a)
             return "ref", address.a
@@ -173,7 +173,7 @@ class Places:
         return "frame", address.a
 
     def forget(self, values):
-        """These values are made anew: what is elsewhere under their names is old."""
+        """These values are computed anew: whatever else has their names is out of date."""
         for place, names in self.state.items():
             old = [name for name in names if mentions(name, values)]
             if old:
@@ -195,7 +195,7 @@ class Places:
                 for place, names in state.items()}
 
     def called(self, b, starts, inner):
-        """The state where a call comes back: what the function uses is gone, and its results are there."""
+        """The state after a call returns: what the function uses is lost, and its results are there."""
         _, callee, args, _ = b.term
         for p, x, meant in zip(callee.graph.entry.params, args, self.before.ends[b]):
             if p in starts[callee.graph.entry]:
@@ -211,7 +211,7 @@ class Places:
 
 
 def watch():
-    """Has each program that is translated from now on tested."""
+    """Makes every later translation run these tests."""
     give, give_all, found = subroutines.allocate, subroutines.Program.allocate, []
     emit = translate.emitted
 

@@ -1,8 +1,8 @@
 #!/usr/bin/env python3
 """Runs a long test in portions: `portions.py KIND FIRST COUNT [JOBS [FOLDER]]`; KIND is valid, damaged, programs or csmith.
 
-JOBS portions run at once. FOLDER keeps the output of each: a run that was stopped continues with the missing ones. At
-the end all lines are printed, with the sums of their counts."""
+JOBS portions run at once. FOLDER keeps the output of each: after a stop, the same command runs only the missing ones.
+At the end, all lines are printed, with the sums of their counts."""
 import collections
 import concurrent.futures
 import os
@@ -31,7 +31,7 @@ def portion(kind, first, count):
 
 
 def done(kind, first, count, folder):
-    """The lines of a portion: those that are kept, or new ones."""
+    """The lines of a portion, kept or new."""
     kept = os.path.join(folder, f"{kind}-{first}-{count}")
     if not os.path.exists(kept):
         lines = portion(kind, first, count)

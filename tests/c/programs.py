@@ -1,7 +1,7 @@
 #!/usr/bin/env python3
 """Makes random C programs, and compiles them with tools/cc: `programs.py FIRST COUNT`.
 
-Each is also compiled by gcc, and run. It must write the lines of `out` and `other` that the object's run writes. Levels
+Each is also compiled by gcc, and run. It must write the same lines of `out` and `other` as the object's run. The levels
 of optimization take turns. The same number gives the same program."""
 import os
 import random
@@ -15,7 +15,7 @@ NAMES = "out", "other"
 
 
 class Program:
-    """A random program. Its arithmetic is without undefined behaviour under -fwrapv."""
+    """A random program. Under -fwrapv, its arithmetic has no undefined behaviour."""
 
     def __init__(self, seed):
         self.random = random.Random(seed)
@@ -137,7 +137,7 @@ class Program:
 
 
 def tried(seed, level, folder):
-    """A word on how it went, and what is wrong with that."""
+    """The outcome in a word, and what is wrong with it."""
     source, made, native = (os.path.join(folder, name) for name in ("program.c", "program.obj", "native"))
     with open(source, "w", encoding="ascii") as out:
         out.write(Program(seed).text())

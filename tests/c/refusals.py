@@ -10,7 +10,7 @@ RUN = b"\x03run\x00\x00"
 
 
 def module(code=b"", params=(), results=(), end=1032, exports=(RUN,), before=b"", table=b"", data=b""):
-    """A module of one function, whose data end at this address; the parts that are given stand where they belong."""
+    """A module with one function, whose data end at this address; the given parts are put where they belong."""
     body = b"\x00" + code + b"\x0B"
     ended = [] if end is None else [bytes([I32, 0]) + const(I32, end) + b"\x0B"]
     names = list(exports) + ([] if end is None else [b"\x0A__data_end\x03\x00"])

@@ -1,4 +1,4 @@
-// Results of calls that are read at once, and again at the end: more than there are registers.
+// The results of more calls than there are registers: each is read at once, and again at the end.
 #include "cells.h"
 
 CELL(word) = 1;

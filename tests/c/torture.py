@@ -1,8 +1,8 @@
 #!/usr/bin/env python3
 """Compiles gcc's own execution tests with tools/cc: `torture.py FOLDER [FIRST EVERY]`.
 
-FOLDER is gcc.c-torture/execute of gcc's source, as in Debian's package gcc-12-source. Each test ends with 0 or calls
-exit(0), and calls abort if the compiler was wrong. It passes if its object is accepted and verified, and does not
+FOLDER is gcc.c-torture/execute from gcc's sources, as in Debian's package gcc-12-source. Each test returns 0 or calls
+exit(0), and calls abort if the compiler is wrong. It passes if its object is accepted and verified, and does not
 abort."""
 import collections
 import os
@@ -13,7 +13,7 @@ import tempfile
 
 from tries import CC, LEVELS, TALFT
 
-# What the tests take from a C library. Whoever ends early has stored a word that tells it.
+# What the tests need from a C library. A test that ends early stores a word that says how.
 LIBRARY = """
 volatile unsigned long long ended __attribute__((aligned(8)));
 _Noreturn void abort(void) { ended = 2; __builtin_trap(); }
@@ -31,7 +31,7 @@ def ended(line):
 
 
 def tried(path, level, folder):
-    """A word on how it went, and what was said."""
+    """The outcome in a word, and the last message."""
     source, made = os.path.join(folder, "program.c"), os.path.join(folder, "object")
     with open(source, "w", encoding="utf-8") as out:
         out.write(f'{LIBRARY}#include "{os.path.abspath(path)}"\n')

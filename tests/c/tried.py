@@ -1,8 +1,8 @@
 #!/usr/bin/env python3
 """Translates many modules with tools/cc, and counts the outcomes: `tried.py valid|damaged MODULE..`.
 
-A valid one must be accepted, and its run that of the module. A damaged one may be refused, in one line. No module may
-lead to anything else, or leave a file behind."""
+A valid module must be accepted, and its object must run as it does. A damaged one may be refused, in one line. No
+module may have another outcome, or leave a file behind."""
 import collections
 import contextlib
 import importlib.machinery
@@ -38,10 +38,10 @@ def answer(words):
 
 
 def tried(name, damaged, out):
-    """How it went in a word, and what is wrong with that."""
+    """The outcome in a word, and what is wrong with it."""
     try:
         said, made = answer([name, "--entry", "run", "-o", out, "--steps", "200000"])
-    except Exception:       # any other is what is looked for
+    except Exception:       # any other exception is a failure
         return "failed", traceback.format_exc().splitlines()[-1]
     if not made:
         fair = (damaged or "outside the memory" in said) and "report it" not in said

@@ -1,5 +1,5 @@
 """What the tests of many programs share: a call of tools/cc with the test of places.py, the lines of an object, and
-the count of outcomes."""
+the counts of outcomes."""
 import os
 import subprocess
 import tempfile
@@ -16,7 +16,7 @@ def ran(*words, **more):
 
 
 def compiled(source, level, made, *words, stack=1024):
-    """What tools/cc says of a program, after a word on how it went, or None where its object is verified."""
+    """The outcome of tools/cc in a word, and its message; or None if the object is verified."""
     done = ran(CC, source, level, *words, "--stack", str(stack), "-o", made)
     said = done.stderr.strip().splitlines()[-1] if done.stderr.strip() else ""
     if done.returncode:
@@ -25,13 +25,13 @@ def compiled(source, level, made, *words, stack=1024):
 
 
 def lines_of(made, names):
-    """The lines that an object's run writes of cells with these names."""
+    """The lines that an object's run writes for cells with these names."""
     lines = ran(TALFT, "run", made, "--steps", "1000000").stdout.splitlines()
     return [line for line in lines if line.split(" ")[0] in names]
 
 
 def try_each(tried, numbers):
-    """Prints what is wrong with each, and the counts of how they went."""
+    """Prints what is wrong with each, and the number of each outcome."""
     counts = {}
     with tempfile.TemporaryDirectory() as folder:
         for number in numbers:

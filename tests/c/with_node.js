@@ -1,4 +1,4 @@
-// Runs the modules that are named, by node: `done` or `trap`, the result, and the memory from 1024 to 1280 in hex.
+// Runs the named modules in node. Prints `done` or `trap`, the result, and the memory from 1024 to 1280 in hex.
 const fs = require('fs');
 for (const name of process.argv.slice(2)) {
   let line;

@@ -1,5 +1,5 @@
-# The example programs with arrays: they write what ordinary Python computes, and no fault corrupts their output. And the
-# instructions of each kind of step.
+# The example programs with arrays: they write what ordinary Python computes, and no fault corrupts their output. Also
+# the instructions of each kind of step.
 
 # `ends_early NAME OBJECT FAULT` says whether the run with this fault is detected with a prefix of the lines in `wanted`.
 ends_early() {
@@ -26,7 +26,7 @@ for program in sieve sort crc32 ring filter life; do
   ends_early "a fault that is detected in $program" "$program.obj" "$(sed -n '/^faults/d; s/ detected .*//p' verdicts | tail -n 1)"
 done
 
-# The instructions of each kind of step and the code types, worked out by hand from the tables of docs/COMPILER.md. The
+# The code types, and the instructions of each kind of step, worked out by hand from the tables of docs/COMPILER.md. The
 # variable is pair 0, the spare pair 1. `a` is the four cells from cell 1 on, `c` is cell 5, at 1048581, and `d` is cell 6.
 # Blocks begin at instructions 0, 6 and 44.
 printf 'cell b = 0;\ncell a[4] = 1;\ncell c = 5;\ncell d = 0;\nvar i;\nwhile (i) { a[i] = c * a[i]; d = i; i = 7; }\n' >steps.src

@@ -1,5 +1,5 @@
-# Assembly texts over real files: the texts of objects are those that tests/assembly.py writes, and are read as the objects
-# in version 2; examples/*.asm; texts that are hostile or at the limit.
+# Assembly texts in real files: the texts of objects are those that tests/assembly.py writes, and assemble to the
+# objects in version 2; examples/*.asm; texts that are hostile or at the limit.
 
 both_ways() {
   "$top/talft" upgrade "$2" >in_version_2
@@ -67,5 +67,5 @@ expect 'a text of 134,217,728 bytes' 12 'asm 2 134217729\n' asm text
 printf 'x' >>text
 expect 'a text of one byte more' 12 'asm 3 134217728\n' asm text
 printf 'abc' >text
-expect 'the text of no object' 7 'object 2 3\n' dis text
+expect '`dis` of bytes that are not an object' 7 'object 2 3\n' dis text
 rm -f text more line

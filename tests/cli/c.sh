@@ -1,12 +1,12 @@
-# Programs in C, from modules that clang 14 made of examples/c and of tests/c/results.c: nothing here needs clang. What
-# the modules must write is worked out by tests/c/answers.py; refusals are those of modules that tests/c/refusals.py
-# writes.
+# Programs in C, from modules that clang 14 made of examples/c and tests/c/results.c: nothing here needs clang.
+# tests/c/answers.py computes what they must write, and tests/c/refusals.py makes the modules that are refused.
+#
 #     clang --target=wasm32 -Oz -nostdlib -Wl,--no-entry -Wl,--export=run -Wl,--emit-relocs -Wl,-z,stack-size=512
 
 answers() { python3 "$top/tests/c/answers.py" "$1"; }
 made() {
   tool "the object of $1.wasm" 0 '' cc "$top/tests/c/$1.wasm" -o "$1.obj" --text "$1.asm"
-  report "what is said of $1.wasm" "$1.obj: accepted verified" \
+  report "the message about $1.wasm" "$1.obj: accepted verified" \
     "$(sed -n 's/^cc: \(.*: accepted\): .*; \(verified\): .*/\1 \2/p' said)"
   expect "the check of $1.wasm" 0 'accepted\n' check "$1.obj"
   TALFT=$top/talft python3 -B "$top/tests/c/places.py" "$top/tests/c/$1.wasm" --no-verify -o again.obj 2>said
@@ -40,22 +40,22 @@ report 'cells and their words' "$(printf 'goal 3\nmeasured 18446744073709551615'
 "$top/tools/set" control.obj --list >before 2>said
 tool 'a word in hex' 0 '' set control.obj goal=0x10 -o sixteen.obj
 report 'the cell that was set' "$(sed 's/^goal 0$/goal 16/' before)" "$("$top/tools/set" sixteen.obj --list)"
-report 'no byte but of the word' '1' "$(cmp -l control.obj sixteen.obj | wc -l)"
+report 'only a byte of the word differs' '1' "$(cmp -l control.obj sixteen.obj | wc -l)"
 printf 'force 7\nforce 8\nagain 1\n' >lines
-tool 'the last word of lines' 0 '' set control.obj --from lines goal=1 -o eight.obj
-report 'the cells of lines' "$(sed 's/^goal 0$/goal 1/; s/^force 0$/force 8/' before)" \
+tool 'the last words in the lines' 0 '' set control.obj --from lines goal=1 -o eight.obj
+report 'the cells set from lines' "$(sed 's/^goal 0$/goal 1/; s/^force 0$/force 8/' before)" \
   "$("$top/tools/set" eight.obj --list)"
-refuses 'a cell that is not there' 'set: control.obj: unknown cell `gaol`; did you mean `goal`?; --list lists the cells' \
+refuses 'an unknown cell' 'set: control.obj: unknown cell `gaol`; did you mean `goal`?; --list lists the cells' \
   set control.obj gaol=1
-refuses 'a word that is none' 'set: `goal`: invalid number `1x`: expected decimal digits, or hex after 0x' \
+refuses 'an invalid word' 'set: `goal`: invalid number `1x`: expected decimal digits, or hex after 0x' \
   set control.obj goal=1x
 refuses 'a word that is too large' 'set: `goal`: `18446744073709551616` does not fit in 64 bits: expected -2^63 to 2^64 - 1' \
   set control.obj goal=18446744073709551616
 refuses 'a cell that is set twice' 'set: the cell `goal` is given twice' set control.obj goal=1 goal=2
 echo x >>lines
-refuses 'a line that is none' 'set: lines:4: unexpected `x`: expected NAME VALUE, as `talft run` writes it' \
+refuses 'an invalid line' 'set: lines:4: unexpected `x`: expected NAME VALUE, as `talft run` writes it' \
   set control.obj --from lines
-refuses 'words of no object' 'set: control.asm: is an assembly text; `talft asm` turns it into an object' \
+refuses 'a text instead of an object' 'set: control.asm: is an assembly text; `talft asm` turns it into an object' \
   set control.asm goal=1
 cp "$top/examples/mixed.obj" .
 refuses 'an object that is not accepted' \
@@ -65,11 +65,11 @@ refuses 'an object that is not accepted' \
 # How runs end.
 five=$top/examples/five.obj
 tool 'a run that is done' 0 'done after 14 steps\n' ending "$five"
-tool 'a run that goes on' 1 'running after 11 steps\n' ending "$five" --steps 11
+tool 'a run that continues' 1 'running after 11 steps\n' ending "$five" --steps 11
 tool 'a run that is struck' 1 'detected after 12 steps\n' ending "$five" --fault 4:r1:6
-refuses 'a fault of nothing' 'ending: nothing was struck: the run had ended, or the queue has no such entry at that step' \
+refuses 'a fault that strikes nothing' 'ending: nothing was struck: the run had ended, or the queue has no such entry at that step' \
   ending "$five" --fault 4:qv0:6
-refuses 'a fault that is none' \
+refuses 'an invalid fault' \
   'ending: --fault: invalid fault `4:r64:6`: expected STEP:SITE:WORD; the site `r64` is not one of '\
 'r0 to r63, d, pcg, pcb, qa0 to qa7 and qv0 to qv7' \
   ending "$five" --fault 4:r64:6
@@ -132,7 +132,7 @@ said_of large \
   'the memory from 0x400 to 0x2408 takes 1025 cells, more than 1024; use less data, a smaller '\
 '-Wl,-z,stack-size=, or use --memory LO:HI'
 cd ..
-refuses 'a module without what is asked for' \
+refuses 'a module without the requested entry' \
   'cc: refused/two.wasm: exports no function `walk`; use --entry with `run` or `step`' \
   cc refused/two.wasm --entry walk -o two.obj
 CLANG=nowhere refuses 'C without clang' 'cc: nowhere: not found; install clang and lld, or set $CLANG to the path of clang' \

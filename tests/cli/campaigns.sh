@@ -3,7 +3,7 @@
 
 "$top/talft" compile "$top/examples/fibonacci.src" >fibonacci.obj
 "$top/tools/faults" fibonacci.obj --flip all --sample 2500 >list 2>said
-# So many steps that a call of the program takes 1,000 faults.
+# With this many steps, a call of the program takes at most 1,000 faults.
 most=1000000
 split -l 1000 list piece.
 for piece in piece.*; do "$top/talft" campaign fibonacci.obj --faults "$piece" --steps "$most"; done >answers
@@ -12,7 +12,7 @@ awk '/^faults/ { for (i = 2; i <= 10; i += 2) sum[i] += $i } END {
   print "faults", sum[2], "masked", sum[4], "detected", sum[6], "idle", sum[8], "corrupt", sum[10] }' answers >>wanted
 report 'three parts' 3 "$(grep -c '^faults' answers)"
 
-# `campaign STATUS NAME WORDS..` runs the list, and compares what was written when the status is 0.
+# `campaign STATUS NAME WORDS..` runs the list, and compares the output if STATUS is 0.
 campaign() {
   local wanted_status=$1 name=$2
   shift 2
@@ -25,7 +25,7 @@ campaign() {
   fi
 }
 
-# A program that records the parts it is given, and waits, fails, lies or dies at one of them.
+# A program that records the parts that it gets, and waits, fails, lies or dies at one of them.
 cat >watched <<END
 #!/usr/bin/env bash
 if [ "\$1" != debug ] && [ "\$1" != --version ]; then
@@ -44,9 +44,9 @@ chmod +x watched
 given() { sort given | uniq -c | awk '{ print $2, $1 }' | paste -sd ' '; }
 
 campaign 0 'a campaign on one machine' --dir here
-report 'how far it is in the end' 'campaign: 2500 of 2500 faults' "$(tail -n 1 said)"
+report 'the progress at the end' 'campaign: 2500 of 2500 faults' "$(tail -n 1 said)"
 TALFT=$work/watched campaign 0 'a campaign that is done' --dir here
-report 'nothing is done again' none "$(cat given 2>errors || echo none)"
+report 'no part is run again' none "$(cat given 2>errors || echo none)"
 
 for way in fails lies dies; do
   rm -f given
@@ -57,13 +57,13 @@ for way in fails lies dies; do
     lies) reason='status 0, but verdicts are missing' ;;
     dies) reason='killed by signal 9' ;;
   esac
-  report "what is said when a part $way" "  $way.kept/000001.faults: $reason" "$(tail -n 1 said)"
+  report "the message when a part $way" "  $way.kept/000001.faults: $reason" "$(tail -n 1 said)"
   rm "$way"
   TALFT=$work/watched campaign 0 "the campaign after a part that $way" --dir "$way.kept"
-  report "only the part that $way is done again" '000000.faults 1 000001.faults 2 000002.faults 1' "$(given)"
+  report "only the part that $way is run again" '000000.faults 1 000001.faults 2 000002.faults 1' "$(given)"
 done
 
-# `ended SIGNAL ENGINE`: a signal ends a run in its second part, and the run is continued.
+# `ended SIGNAL ENGINE`: a signal ends a run during its second part; a second run continues it.
 ended() {
   local signal=$1 engine=$2 words run n
   words=(fibonacci.obj --faults list --steps "$most" --engine "$engine" --dir "$signal.$engine")
@@ -72,22 +72,22 @@ ended() {
   TALFT=$work/watched "$top/tools/campaign" "${words[@]}" --jobs 1 >written 2>under &
   run=$!
   for ((n = 0; n < 300; n++)); do grep -qs 000001 given || sleep 0.1; done
-  refuses 'a second run beside the first' \
+  refuses 'a second run during the first' \
     "campaign: $signal.$engine: this campaign is running already: wait for it, or give another --dir" \
     campaign "${words[@]}"
   kill -"$signal" "$run"
   wait "$run" 2>errors
   report "no lines of a run that $signal ends" '' "$(head -n 1 written)"
-  [ "$signal" = KILL ] || report 'nothing goes on' '' "$(pgrep -f "^bash $work/watched")"
+  [ "$signal" = KILL ] || report 'nothing keeps running' '' "$(pgrep -f "^bash $work/watched")"
   rm waits
   TALFT=$work/watched campaign 0 "the campaign after $signal" --engine "$engine" --dir "$signal.$engine"
-  report "the first part is not done again after $signal" '000000.faults 1 000002.faults 1' \
+  report "the first part is not run again after $signal" '000000.faults 1 000002.faults 1' \
     "$(given | sed 's/000001.faults [12] //')"
 }
 ended TERM local
 ended KILL local
 
-# A disk that fills: a separate file system, if the system lets a user have one.
+# A disk that fills: a separate file system, if the system lets users mount one.
 "$top/tools/campaign" fibonacci.obj --faults list --steps "$most" --dir here >/dev/full 2>said
 report 'a full disk for the lines' '1 campaign: standard output: no space left on the device' "$? $(tail -n 1 said)"
 mkdir full
@@ -96,7 +96,7 @@ fills() {
   campaign 1 'a disk that fills' --dir full/kept
   cp said full.said
   mount -o remount,size=1m full
-  campaign 0 'the campaign when there is room again' --dir full/kept
+  campaign 0 'the campaign once there is room again' --dir full/kept
 }
 if unshare -rm mount -t tmpfs none full 2>errors; then
   export -f fills campaign report
@@ -104,12 +104,12 @@ if unshare -rm mount -t tmpfs none full 2>errors; then
   report 'a disk that fills, and room again' '4 passed, 0 failed' \
     "$(passed=0 failed=0 unshare -rm bash -c 'fills; echo "$passed passed, $failed failed"' 2>&1)"
   grep -q 'no space left on the device\|output could not be written' full.said
-  report 'it is said that the disk is full' 0 $?
+  report 'the message that the disk is full' 0 $?
 else
-  skip 'a disk that fills' 'the system lets no user mount'
+  skip 'a disk that fills' 'users cannot mount file systems here'
 fi
 
-# The copy of the object is named, not the object that is read.
+# The message names the copy of the object, not the object that is read.
 "$top/talft" compile "$top/examples/sieve.src" >limit.obj
 head -n 1 list >one.list
 report 'a limit on files' '1 campaign: limited/object: file too large' "$(ulimit -f 1
@@ -140,9 +140,9 @@ r1:4:6|the step comes first, then the site
 # words|a fault list has no comments
 |this is an empty line
 END
-report 'nothing is kept of a list that is refused' '' "$(find . -maxdepth 1 -name fibonacci.obj.campaign)"
+report 'nothing is kept of a refused list' '' "$(find . -maxdepth 1 -name fibonacci.obj.campaign)"
 
-# A long list is spread evenly over the jobs, and a line is named by its place in the whole list.
+# A long list spreads evenly over the jobs, and messages number lines by the whole list.
 "$top/tools/faults" fibonacci.obj --flip all --sample 9000 >long.list 2>said
 "$top/tools/campaign" fibonacci.obj --faults long.list --steps 1000 --jobs 2 --dir even >written 2>said
 report 'the parts for two jobs' 2 "$(find even -name '*.faults' | wc -l)"
@@ -154,24 +154,24 @@ refuses 'a bad line of a later part' \
   'campaign: bad.list:8000: invalid fault `8:r64:1`: expected STEP:SITE:WORD; the site `r64` is not one of '\
 'r0 to r63, d, pcg, pcb, qa0 to qa7 and qv0 to qv7' \
   campaign fibonacci.obj --faults bad.list --steps 1000 --jobs 2 --dir other
-report 'what else the folder holds' other/mine "$(find other -type f)"
+report 'the other files in the folder' other/mine "$(find other -type f)"
 refuses 'a missing list' 'campaign: missing: no such file' campaign fibonacci.obj --faults missing
 refuses 'an object that is not accepted' \
   "campaign: $top/examples/mixed.obj: not accepted: check block 0 index 3 premise 2; --survey tries the faults without checking the object" \
   campaign "$top/examples/mixed.obj" --faults "$top/examples/mixed.faults" --steps 14
-report 'what is kept of an object that is not accepted' '' "$(ls -d mixed.obj.campaign 2>/dev/null)"
+report 'nothing is kept of an object that is not accepted' '' "$(ls -d mixed.obj.campaign 2>/dev/null)"
 tool 'a survey with a corrupt fault' 10 '4:r1:6 corrupt\nfaults 1 masked 0 detected 0 idle 0 corrupt 1\n' \
   campaign "$top/examples/mixed.obj" --survey --faults "$top/examples/mixed.faults" --steps 14
 : >empty.list
 tool 'an empty list' 0 'faults 0 masked 0 detected 0 idle 0 corrupt 0\n' \
   campaign fibonacci.obj --faults empty.list --dir empty.kept
-report 'what is said of an empty list' 'campaign: note: empty.list: is empty, so nothing was tried' "$(tail -n 1 said)"
+report 'the message about an empty list' 'campaign: note: empty.list: is empty, so nothing was tried' "$(tail -n 1 said)"
 echo 2:r0:7 >wild.list
 tool 'a wild load that is answered' 0 '2:r0:7 masked\nfaults 1 masked 1 detected 0 idle 0 corrupt 0\n' \
   campaign "$top/examples/reload.obj" --faults wild.list --steps 14 --wild 5
 report 'the help' 'usage: campaign' "$("$top/tools/campaign" --help | head -n 1 | cut -c1-15)"
 
-# GNU parallel on this machine, and on others: `near` is an ssh without a network, and sets HOME and SHELL as a machine's
+# GNU parallel on this machine and on others: `near` replaces ssh without a network, and sets HOME and SHELL as an ssh
 # server does. The machine `away` does not answer.
 cat >near <<END
 #!/usr/bin/env bash
@@ -189,16 +189,16 @@ if has parallel 'a campaign by GNU parallel'; then
   rm -f given
   touch fails
   TALFT=$work/watched campaign 1 'a part that fails under GNU parallel' --engine parallel --dir parallel.kept
-  report 'what is said of it' '  parallel.kept/000001.faults: status 5, out of memory' "$(tail -n 1 said)"
+  report 'the message about it' '  parallel.kept/000001.faults: status 5, out of memory' "$(tail -n 1 said)"
   rm fails given
-  TALFT=$work/watched campaign 0 'GNU parallel goes on' --engine parallel --dir parallel.kept
-  report 'only the part that failed is done again' '000001.faults 1' "$(given)"
+  TALFT=$work/watched campaign 0 'GNU parallel continues' --engine parallel --dir parallel.kept
+  report 'only the failed part is run again' '000001.faults 1' "$(given)"
   if has rsync 'a campaign on other machines'; then
-    campaign 0 'a machine that is away' --engine parallel --hosts "$work/near one,$work/near away" --jobs 1 --dir hosts
+    campaign 0 'an absent machine' --engine parallel --hosts "$work/near one,$work/near away" --jobs 1 --dir hosts
     report 'nothing is left on a machine' '' "$(find one -type f)"
-    campaign 1 'no machine that is there' --engine parallel --hosts "$work/near away" --dir away.kept
-    report 'what is said of that' '  away.kept/000000.faults and 2 more: no answer: a machine may have gone away' \
+    campaign 1 'only an absent machine' --engine parallel --hosts "$work/near away" --dir away.kept
+    report 'the message about an absent machine' '  away.kept/000000.faults and 2 more: no answer: a machine may have gone away' \
       "$(tail -n 1 said | sed 's/ (.*//')"
-    campaign 0 'the machine is there again' --engine parallel --hosts "$work/near one" --dir away.kept
+    campaign 0 'the machine is back' --engine parallel --hosts "$work/near one" --dir away.kept
   fi
 fi

@@ -1,4 +1,4 @@
-# Damaged objects: each prefix of an object's bytes, and each byte with its lowest bit flipped.
+# Damaged objects: each prefix of an object's bytes, and each byte, with its lowest bit flipped.
 
 object=$top/tests/objects/jump.obj
 size=$(wc -c <"$object")
@@ -21,4 +21,4 @@ for ((n = 0; n < size; n++)); do
     *) wrong=$((wrong + 1)) ;;
   esac
 done
-report "each of $size bytes with a bit turned has a lawful answer" 0 "$wrong"
+report "each of $size bytes with a flipped bit gets a valid answer" 0 "$wrong"

@@ -1,11 +1,11 @@
-# The debugger, its screen, its adapter for editors, and the tools explain and lines. tests/tools.sh has the tests that
-# take longer: more walks, random sources, Emacs, and times.
+# The debugger, its screen, its adapter for editors, and the tools explain and lines. tests/tools.sh has the longer
+# tests: more walks, random sources, Emacs, and times.
 debugging=$top/tests/debugging fibonacci=$top/examples/fibonacci.src
 five=$top/examples/five.obj five_text=$top/examples/five.asm
 export XDG_STATE_HOME=$work/state
 python3 "$top/tests/assembly.py" asm "$debugging/endless.asm" >endless.obj
 
-# These take some seconds; their results are tested below.
+# These run in the background for some seconds; their results are tested below.
 python3 -B "$debugging/walks.py" "$top/examples/loop.asm" 1 25 2 >walks.said 2>&1 &
 walks=$!
 python3 -B "$debugging/facts.py" 1 8 60 "$top"/examples/{five,loop,stores,index}.asm >facts.said 2>&1 &
@@ -13,7 +13,7 @@ facts=$!
 python3 -B "$debugging/adapter.py" >adapter.said 2>&1 &
 adapter=$!
 
-# `session PROGRAM COMMAND..` is what the prompt writes of these commands.
+# `session PROGRAM COMMAND..` prints what the prompt writes for these commands.
 session() {
   local program=$1
   shift
@@ -31,10 +31,10 @@ report 'a recorded session is a plain script' "$(printf '%s\n' "${commands[@]}")
 report 'which anybody can run again' 'at 14 done' "$("$top/talft" debug "$five" <script | tail -n 1)"
 report 'a plain script is a source of commands' 'at 12 detected|at 14 done' \
   "$(session "$five" "source $work/script" | kept '^at 1')"
-report 'a record overwrites no file' "line 1: $work/script: exists already, and is kept; give another file" \
+report 'a recording overwrites no file' "line 1: $work/script: exists already, and is kept; give another file" \
   "$(session "$five_text" "record $work/script" step | grep script)"
-report 'the file is as it was' 8 "$(wc -l <script)"
-report 'a refused command is told by the status' 1 "$(session "$five_text" nonsense >said; echo $?)"
+report 'the file is unchanged' 8 "$(wc -l <script)"
+report 'the status reports a refused command' 1 "$(session "$five_text" nonsense >said; echo $?)"
 report 'the line of a refused command' 'line 3: unknown command `regg`; `help` lists the commands|'\
 'line 6: missing site or word, as in `zap r1 6`' "$(session "$five_text" 'step 4' 'reg r1' 'regg r2' '' '# words' zap 'step 4' |
   kept '^line')"
@@ -44,7 +44,7 @@ report 'no refused command' 0 "$(session "$five_text" step >said; echo $?)"
 report 'no colours in a pipe' 0 "$(session "$five_text" 'info registers' 'zap r1 9' explain | grep -c $'\e')"
 report 'reverse-next, reverse-continue and undo' 'at 12 running|at 10 running|at 4 running|at 10 running' \
   "$(session "$five_text" 'break 0 2' 'goto 12' rn rc undo | kept '^at [1-9]')"
-# A turn of the loop has 44 instructions, and the first one begins at step 32.
+# A turn of the loop has 44 instructions, and the first turn begins at step 32.
 report 'conditions, hits, until and finish' \
   'at 296 running|  a: r0 G 2, r32 B 2|at 120 running|at 120 running|at 208 running|3 hits so far' \
   "$(session "$fibonacci" 'break 1:0 if a == 2' 'display a' c undisplay delete 'break b1 hit 2' 'goto 0' c delete \
@@ -60,7 +60,7 @@ head -c 1 "$five" >cut.obj
 TALFT_EXPLAIN=1 "$top/talft" dis cut.obj >written 2>said
 refuses 'an object that is refused' "debugger: $(tail -n 1 said)" debugger cut.obj
 tool 'a source that does not compile' 1 '' debugger "$top/examples/unknown.src"
-report 'what is said of it' 'debugger: unknown.src:2:7: error: `total` is not declared' \
+report 'the message about it' 'debugger: unknown.src:2:7: error: `total` is not declared' \
   "$(head -n 1 said | sed 's|/.*/||')"
 TALFT=$work/none refuses 'a missing program of the debugger' \
   "debugger: $work/none: not found; set \$TALFT to the program \`talft\`, or add its folder to PATH" debugger "$five"
@@ -102,8 +102,8 @@ sleep 0.5
 report 'a killed tool leaves nothing running' 'found ' "${call:+found} $(ps -o stat= -p "${call:-0}" | grep -v Z)"
 report 'ten million steps' 'at 10000000 running' "$(session endless.obj 'goto 10000000' | grep '^at 1')"
 
-# `says NAME COMMANDS SAID` compares the last line of what the prompt writes of these commands, over $program. The line of a
-# refused one is left out.
+# `says NAME COMMANDS SAID` runs commands over $program, and compares the last line that the prompt writes. The line
+# number of a refused command is left out.
 says() {
   local name=$1 commands=$2 said=$3
   report "$name" "$said" "$(printf '%b\n' "$commands" | "$top/tools/debugger" "$program" 2>&1 | tail -n 1 | sed 's/^line [0-9]*: //')"
@@ -111,9 +111,9 @@ says() {
 program=$five_text
 says 'no number' 'goto abc' 'invalid number `abc`: expected decimal digits, or hex as 0x10'
 says 'a position before the start' 'goto -1' 'invalid number `-1`: expected at least 0'
-says 'a count below 0' 'step -3' 'invalid number `-3`: expected at least 0'
-says 'a word too many' 'step 1 2' 'unexpected argument `2`'
-says 'a command that takes no word' 'finish 3' 'unexpected argument `3`: `finish` takes none'
+says 'a negative count' 'step -3' 'invalid number `-3`: expected at least 0'
+says 'an argument too many' 'step 1 2' 'unexpected argument `2`'
+says 'a command that takes no argument' 'finish 3' 'unexpected argument `3`: `finish` takes none'
 says 'no cell' 'x foo' 'unknown name `foo`: expected a cell, an array or the address of a cell'
 says 'no cells' 'x/0 out' 'invalid count in `x/0`: expected at least 1 cell'
 says 'an empty queue' 'zap qa0 5' 'nothing there: `qa0` is a part of the queue, which is empty'
@@ -122,7 +122,7 @@ says 'a stopped machine' 'goto 14\nzap r1 5' 'nothing there: the machine has sto
 says 'no register' 'print r64' 'unknown name `r64`: expected a register (r0 to r63, d, pcg, pcb), a part of the queue '\
 '(qa0 to qv7) or a cell'
 says 'no base' 'print/q r1' 'unknown format `/q`: expected /x, /b, /o or /d'
-says 'a word below 0' 'zap r1 -1' '`-1` is out of range: expected 0 to 18446744073709551615'
+says 'a negative word' 'zap r1 -1' '`-1` is out of range: expected 0 to 18446744073709551615'
 says 'a strike of a cell' 'zap out 3' '`out` is a cell, and no fault strikes a cell (docs/PROMISES.md)'
 says 'no line' 'break 99' \
   '`99`: there is no instruction on this line or after it: instructions are on lines 13 to 21'
@@ -143,50 +143,50 @@ says 'explain before the strike' 'plan 4:r1:6\nexplain' 'the strike 4:r1:6 is st
 says 'at the strike' 'plan 4:r1:6\ngoto 4' 'the strike 4:r1:6 is made here'
 says 'back past a planned strike' 'plan 4:r1:6\ngoto 9\nback 6' 'the strike 4:r1:6 is ahead again'
 says 'back past a strike' 'goto 4\nzap r1 6\nback' 'the strike 4:r1:6 is forgotten: `undo` brings it back'
-says 'a record that cannot be written' 'record /nowhere/script' \
+says 'a recording that cannot be written' 'record /nowhere/script' \
   '/nowhere/script: cannot be written: there is no folder `/nowhere`'
-says 'a record in the place of a folder' "record $work" "$work: is a folder; give a file"
+says 'a recording in place of a folder' "record $work" "$work: is a folder; give a file"
 says 'an empty line of a script' 'print r1\n' 'r1 G 0'
 program=$top/examples/sieve.src
 says 'a variable is watched in both colours' 'watch j\ninfo breaks' '  1  watch r1 r33'
-says 'what is said of it' 'watch j' 'watch 1: j: r1 G 0, r33 G 0'
-# Its first word is 2 * 2, by sieve.src. Before that r33 takes its colour.
+says 'a watched variable' 'watch j' 'watch 1: j: r1 G 0, r33 G 0'
+# By sieve.src, the first word of j is 2 * 2. Before that, r33 turns blue.
 says 'its green register' 'watch j\ncontinue\ncontinue' 'watch 1: r1 G 0 -> r1 G 4'
 says 'its blue register' 'watch j\ncontinue\ncontinue\ncontinue' 'watch 1: r33 B 0 -> r33 B 4'
 array='`composite` is an array of 30 cells: use composite[0] to composite[29], or `x/30 composite`'
-says 'an array is no word' 'print composite' "$array"
+says 'an array is not a word' 'print composite' "$array"
 says 'an array is not watched' 'watch composite' "$array"
 says 'a cell of an array' 'watch composite[4]\ncontinue' 'watch 1: composite[4] 0 -> composite[4] 1'
 report 'cells of an array' 'composite[0] 0|composite[1] 0|composite[2] 0' \
   "$(session "$program" 'x/3 composite' | kept '^composite')"
-says 'a cell behind an array is not watched' 'watch composite[40]' '`composite[40]`: composite has 30 cells: 0 to 29'
-says 'a cell behind an array' 'print composite[30]' '`composite[30]`: composite has 30 cells: 0 to 29'
+says 'a cell past the end of an array is not watched' 'watch composite[40]' '`composite[40]`: composite has 30 cells: 0 to 29'
+says 'a cell past the end of an array' 'print composite[30]' '`composite[30]`: composite has 30 cells: 0 to 29'
 report 'an array ends' 'composite[28] 0|composite[29] 0|composite has 30 cells: 0 to 29' \
   "$(session "$program" 'x/99 composite[28]' | kept '^composite')"
-# Line 11 is entered in 1:38, and tested in 2:0. The first test comes after 54 instructions, at 108. A turn has 30
+# Line 11 is entered at 1:38, and tested at 2:0. The first test comes after 54 instructions, at 108. A turn has 30
 # instructions, so the fifth test is at 348.
-says 'a line that is said as answers say it' 'break sieve.src:12' \
+says 'a line as the answers write it' 'break sieve.src:12' \
   'breakpoint 1: add r3 r1 G 0  (block 2 index 10, sieve.src:12)'
 says 'a line with its entry and its test' 'break sieve.src:11' \
   'breakpoint 1: mov r2 G 55 code:1  (block 1 index 38, sieve.src:11)  and 2:0'
 report 'which halts at both' 'block 1 index 38, sieve.src:11|block 2 index 0, sieve.src:11|block 2 index 0, sieve.src:11' \
   "$(session "$program" 'break 11' c c c | sed -n '/breakpoint 1:/d; s/^the next .*(\(block.*11\))$/\1/p' | paste -sd '|')"
 says 'until a line' 'until sieve.src:12' 'the next step fetches add r3 r1 G 0  (block 2 index 10, sieve.src:12)'
-says 'goto goes to no line' 'goto sieve.src:12' \
+says 'goto does not take a line' 'goto sieve.src:12' \
   '`sieve.src:12` is a place, and `goto` takes a position: `until sieve.src:12` goes to a place or a line'
 says 'a line of another file' 'break other.src:12' '`other.src:12`: unknown file: only the lines of sieve.src are known'
 says 'until a place that is never reached' 'goto 4000\nuntil sieve.src:5' \
   'the run ended at 4106 without reaching 0:2'
 three=('break 2:0' 'break 2:0 hit 5' 'break 2:0 if i == 77')
-report 'only the breakpoints that are met are named' \
+report 'only breakpoints whose conditions hold are named' \
   'breakpoint 1|breakpoint 1|breakpoint 1|breakpoint 1|breakpoint 1|breakpoint 2  from hit 5 on' \
   "$(session "$program" "${three[@]}" c c c c c | kept '^breakpoint [0-9](  from.*)?$')"
-report 'back, too' 'at 348 running|breakpoint 1|breakpoint 2  from hit 5 on|at 288 running|breakpoint 1' \
+report 'likewise when going back' 'at 348 running|breakpoint 1|breakpoint 2  from hit 5 on|at 288 running|breakpoint 1' \
   "$(session "$program" "${three[@]}" 'goto 360' rc rc | kept '^(at 348.*|at 288.*|breakpoint [0-9](  from.*)?)$')"
-report 'a line goes past a breakpoint that is not met' '12|13|14' "$(session "$program" 'until 2:0' 'break 2:12 if j == 5' \
+report '`line` passes a breakpoint whose condition does not hold' '12|13|14' "$(session "$program" 'until 2:0' 'break 2:12 if j == 5' \
   line line line | sed -n 's/^the next .*sieve.src:\(1[1-4]\))$/\1/p' | tail -n +2 | paste -sd '|')"
 says 'only `and` joins' 'break 11 if i == 3 or j == 4' '`i == 3 or j == 4`: comparisons can be joined only by `and`'
-says 'one sign of equality' 'break 11 if i = 3' '`i = 3`: write `==` for `=`'
+says 'a single equals sign' 'break 11 if i = 3' '`i = 3`: write `==` for `=`'
 says 'parentheses' 'break 11 if (i == 3)' \
   '`(i == 3)`: parentheses are not supported: join comparisons by `and`'
 says 'a condition without a place' 'break if i == 3' 'missing place before `if i == 3`: as in `break 1:0 if i == 3`'
@@ -194,29 +194,29 @@ says 'a condition over an unknown name' 'break 11 if k == 3' \
   'unknown name `k`: expected a register, a cell, a variable, or a number'
 says 'no comparison' 'break 11 if i' 'invalid comparison `i`: expected WORD OP WORD, where OP is one of == != <= >= < >, '\
 'and WORD a register, a cell, a variable, or a number'
-says 'a planned strike behind the end' 'plan 9000:r1:7\nend' \
+says 'a planned strike after the end' 'plan 9000:r1:7\nend' \
   'the strike 9000:r1:7 is not made: the run ended at 4106, before it'
 says 'a strike in hexadecimal' 'plan 700:r0:0x10\ninfo strikes' '  700:r0:16 planned, not made yet'
 says 'a planned strike is forgotten' 'plan 700:r0:16\nplan 9:r1:7\nunplan 700:r0:0x10\ninfo strikes' \
   '  9:r1:7 planned, not made yet'
 says 'no such strike' 'unplan 9:r1:7' '`9:r1:7` is not planned: `info strikes` lists the strikes'
 says 'a sum is not printed' 'print i + 1' '`i + 1`: `print` takes names, not expressions, as in `print r1 out`'
-says 'words have no dollar' 'print $r1' '`$r1`: names have no `$` here: write `r1`'
-says 'a command of others' 'list' 'unknown command `list`: `disassemble` shows the code with the lines of the source'
-says 'a topic of others' 'info locals' \
+says 'names have no dollar sign' 'print $r1' '`$r1`: names have no `$` here: write `r1`'
+says 'a command of other debuggers' 'list' 'unknown command `list`: `disassemble` shows the code with the lines of the source'
+says 'a topic of other debuggers' 'info locals' \
   'unknown topic `locals`: `info names` says where names are kept, `print` and `display` write their words'
-says 'what is displayed' 'display i prime\nundisplay i\ndisplay' '  prime 0'
+says 'the displayed words' 'display i prime\nundisplay i\ndisplay' '  prime 0'
 printf 'step\nnonsense\nstep\n' >broken
-says 'a script ends at what is refused' "source $work/broken" \
+says 'a script ends at a refused command' "source $work/broken" \
   "$work/broken:2: unknown command \`nonsense\`; \`help\` lists the commands; the script ends here"
 report 'a file with a blank' 'zap r0 1|step 2' \
   "$(session "$program" "record $work/a b" 'flip r0 0' 'step 2' >said; paste -sd '|' "$work/a b")"
 report 'each instruction has its help' '' "$(for name in add sub mul ltu eq and or xor shl shr mov idx ld_G ld_B st_G st_B \
   jmp_G jmp_B bz_G bz_B halt sites d faults; do echo "help $name"; done | "$top/tools/debugger" "$program" 2>&1 |
   grep 'unknown command')"
-says 'what d is' 'help d' 'detected. So a strike that changes d is detected by the next jump or branch.'
+says 'the meaning of d' 'help d' 'detected. So a strike that changes d is detected by the next jump or branch.'
 program=endless.obj
-says 'an end that does not come' end 'the run has not ended after 1,000,000 more steps: `end` continues'
+says 'a run without an end' end 'the run has not ended after 1,000,000 more steps: `end` continues'
 says 'no lines of an object alone' line \
   'no source lines are known: `next` executes an instruction; `debugger OBJECT --source SOURCE` names the source of an '\
 'object'
@@ -234,7 +234,7 @@ report 'no lines of an object' 'at 12 running|the next step fetches st_B r32 r33
   "$(session "$five" 'zap r1 9' 'goto 10' | tail -n 2 | sed 's/^at 10/at 12/' | paste -sd '|')"
 report 'pairs that differ by a strike, and without one' '~ r0 G 1048576 out r32 G 0|* r0 G 7 r32 G 0' \
   "$(session "$five_text" 'goto 4' registers 'zap r0 7' registers | tr -s ' ' | kept '^. r0 ')"
-refuses 'lines of an object' \
+refuses 'the lines of an object' \
   "lines: $five: is an object, not a source; give the source, and the object with --object" lines "$five"
 
 tool 'the path of a fault, and its cause' 0 "$(cat <<END
@@ -260,32 +260,33 @@ refuses 'a fault that strikes nothing' \
   'explain: --fault 4:qa0:6: nothing was struck: at step 4 the queue has no entry 0' explain "$five" --fault 4:qa0:6
 refuses 'a fault after the end' \
   'explain: --fault 14:r1:6: nothing was struck: the run ended after 14 steps' explain "$five" --fault 14:r1:6
-refuses 'a fault at no site' \
+refuses 'a fault at an unknown site' \
   'explain: invalid fault `4:r64:6`: expected STEP:SITE:WORD; the site `r64` is not one of '\
 'r0 to r63, d, pcg, pcb, qa0 to qa7 and qv0 to qv7' \
   explain "$five" --fault 4:r64:6
-refuses 'a step below 0' \
+refuses 'a negative step' \
   'explain: invalid fault `-1:r0:3`: expected STEP:SITE:WORD; invalid number `-1`: expected at least 0' \
   explain "$five" --fault -1:r0:3
-refuses 'a word below 0' \
+refuses 'a negative word' \
   'explain: invalid fault `4:r0:-1`: expected STEP:SITE:WORD; `-1` is out of range: expected 0 to 18446744073709551615' \
   explain "$five" --fault 4:r0:-1
-# The struck i is seen first where j grows by it, and j < 30 holds only for one colour: 24 + 16 is 40, 24 + 2 is 26.
-report 'a branch that is not taken by both' 'r35 = 1: blue does not jump, so d must be 0; d = 85 (block 3 index 0)' \
+# The struck i first matters where it is added to j: then j < 30 holds for one colour only, as 24 + 16 is 40 and 24 + 2
+# is 26.
+report 'a branch that only one colour takes' 'r35 = 1: blue does not jump, so d must be 0; d = 85 (block 3 index 0)' \
   "$("$top/tools/explain" "$top/examples/sieve.src" --fault 700:r0:0x10 | sed -n '4s/^ *//p')"
 # The next instruction of line 14 overwrites r2, and nothing reads it before that.
 report 'a fault that is gone' \
   'gone at 702: from there on no word differs|at 4106: no word differs, and no output does: the fault is gone' \
   "$("$top/tools/explain" "$top/examples/sieve.src" --fault 690:r2:3 | tail -n 2 | paste -sd '|')"
-refuses 'a fault that is none' 'explain: invalid fault `4`: expected STEP:SITE:WORD, such as 4:r1:6' explain "$five" --fault 4
+refuses 'an invalid fault' 'explain: invalid fault `4`: expected STEP:SITE:WORD, such as 4:r1:6' explain "$five" --fault 4
 # `explain` writes what README shows.
 report 'the path of a fault in README' '' "$(sed -n '/^\$ tools\/explain/,/^```/p' "$top/README.md" | sed '1d; $d' |
   diff - <("$top/tools/explain" "$fibonacci" --fault 296:r32:7))"
 
-# Each example's lines; their words are compared with the object's before any is written.
+# The lines of each example. The tool compares the words with the object's before it writes any line.
 for source in "$top"/examples/*.src; do
   "$top/talft" compile "$source" >one.obj 2>said || continue
-  report "as many lines as instructions of ${source##*/}" "$("$top/talft" dis one.obj |
+  report "a line for each instruction of ${source##*/}" "$("$top/talft" dis one.obj |
     grep -vcE '^(cell|node|type|reg|pend|block|entry) ')" "$("$top/tools/lines" "$source" --brief | wc -l)"
 done
 report 'the names of a source' 'a    registers r0 and r32' "$("$top/tools/lines" "$fibonacci" | sed -n 2p)"
@@ -297,7 +298,7 @@ refuses 'lines of another object' \
 wait "$walks"
 report 'random walks' '2 walks: 0 failed' "$(cat walks.said)"
 wait "$facts"
-report 'what the tools know of the machine' '0 wrong' "$(tail -n 1 facts.said | sed 's/.*: //')"
+report 'what the tools know about the machine' '0 wrong' "$(tail -n 1 facts.said | sed 's/.*: //')"
 wait "$adapter"
 report 'the adapter for editors' '0 failed' "$(sed 's/.* passed, \(.*\);.*/\1/' adapter.said)"
 
@@ -312,7 +313,7 @@ if has script 'terminals that cannot show the screen'; then
   done
 fi
 if has tmux 'the screen and the prompt in a terminal'; then
-  # `on LINE..` is what keys.sh writes of these lines.
+  # `on LINE..` prints what keys.sh writes for these lines.
   on() { printf '%s\n' "$@" | bash "$debugging/keys.sh" 100 30 "$keyed"; }
   keyed="$top/tools/debugger $five_text --tui"
   screen=$(on 'await lists the keys' n n n n z 'text:r1 6' Enter 'await ! 4:r1:6' shot c 'await detected' shot \
@@ -321,19 +322,19 @@ if has tmux 'the screen and the prompt in a terminal'; then
   report 'the screen marks the pair' yes "$(grep -q '\* r1  G 6' <<<"$screen" && echo yes)"
   report 'the screen says that it is detected' 1 \
     "$(grep -c 'at 12 detected   the machine has stopped itself' <<<"$screen")"
-  report 'the screen has other sizes' 1 "$(grep -c '^o at 1 running' <<<"$screen")"
+  report 'the screen at other sizes' 1 "$(grep -c '^o at 1 running' <<<"$screen")"
   screen=$(on 'await lists the keys' 'size 80 24' shot l 'await no source lines' shot a a 'await o here' shot \
     'size 60 24' 'await blue: ' shot q)
-  report 'the screen of 80 columns, and of 60' \
+  report 'the screen at 80 columns, and at 60' \
     '14 steps|7 instructions, 1 block, 1 cell; ? lists the keys|: command  ? help  q quit|'\
 'no source lines are known: one instruction|o here  ! strike  @ both|green  blue: 75 columns' \
     "$(grep -oE -e '[0-9]+ steps$' -e '^7 instructions, .* keys' -e '^: command  \? help  q quit' -e '^no source lines .*' \
       -e '^o here  ! strike  @ both' -e 'green  blue: .*' <<<"$screen" | awk '!seen[$0]++' | paste -sd '|')"
-  # If 80 columns are too few, cell names are dropped, and columns stay apart. A move stays on the screen.
+  # If 80 columns are too few, cell names are dropped and columns stay apart. The last move stays on the screen.
   keyed="$top/tools/debugger $top/examples/sieve.src --tui"
   screen=$(on 'await lists the keys' 'size 80 24' g text:700 Enter 'await o at 700' : 'text:display prime' Enter : \
     'text:watch composite[4]' Enter 'await watch 1' shot x 'await does nothing' shot q)
-  report 'words of 80 columns' '| r2 G 1048598 r34 B 1048598' \
+  report 'words in 80 columns' '| r2 G 1048598 r34 B 1048598' \
     "$(grep -o '|   r2 .*' <<<"$screen" | head -n 1 | tr -s ' ' | sed 's/ $//')"
   report 'cells that are displayed and watched' '  prime 2|  prime 2|  composite[4] 1' \
     "$(sed -n '/-----/q; s/.*| \(  prime .*\|  composite.4. .*\)/\1/p' <<<"$screen" | sed 's/ *$//' | paste -sd '|')"
@@ -341,7 +342,7 @@ if has tmux 'the screen and the prompt in a terminal'; then
   keyed="$top/tools/debugger $top/examples/sieve.src --tui --fault 700:r0:16"
   screen=$(on 'await lists the keys' 'size 80 24' c 'await detected' e 'await any key' shot Enter End \
     'await o at 788' q)
-  report 'the page of a way has its lines' '  at 754  r3 40, not 26  add r3 r3 r4  (sieve.src:13)' \
+  report 'the page of a path has its lines' '  at 754  r3 40, not 26  add r3 r3 r4  (sieve.src:13)' \
     "$(grep 'at 754' <<<"$screen")"
   # If the screen is killed, the terminal is restored.
   keyed="bash -c '$top/tools/debugger $five_text --tui; echo status \$?; stty -a; sleep 60'"

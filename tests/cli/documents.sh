@@ -1,10 +1,10 @@
-# Documents made from the crates are up to date.
+# The documents that are generated from the repository are up to date.
 
 report 'the list of crates' '' "$(bash "$top/docs/crates.sh" | diff - "$top/docs/CRATES.md")"
 report 'the list of definitions that the headline reaches' '' "$(python3 "$top/docs/reading.py" | diff - "$top/docs/READING.md")"
 report 'the manual pages' '' "$(bash "$top/man/make.sh" --stale)"
 
-# The lines `In FOLDER: FILE (NAME, ..)` of the promises: each file exists and has each name.
+# The lines `In FOLDER: FILE (NAME, ..)` in the promises: each file exists, and defines each name.
 named() {
   awk '/^In `crates\//, /\.$/' "$top/docs/PROMISES.md" | grep -o '`[^`]*`\|[()]' | tr -d '`' | while read -r word; do
     case $word in
@@ -24,5 +24,5 @@ report 'the table of limits' '' "$(python3 "$top/docs/limits.py" | diff - "$top/
 clause() { sed -n '/ensures headline {/,/}$/p' "$1" | tr -s ' \n' ' ' | sed 's/^ //'; }
 report 'the clause that the promises quote' "$(clause "$top/crates/ft_tool/src/top.rt")" "$(clause "$top/docs/PROMISES.md")"
 
-# The documents stay short enough to be read.
-report 'at most 40,000 words by hand' yes "$(python3 "$top/docs/words.py" | tr -d ' ,' | awk '{ print $1 <= 40000 ? "yes" : $1 }')"
+# The documents stay short enough to read.
+report 'at most 40,000 words written by hand' yes "$(python3 "$top/docs/words.py" | tr -d ' ,' | awk '{ print $1 <= 40000 ? "yes" : $1 }')"

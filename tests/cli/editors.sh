@@ -1,6 +1,6 @@
-# Completion for bash, and the syntax files. tests/users.sh shows them under a terminal, Vim and bat.
+# Completion for bash, and the syntax files. tests/users.sh tests them on a terminal, in Vim and in bat.
 
-# `completes NAME WANTED LINE` completes the line at its end. The words are split as bash splits them.
+# `completes NAME WANTED LINE` completes the line at its end, with its words split as bash splits them.
 completes() {
   report "completion of $1" "$2" "$(bash --norc -c '
     . "$1/editors/talft.bash"
@@ -23,7 +23,7 @@ completes 'a source' 'fibonacci.src' 'talft mean fib'
 completes 'a file of another kind' 'README.md' 'talft run REA'
 completes 'no file for a number of turns' '' 'talft demo '
 completes 'the options of run' '--fault --steps --wild' 'talft run five.obj '
-completes 'the options that are left' '--fault --wild' 'talft trial five.obj --steps 3 --'
+completes 'the remaining options' '--fault --wild' 'talft trial five.obj --steps 3 --'
 completes 'the options of a campaign' '--faults' 'talft campaign five.obj --f'
 completes 'the option of a meaning' '--turns' 'talft mean sum.src -'
 completes 'no option of check' '' 'talft check five.obj '
@@ -34,10 +34,10 @@ completes 'a pending store' 'qa0: qa1: qa2: qa3: qa4: qa5: qa6: qa7:' 'talft run
 completes 'a value' '' 'talft run five.obj --fault 4:r1:'
 completes 'an answer to a wild load' 'stop' 'talft run five.obj --wild '
 completes 'a further answer' '7,stop' 'talft run five.obj --wild 7,s'
-completes 'an option behind a fault' '--steps --wild' 'talft run five.obj --fault 4:r1:6 --'
+completes 'an option after a fault' '--steps --wild' 'talft run five.obj --fault 4:r1:6 --'
 cd "$work" || exit 2
 
-# `completes_tool NAME WANTED TOOL WORD` completes the first word after a tool.
+# `completes_tool NAME WANTED TOOL WORD` completes the first word after the name of a tool.
 completes_tool() {
   report "completion of $1" "$2" "$(bash --norc -c '
     . "$1/editors/talft.bash"
@@ -52,7 +52,7 @@ completes_tool 'the options of build' '--unchecked' "$top/tools/build" --u
 completes_tool 'the options of the shell' 'noclobber' set nocl
 ln -s "$(type -P true)" cc
 completes_tool 'another cc' 'status 124' ./cc --st
-report 'each tool is completed' '' "$(grep -lE '^#!' "$top"/tools/* 2>/dev/null | sed 's|.*/||' |
+report 'each tool has completion' '' "$(grep -lE '^#!' "$top"/tools/* 2>/dev/null | sed 's|.*/||' |
   grep -vxFf <(sed -n 's/^complete -F _talft_tool //p' "$top/editors/talft.bash" | tr ' ' '\n'))"
 
 report 'the grammar of TextMate' '0 wrong' \
@@ -76,7 +76,7 @@ for kind in talft talft-asm; do
     "$(python3 "$top/editors/sublime.py" $kind | diff - "$top/editors/$kind.sublime-syntax")"
 done
 
-# No editor goes by the file name alone: the first line decides, in the same way for VS Code, bat and Sublime Text.
+# No editor goes by the file name alone: the first line decides, by the same rule in VS Code, bat and Sublime Text.
 kinds() {
   python3 - "$top/editors" <<'END'
 import json, re, sys
@@ -92,7 +92,7 @@ for line in ("cell out = 0;", "var a; var b;", "cell a[3] = 0;", "# a talft sour
     print(f"{line}:", *(it["id"] for it in languages if re.search(it["firstLine"], line)))
 END
 }
-report 'which first lines are of which kind' "cell out = 0;: talft
+report 'the kinds of first lines' "cell out = 0;: talft
 var a; var b;: talft
 cell a[3] = 0;: talft
 # a talft source: talft

@@ -1,21 +1,21 @@
 # The C library, from the archive that the gate proved: the loader compared with the command, the task, Python, and C++.
 library=$top/crates/ft_c/out/library
 embed=(-std=c99 -Wall -Wextra -Werror -pedantic -O2 -I"$top/include")
-# Without the library, the module is missing too.
+# Without the library, Python's module cannot be imported either.
 imported() { TALFT_LIBRARY=$1 PYTHONPATH=$top/embed python3 -B -c 'import talft' 2>&1 | tail -n 1; }
 [ -e "$top/embed/libtalft.so" ] || ldconfig -p | grep -q libtalft.so || report 'no library for Python' \
   'ImportError: libtalft.so not found: build or install it, or set TALFT_LIBRARY' "$(imported '')"
-report 'no library where it should be' \
+report 'a missing library' \
   "ImportError: $work/none.so not found: build or install it, or set TALFT_LIBRARY" "$(imported "$work/none.so")"
 echo text >"$work/text.so"
-report 'a library that is none' \
+report 'an invalid library' \
   "ImportError: $work/text.so not loaded ($work/text.so: file too short): build or install it, or set TALFT_LIBRARY" \
   "$(imported "$work/text.so")"
 if has cc 'the C library' && has ar 'the C library'; then
   report 'the C library is made' 0 "$(bash "$top/build/library.sh" >embed.said 2>&1; echo $?)"
-  report 'what the shared library shows' "$(sed -n 's/^\(uint32_t\|void\) \(talft_[a-z_]*\)(.*/\2/p' "$top/include/talft.h" |
+  report 'the symbols that the shared library exports' "$(sed -n 's/^\(uint32_t\|void\) \(talft_[a-z_]*\)(.*/\2/p' "$top/include/talft.h" |
     grep -v '^talft_arena$' | sort | tr '\n' ' ')" "$(nm -D --defined-only "$library/libtalft.so" | awk '{ print $3 }' | sort | tr '\n' ' ')"
-  report 'what it asks of the C library' 'free malloc memcpy memmove memset realloc ' \
+  report 'the symbols that it needs from the C library' 'free malloc memcpy memmove memset realloc ' \
     "$(nm -D --undefined-only "$library/libtalft.so" | awk '$1 == "U" { sub(/@.*/, "", $2); print $2 }' | sort | tr '\n' ' ')"
   for name in loader task; do
     report "$name.c" '' "$(cc "${embed[@]}" "$top/examples/c/$name.c" "$library/libtalft.a" -o "embed_$name" 2>&1)"
@@ -29,9 +29,10 @@ if has cc 'the C library' && has ar 'the C library'; then
   for text in "$top"/examples/*.asm; do
     "$top/talft" asm "$text" >"embed_objects/$(basename "$text").obj" 2>/dev/null || rm "embed_objects/$(basename "$text").obj"
   done
-  report 'the loader answers as the command' 'answers are the same' "$(bash "$top/tests/embed/compare.sh" \
+  report 'the loader answers like the command' 'answers are the same' "$(bash "$top/tests/embed/compare.sh" \
     "$top/crates/talft/out/talft" ./embed_loader -- "$top"/examples/*.obj embed_objects/*.obj "$top"/tests/objects/*.obj 2>&1 | sed 's/^[0-9]* //')"
-  # A task, in one piece or in slices, and with a fault in its first cycle, hands out what the run without a fault does.
+  # A task that runs in one piece or in slices, with a fault in its first cycle or not, hands out what the run without a
+  # fault does.
   for name in fibonacci ring; do
     [ -e "embed_objects/$name.obj" ] || continue
     whole=$("$top/talft" run "embed_objects/$name.obj" --steps 100000 2>/dev/null; echo $?)
@@ -40,7 +41,7 @@ if has cc 'the C library' && has ar 'the C library'; then
     done
     report "two cycles of $name" "$(printf '%s\n%s' "${whole%$'\n'*}" "$whole")" "$(./embed_task "embed_objects/$name.obj" 1000 2; echo $?)"
   done
-  # A task sets its input before each cycle: each run equals that of the object that tools/set makes.
+  # A task sets its input before each cycle: each run is that of the object that tools/set makes.
   printf 'cell in = 0; cell out = 0; out = in + 1;' >embed_step.src
   "$top/talft" compile embed_step.src >embed_step.obj 2>/dev/null
   report 'a task with inputs' "$(for word in 7 8 1; do
@@ -66,7 +67,7 @@ talft.$asked" 2>&1 | tail -n 1)"
 run(five, fault='4:r1')|ValueError: invalid fault '4:r1': expected STEP:SITE:WORD
 recover(five, fault='4:r64:6')|ValueError: invalid fault '4:r64:6': expected STEP:SITE:WORD
 run(five, fault='4:r1', wild='z')|ValueError: invalid fault '4:r1': expected STEP:SITE:WORD
-run(five, fault='4:r1:6', wild='z')|ValueError: no plan: fault '4:r1:6', wild 'z'
+run(five, fault='4:r1:6', wild='z')|ValueError: invalid fault or answers: fault '4:r1:6', wild 'z'
 run(five, fault='99:r1:6', steps=9)|
 check('five.obj')|TypeError: expected the object's bytes, not a name
 check(__import__('pathlib').Path('five.obj'))|TypeError: expected the object's bytes, not a name
@@ -78,11 +79,11 @@ set_cell('five.obj', 0, 5)|TypeError: expected the object's bytes, not a name
 stream('five.obj').__next__()|TypeError: expected the object's bytes, not a name
 campaign('five.obj', '4:r1:6')|TypeError: expected the object's bytes, not a name
 link('module five.obj', {'five.obj': 'five.obj'})|TypeError: expected the object's bytes, not a name
-campaign(five, ['4:r1:6'])|TypeError: faults is one text, a fault per line
-campaign(five, {'4:r1:6'})|TypeError: faults is one text, a fault per line
-set_cell(five, 'out', 5)|TypeError: the cell is a number from 0
+campaign(five, ['4:r1:6'])|TypeError: faults must be one text, with a fault per line
+campaign(five, {'4:r1:6'})|TypeError: faults must be one text, with a fault per line
+set_cell(five, 'out', 5)|TypeError: the cell must be a number, from 0
 END
-  # The tools use the library if it is installed, otherwise the program: the same answers, with fewer processes.
+  # The tools use the library if it is installed, and otherwise the program: same answers, fewer processes.
   mkdir embed_kit && cp -r "$top/tools" embed_kit/tools && cp "$library/talft.py" embed_kit/tools
   printf '#!/bin/sh\necho "$1" >>"%s"\nexec "%s" "$@"\n' "$PWD/embed_calls" "$top/talft" >embed_kit/talft
   chmod +x embed_kit/talft
@@ -95,9 +96,9 @@ END
       env -u TALFT TALFT_LIBRARY="$1" python3 -B "embed_kit/tools/${words%% *}" ${words#* } 2>&1 <<<"step" | sha256sum
     done
   }
-  report 'the tools by the library' "$(by_tools "$PWD/none.so")" "$(by_tools "$library/libtalft.so")"
+  report 'the tools with the library' "$(by_tools "$PWD/none.so")" "$(by_tools "$library/libtalft.so")"
   by_tools "$library/libtalft.so" >/dev/null
-  report 'the calls that are left' 'debug dis' "$(sort -u embed_calls | tr '\n' ' ' | sed 's/ $//')"
+  report 'the remaining calls' 'debug dis' "$(sort -u embed_calls | tr '\n' ' ' | sed 's/ $//')"
   report 'a recovery from Python' "$("$top/talft" recover "$top/examples/five.obj" --steps 1000 --fault 4:r1:6 2>/dev/null)" \
     "$(cd "$library" && TALFT_LIBRARY=$library/libtalft.so python3 -c 'import sys, talft
 end, outputs, again = talft.recover(open(sys.argv[1], "rb").read(), 1000, "4:r1:6")

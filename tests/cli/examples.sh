@@ -1,4 +1,4 @@
-# The examples, and the words of each command.
+# The examples, and each command with its arguments.
 
 expect 'the example' 0 'out 5\n' trial "$top/examples/five.obj"
 expect 'a masked fault' 0 'out 5\n' trial "$top/examples/five.obj" --fault 10:r1:6
@@ -16,8 +16,8 @@ expect 'a survey' 10 '4:r1:6 corrupt\nfaults 1 masked 0 detected 0 idle 0 corrup
   survey "$top/examples/mixed.obj" --faults "$top/examples/mixed.faults" --steps 14
 expect 'a demonstration' 0 'outputs 3 last 18\nfaults 64 masked 3 detected 0 idle 61 corrupt 0\n' demo 3
 expect 'a run by an index' 0 'a[1] 9\n' run "$top/examples/indexed.obj"
-expect 'an index that a fault takes to another cell' 1 '' run "$top/examples/indexed.obj" --fault 2:r0:5
-expect 'an index that a fault takes to the same cell' 0 'a[1] 9\n' run "$top/examples/indexed.obj" --fault 2:r0:7
+expect 'an index that a fault moves to another cell' 1 '' run "$top/examples/indexed.obj" --fault 2:r0:5
+expect 'an index that a fault leaves at the same cell' 0 'a[1] 9\n' run "$top/examples/indexed.obj" --fault 2:r0:7
 expect 'a campaign over an index' 0 '2:r0:5 detected 15\n2:r0:7 masked\nfaults 2 masked 1 detected 1 idle 0 corrupt 0\n' \
   campaign "$top/examples/indexed.obj" --faults "$top/examples/indexed.faults" --steps 18
 upgrade() {
@@ -30,10 +30,10 @@ upgrade second.obj third.obj 'what was upgraded'
 report 'nothing differs after that' 0 "$(cmp second.obj third.obj; echo $?)"
 expect 'the run of an upgraded object' 0 'out 5\n' run second.obj
 head -c 217 "$top/examples/five.obj" >short.obj
-expect 'an upgrade of an object that is cut off' 7 'object 2 217\n' upgrade short.obj
+expect 'an upgrade of a truncated object' 7 'object 2 217\n' upgrade short.obj
 expect 'an upgrade of a missing file' 3 '' upgrade "$work/missing"
 expect 'a missing fault list' 3 '' campaign "$top/examples/five.obj" --faults "$work/missing"
-expect 'a fault list that is not' 11 'list 1 1\n' campaign "$top/examples/five.obj" --faults "$top/examples/five.obj"
+expect 'an object as a fault list' 11 'list 1 1\n' campaign "$top/examples/five.obj" --faults "$top/examples/five.obj"
 expect 'a meaning' 0 'out 0\nout 1\nout 1\nout 2\nout 3\nout 5\nout 8\nout 13\nout 21\nout 34\n' mean "$top/examples/fibonacci.src"
 expect 'another meaning' 0 'out 15\n' mean "$top/examples/sum.src"
 expect 'a meaning that is cut' 9 'out 1\nout 2\nout 3\n' mean "$top/examples/endless.src" --turns 3
@@ -56,6 +56,6 @@ report 'a session' "$(printf 'at 4 running\nzapped\nat 12 detected\nr1 G 6\n1048
 head -c 1048577 /dev/zero >long.script
 got=$("$top/talft" debug "$top/examples/five.obj" <long.script 2>"$work/errors"; printf '/%d' $?)
 report 'a script above the limit' "$(printf 'list 4 1048576\n/11')" "$got"
-expect 'a session without a line' 0 '' debug "$top/examples/five.obj"
-expect 'no words' 2 'usage\n'
-expect 'a word that is no text' 2 'usage\n' trial $'\xff'
+expect 'a session without lines' 0 '' debug "$top/examples/five.obj"
+expect 'no arguments' 2 'usage\n'
+expect 'an argument that is not UTF-8' 2 'usage\n' trial $'\xff'

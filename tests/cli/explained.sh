@@ -1,5 +1,5 @@
-# Explanations on standard error of calls that are refused, detected or cut: what they say, and that standard output and
-# status are the same without them.
+# The explanations on standard error of calls that are refused, detected or cut: what they say, and that standard output
+# and status are the same without them.
 
 # `explained NAME STATUS TEXT SAID WORDS..`
 explained() {
@@ -8,10 +8,10 @@ explained() {
   shift 4
   got=$("$top/talft" "$@" 2>said </dev/null; printf '/%d' $?)
   report "$name, explained" "$wanted" "$got"
-  report "what is said of $name" "$(printf '%b' "$said")" "$(cat said)"
+  report "the message about $name" "$(printf '%b' "$said")" "$(cat said)"
   got=$(TALFT_EXPLAIN=0 "$top/talft" "$@" 2>said </dev/null; printf '/%d' $?)
   report "$name, not explained" "$wanted" "$got"
-  report "nothing that is said of $name" '' "$(cat said)"
+  report "no message about $name" '' "$(cat said)"
 }
 
 # `said_of WORDS..` prints how the output with explanations differs from that without, and whether exactly the calls that
@@ -35,7 +35,7 @@ explained 'an object that mixes colours' 8 'check block 0 index 3 premise 2\n' \
   'mixed.obj: error: block 0, instruction 3: its two operands do not have the same colour (premise 2)\n  add r33 r1 B 0\n  r1: G int\n' \
   check mixed.obj
 printf '4:r1:6\n4:r99:6\n' >wrong.faults
-explained 'a fault at a register that is not there' 11 'list 1 2\n' \
+explained 'a fault at a register that does not exist' 11 'list 1 2\n' \
   'wrong.faults:2:5: error: invalid fault: expected STEP:SITE:WORD; invalid site `r99`: a site is r0 to r63, d, pcg, pcb, qa0 to qa7 or qv0 to qv7\n 4:r99:6\n     ^\n' \
   campaign five.obj --faults wrong.faults
 explained 'a missing file' 3 '' 'missing: error: no such file\n' trial missing
@@ -44,20 +44,20 @@ explained 'a folder' 3 '' 'folder: error: is a folder\n' compile folder
 explained 'two missing files' 3 '' 'missing: error: no such file\nlacking: error: no such file\n' \
   campaign missing --faults lacking
 printf 'cell out = 0;\nout = 7\nout = 8;\n' >lacks.src
-explained 'a source in the place of an object' 7 'object 2 31\n' \
+explained 'a source in place of an object' 7 'object 2 31\n' \
   'lacks.src: error: this is a source, not an object: `talft compile FILE >OBJECT` makes an object\n' run lacks.src
-explained 'an object in the place of a source' 6 'source 2 5\n' 'five.obj: error: this is an object, not a source: `talft run FILE` runs it\n' compile five.obj
-explained 'an object in the place of an assembly text' 12 'asm 1 1\n' \
+explained 'an object in place of a source' 6 'source 2 5\n' 'five.obj: error: this is an object, not a source: `talft run FILE` runs it\n' compile five.obj
+explained 'an object in place of an assembly text' 12 'asm 1 1\n' \
   'five.obj: error: this is an object, not an assembly text: `talft dis FILE` writes its assembly text\n' asm five.obj
 explained 'a semicolon that is missing' 6 'source 4 22\n' \
   'lacks.src:2:8: error: expected `;` after `7`\n out = 7\n        ^\n' compile lacks.src
 printf 'mov r64 G 5 int\n' >wrong.asm
 printf 'cell out = 0;\nout = 8;\n' >eight.src
-explained 'a register that is not there' 12 'asm 1 1\n' \
+explained 'a register that does not exist' 12 'asm 1 1\n' \
   'wrong.asm:1:5: error: invalid `r64`: a register is r0 to r63\n mov r64 G 5 int\n     ^~~\n' asm wrong.asm
 commands=$(awk -v of=rnu -f "$top/build/help.awk" "$top/crates/ft_mistakes/src/forms.rt" | tail -n +2)
-explained 'a word that is no command' 2 'usage\n' "talft: error: unknown command \`rnu\`; did you mean \`run\`?\n$commands\n" rnu five.obj
-explained 'a word that is nearly no command' 2 'usage\n' "talft: error: unknown command \`foo\`\n$commands\n" foo five.obj
+explained 'a misspelled command' 2 'usage\n' "talft: error: unknown command \`rnu\`; did you mean \`run\`?\n$commands\n" rnu five.obj
+explained 'an unknown command' 2 'usage\n' "talft: error: unknown command \`foo\`\n$commands\n" foo five.obj
 explained 'a run that is done' 0 'out 5\n' '' run five.obj
 explained 'a fault that is masked' 0 'out 5\n' '' run five.obj --fault 4:r1:5
 detected='five.obj: detected at step 11: `st_B r32 r33`: r33 is 5, and the oldest store in the queue has the value 6\n'
@@ -68,12 +68,12 @@ explained 'a counter that was struck' 1 '' \
 explained 'a run that is cut' 9 '' 'five.obj: still running after 11 steps: raise `--steps`\n' run five.obj --steps 11
 explained 'a fault after the end' 0 'out 5\n' \
   'five.obj: the fault struck nothing: the run had ended after 14 steps, before step 4000\n' run five.obj --fault 4000:r1:6
-explained 'a fault in no entry' 0 'out 5\n' \
+explained 'a fault at a missing queue entry' 0 'out 5\n' \
   'five.obj: the fault struck nothing: at step 4 the queue has no entry 3\n' run five.obj --fault 4:qv3:6
 printf 'cell out = 0;\nwhile (1) { out = 1; }\n' >endless.src
 explained 'a meaning that is cut' 9 'out 1\nout 1\n' 'endless.src: still running after 2 turns: raise `--turns`\nendless.src:2:8: note: this test is never 0, so the loop never ends\n while (1) { out = 1; }\n        ^\n' mean endless.src --turns 2
 
-# Help, and the same help from the script that answers before the program is proved.
+# Help, also from the script that answers before the program is proved.
 about_talft=$(. "$top/build/kit.sh"; . "$top/build/about.sh"; about)
 report 'what the version names' "talft $(cat "$top/VERSION") (commit , $(rt version))" "$(sed 's/commit [0-9a-f]*+*,/commit ,/' <<<"$about_talft")"
 explained 'the version' 2 'usage\n' "$about_talft\n" --version
@@ -83,7 +83,7 @@ help_of() {
 for word in help --help -h; do
   explained "help by $word" 2 'usage\n' "$(help_of '')\n" "$word"
 done
-explained 'no words' 2 'usage\n' "$(printf 'talft: error: missing command\n'; help_of '')\n"
+explained 'no arguments' 2 'usage\n' "$(printf 'talft: error: missing command\n'; help_of '')\n"
 while read -r command; do
   explained "help on $command" 2 'usage\n' "$(help_of "$command")\n" help "$command"
 done < <(sed -n 's/^    talft \([a-z]*\) .*/\1/p' "$top/docs/COMMANDS.md")
@@ -105,9 +105,9 @@ done <<'END'
 3 check -h
 END
 
-# Assembly texts whose tables break a rule: line and word are named.
+# Assembly texts whose tables break a rule: the message names the line and the word.
 printf '# no such block\nnode 0 memory\ntype 0 0\nblock 0\nhalt\nentry 3\n' >entry.asm
-explained 'an entry block that is not there' 7 'object 9 44\n' \
+explained 'an entry block that does not exist' 7 'object 9 44\n' \
   'entry.asm:6:7: error: there is no block 3: the text has 1 block, numbered from 0\n entry 3\n       ^\n' asm entry.asm
 printf 'cell out int 0\nnode 0 memory\ncell out int 1\ntype 0 0\nblock 0\nhalt\nentry 0\n' >order.asm
 explained 'a line out of order' 12 'asm 2 3\n' \
@@ -116,17 +116,17 @@ printf 'cell out int 0\ncell out int 1\nnode 0 memory\ntype 0 0\nblock 0\nhalt\n
 explained 'a name given twice' 7 'object 8 139\n' \
   'twice.asm:2:6: error: invalid `out`: an earlier cell has this name\n cell out int 1\n      ^~~\n' asm twice.asm
 printf 'node 0 memory\ntype 0 0\nblock 4\nhalt\nentry 0\n' >type.asm
-explained 'a type that is not there' 7 'object 6 84\n' \
+explained 'a type that does not exist' 7 'object 6 84\n' \
   'type.asm:3:7: error: invalid `4`: there is no type 4: the text has 1 type, numbered from 0\n block 4\n       ^\n' asm type.asm
 
-# Links: the module, its line or instruction, and what may be meant.
+# Links: the message names the module, its line or instruction, and what may be meant.
 "$top/talft" asm "$top/examples/count.asm" >said-count.obj 2>errors
 "$top/talft" asm "$top/examples/show.asm" >said-show.obj 2>errors
 printf 'module said-count.obj\nexport next 9\n' >block.map
 explained 'a block that a module does not have' 13 'link 7 2\n' \
   'block.map:2:1: error: the module has no such block\n export next 9\n ^~~~~~~~~~~~~\n  blocks of said-count.obj: 0 to 3\n' link block.map
 printf 'module said-count.obj\nimport show 1\nmodule said-show.obj\nexport show 0\n' >stub.map
-explained 'an import of no stub' 13 'link 8 2\n' \
+explained 'an import of a block that is not a stub' 13 'link 8 2\n' \
   'stub.map:2:1: error: the imported block is not a stub: a stub is the one instruction `halt`\n import show 1\n ^~~~~~~~~~~~~\n  stubs of said-count.obj: 2 3\n' link stub.map
 printf 'module said-count.obj\nexport next 1\nimport shwo 3\nmodule said-show.obj\nexport show 0\n' >name.map
 explained 'a name that nothing exports' 13 'link 9 3\n' \
@@ -171,7 +171,7 @@ done
 "$top/talft" $'r\e[2Jun' >with 2>said
 report 'no control character is quoted' 'talft: error: unknown command `r?[2Jun`' "$(head -n 1 said)"
 
-# Numbers, and lines of other systems.
+# Numbers, and the line ends of other systems.
 printf 'mov r1 G 18446744073709551616 int\n' >large.asm
 explained 'a number that is too large' 12 'asm 1 1\n' \
   'large.asm:1:10: error: invalid `18446744073709551616`: the largest number is 18446744073709551615 (2^64 - 1)\n mov r1 G 18446744073709551616 int\n          ^~~~~~~~~~~~~~~~~~~~\n' \
@@ -203,24 +203,24 @@ explained 'a map with carriage returns' 13 'link 1 1\n' \
   link return.map
 
 # Files of the wrong kind.
-explained 'an assembly text in the place of an object' 7 'object 1 0\n' \
+explained 'an assembly text in place of an object' 7 'object 1 0\n' \
   'five.asm: error: this is an assembly text, not an object: `talft asm FILE >OBJECT` makes an object\n' run five.asm
-explained 'an assembly text in the place of a source' 6 'source 2 465\n' \
+explained 'an assembly text in place of a source' 6 'source 2 465\n' \
   'five.asm: error: this is an assembly text, not a source: `talft asm FILE >OBJECT` makes an object\n' compile five.asm
-explained 'a source in the place of an assembly text' 12 'asm 1 1\n' \
+explained 'a source in place of an assembly text' 12 'asm 1 1\n' \
   'eight.src: error: this is a source, not an assembly text: `talft compile FILE >OBJECT` makes an object\n' asm eight.src
 printf '4:r1:6\n' >said.list
-explained 'a fault list in the place of an object' 7 'object 2 7\n' \
+explained 'a fault list in place of an object' 7 'object 2 7\n' \
   'said.list: error: this is a fault list, not an object: pass it with `--faults`\n' check said.list
-explained 'an object in the place of a fault list' 11 'list 1 1\n' \
+explained 'an object in place of a fault list' 11 'list 1 1\n' \
   'five.obj: error: this is an object, not a fault list: a fault list has one STEP:SITE:WORD on each line; `tools/faults` writes one\n' campaign five.obj --faults five.obj
-explained 'an object in the place of a map' 13 'link 1 1\n' 'five.obj: error: this is an object, not a link map: a link map is a text with a line `module FILE` for each object\n' link five.obj
+explained 'an object in place of a map' 13 'link 1 1\n' 'five.obj: error: this is an object, not a link map: a link map is a text with a line `module FILE` for each object\n' link five.obj
 : >nothing
-explained 'an empty file in the place of an object' 7 'object 2 0\n' 'nothing: error: the file is empty\n' run nothing
-explained 'a device in the place of an object' 7 'object 2 0\n' '/dev/null: error: the file is empty\n' run /dev/null
+explained 'an empty file in place of an object' 7 'object 2 0\n' 'nothing: error: the file is empty\n' run nothing
+explained 'a device in place of an object' 7 'object 2 0\n' '/dev/null: error: the file is empty\n' run /dev/null
 explained 'a name that is empty' 3 '' 'talft: error: the name of the file is empty\n' run ''
 
-# Help by an option of a command, and options in the place of an operand.
+# --help after a command, and options in place of an operand.
 while read -r command; do
   for word in --help -h; do
     "$top/talft" "$command" "$word" >with 2>said </dev/null
@@ -228,14 +228,14 @@ while read -r command; do
   done
 done < <(sed -n 's/^    talft \([a-z]*\) .*/\1/p' "$top/docs/COMMANDS.md")
 explained 'help after an operand' 2 'usage\n' "$(help_of run)\n" run five.obj --help
-explained 'an option in the place of the operand' 3 '' \
+explained 'an option in place of the operand' 3 '' \
   'talft: error: missing OBJECT: it comes before options such as `--fault`\nusage: talft run OBJECT [--steps N] [--fault STEP:SITE:WORD] [--wild LIST]\n' \
   run --fault
 explained 'an option that is misspelled' 2 'usage\n' \
   'talft: error: unknown option `--step` for `run`; did you mean `--steps`?\nusage: talft run OBJECT [--steps N] [--fault STEP:SITE:WORD] [--wild LIST]\n' \
   run five.obj --step 5
 
-# Habits from other languages. All are also rows of ft_explain_tests.
+# Habits from other languages. Each is also a row in ft_explain_tests.
 printf 'cell a[4];\n' >array.src
 explained 'a declaration without a value' 6 'source 4 9\n' \
   'array.src:1:10: error: unexpected `;`: a cell needs an initial value, as in `cell a = 0;` or `cell a[4] = 0;`\n cell a[4];\n          ^\n' \
@@ -252,14 +252,15 @@ printf 'cell a[4] = 0;\na[5] = 2;\n' >beyond.src
 explained 'a constant index beyond its array' 0 'a[1] 2\n' \
   'beyond.src:2:3: note: `a` has 4 cells: the index 5 selects cell 1\n a[5] = 2;\n   ^\n' mean beyond.src
 
-# More habits, with the first line of the explanation: for a source, an instruction in a text with the cell `out`, and words.
+# More habits, with the first line of the explanation: in sources, in an instruction of a text with the cell `out`, and
+# in arguments.
 habit_in() {
   "$top/talft" "$@" >with 2>said </dev/null
   head -n 1 said
 }
 while IFS='|' read -r text message; do
   printf '%b\n' "$text" >habit.src
-  report "what is said of \`$text\`" "habit.src:$message" "$(habit_in compile habit.src)"
+  report "the message about \`$text\`" "habit.src:$message" "$(habit_in compile habit.src)"
 done <<'END'
 cell out = 0;\nout := 5;|2:5: error: unexpected character `:`: write `=` to assign
 cell out = 0;\nout = 2 ** 3;|2:10: error: unexpected `*`: there are no powers, only products
@@ -285,7 +286,7 @@ cell out\xe2\x80\x8b = 0;|1:9: error: unexpected U+200B, a zero width space, whi
 END
 while IFS='|' read -r line message; do
   printf 'cell out int 0\nnode 0 memory\ntype 0 0\nblock 0\n%b\nhalt\nentry 0\n' "$line" >habit.asm
-  report "what is said of \`$line\`" "habit.asm:5:$message" "$(habit_in asm habit.asm)"
+  report "the message about \`$line\`" "habit.asm:5:$message" "$(habit_in asm habit.asm)"
 done <<'END'
 mov r1 G out ref:int|10: error: invalid `out`: numbers are decimal digits, as in `42`; the address of this cell is 1048576
 st_G out r1|6: error: invalid `out`: a register is r0 to r63; put the address of this cell, 1048576, into a register with `mov`
@@ -345,7 +346,7 @@ head -c 100 five.obj >cut.obj
 head -c 20 five.obj >head.obj
 while IFS='|' read -r words message; do
   # shellcheck disable=SC2086
-  report "what is said of \`$words\`" "$message" "$(habit_in $words)"
+  report "the message about \`$words\`" "$message" "$(habit_in $words)"
 done <<'END'
 compile five.src -o five.obj|talft: error: unknown option `-o` for `compile`: it writes to standard output: add `>FILE`
 check five.obj mixed.obj|talft: error: unexpected argument `mixed.obj` after OBJECT: give only one OBJECT
@@ -402,10 +403,10 @@ link quoted.map|quoted.map:1:8: error: `"five.obj"`: no such file; names are wri
 campaign five.obj --faults columns.faults|columns.faults:1:2: error: invalid fault: expected STEP:SITE:WORD; invalid step `4	r1	6`: it contains a tab
 END
 "$top/talft" trial five.obj '--fault 4:r1:6' >with 2>said
-report 'what is said of an option and its value in one word' \
+report 'the message about an option and its value in one word' \
   'talft: error: `--fault 4:r1:6` is one word: write two words' "$(head -n 1 said)"
 
-# Standard output that is a file of the call: a refused call writes its line there, others what they write.
+# Standard output that is one of the call's files: a refused call writes its line there, other calls their output.
 cp five.asm own.asm && cp five.obj own.obj && cp five.obj module.obj
 printf 'cell a = 0;\na = 1;\n' | tee own.src >read.src
 printf '4:r1:6\n' >own.faults
@@ -414,7 +415,7 @@ printf 'module module.obj\n' >module.map
 while IFS='|' read -r file called words; do
   # shellcheck disable=SC2086
   "$top/talft" $words >"$file" 2>said </dev/null
-  report "what is said of \`$words >$file\`" \
+  report "the message about \`$words >$file\`" \
     "$file: $called: standard output is this file, which the shell emptied: give the output another name" "$(cat said)"
 done <<'END'
 own.src|note|compile own.src
@@ -427,13 +428,13 @@ module.obj|error|link module.map
 END
 cp mixed.obj own.obj
 "$top/talft" check own.obj >>own.obj 2>said
-report 'what is said of standard output that is added to a file of the call' 'own.obj: error: the object is not accepted' "$(cat said)"
+report 'the message when standard output appends to a file of the call' 'own.obj: error: the object is not accepted' "$(cat said)"
 
-# An object with bytes of value 10, copied as a text: each gets a carriage return.
+# An object with bytes of value 10, copied as a text: each of these bytes gets a carriage return before it.
 printf 'cell a = 10;\na = 10;\n' >ten.src
 "$top/talft" compile ten.src >ten.obj 2>errors
 python3 -c 'import sys; sys.stdout.buffer.write(open("ten.obj", "rb").read().replace(b"\n", b"\r\n"))' >text.obj
-report 'what is said of an object that was copied as a text' \
+report 'the message about an object that was copied as a text' \
   "$(printf '%s\n' "text.obj: error: the object has $(wc -c <text.obj) bytes, and its header gives $(wc -c <ten.obj)" \
     '  each line feed has a carriage return before it, as after a copy in text mode: copy the object in binary mode')" \
   "$("$top/talft" check text.obj 2>&1 >with)"
@@ -450,16 +451,16 @@ standard input:4:1: error: invalid command: expected `reg R`
  reg r64
  ^'
 "$top/talft" debug five.obj >with 2>said <wrong.script
-report 'what is said of a script' "0 $said_of_script" "$? $(cat said)"
+report 'the message about a script' "0 $said_of_script" "$? $(cat said)"
 report 'what it writes' "$(printf 'at 1 running\nbad command\nbad command\nbad command')" "$(cat with)"
 cat wrong.script | "$top/talft" debug five.obj >with 2>said
-report 'what is said of a script of a pipe' '0 ' "$? $(cat said)"
+report 'the message about a script from a pipe' '0 ' "$? $(cat said)"
 
-# Commands of other debuggers, and words that a tab or two spaces separate.
+# Commands of other debuggers, and words separated by a tab or two spaces.
 while IFS='|' read -r line message; do
   printf '%b\n' "$line" >habit.script
   "$top/talft" debug five.obj >with 2>said <habit.script
-  report "what is said of the command \`$line\`" "standard input:1:$message/bad command" "$(head -n 1 said)/$(cat with)"
+  report "the message about the command \`$line\`" "standard input:1:$message/bad command" "$(head -n 1 said)/$(cat with)"
 done <<'END'
 print r1|1: error: unknown command `print`: `reg R` and `cell NAME` show a word; `tools/debugger` knows `print`
 p r1|1: error: unknown command `p`: `reg R` and `cell NAME` show a word; `tools/debugger` knows `print`
@@ -482,7 +483,7 @@ zap r1|1: error: invalid command: expected `zap SITE WORD`; the word is missing
 zap r\xe9 6|6: error: this line is not UTF-8: write it in ASCII
 END
 
-# A kit that is missing, or is a different one.
+# A kit that is missing, or of another version.
 mkdir -p bare/docs bare/.ci another-kit && cp "$top/docs/PROMISES.md" bare/docs
 report 'the version before the proof, and without a repository' "usage/2/talft $(cat "$top/VERSION") (commit unknown, $(rt version))" \
   "$(bare/talft --version 2>without.said)/$?/$(cat without.said)"
@@ -490,7 +491,7 @@ cp "$top/.ci/run" bare/.ci
 printf '#!/bin/sh\necho another kit\n' >another-kit/rt && chmod +x another-kit/rt
 kit=$(sed -n 's/.*`rt version`: \([^)]*\)).*/\1/p' "$top/docs/PROMISES.md")
 if PATH=/usr/bin:/bin command -v rt >rt.path; then
-  skip 'what is said without the kit' 'it is in /usr/bin'
+  skip 'the message without the kit' 'it is in /usr/bin'
 else
   for call in 'talft trial five.obj' build/prove.sh .ci/run; do
     PATH=/usr/bin:/bin bash bare/$call >with 2>said
@@ -503,29 +504,29 @@ else
 fi
 
 for object in "$top"/tests/objects/*.obj "$top"/examples/*.obj; do
-  report "what is said of $(basename "$object")" '' "$(said_of check "$object"; said_of trial "$object" --steps 1000; said_of dis "$object")"
+  report "the message about $(basename "$object")" '' "$(said_of check "$object"; said_of trial "$object" --steps 1000; said_of dis "$object")"
 done
 for source in "$top"/examples/*.src "$top"/tests/sources/*.src; do
-  report "what is said of $(basename "$source")" '' "$(said_of mean "$source" --turns 100; said_of compile "$source"; said_of asm "$source")"
+  report "the message about $(basename "$source")" '' "$(said_of mean "$source" --turns 100; said_of compile "$source"; said_of asm "$source")"
 done
-report 'what is said of objects that are cut off' '' "$(
+report 'the messages about truncated objects' '' "$(
   for length in 0 7 8 47 48 63 100 218; do
     head -c "$length" five.obj >short
     said_of check short
     said_of asm short
   done)"
-report 'what is said of objects with a bit turned' '' "$(
+report 'the messages about objects with a flipped bit' '' "$(
   for place in $(seq 0 218); do
     python3 -c 'import sys; b = bytearray(open("five.obj", "rb").read()); b[int(sys.argv[1])] ^= 2; open("turned", "wb").write(b)' "$place"
     said_of check turned
   done)"
 
-# A pipe, which gives its bytes only once, is not read again.
+# A pipe, which can be read only once, is not read again.
 mkfifo once
 head -c 100 five.obj >once &
 got=$(timeout 60 "$top/talft" check once 2>said; printf '/%d' $?)
 report 'a refused pipe' "$(printf 'object 2 100\n/7')" "$got"
-report 'what is said of a refused pipe' \
+report 'the message about a refused pipe' \
   "once: error: the object's size does not match its header: it differs at byte 100" "$(cat said)"
 wait
 rm -f once
@@ -538,14 +539,14 @@ report 'a closed standard output, explained' '4 talft: error: the output could n
 report 'standard error that is closed' 3 $?
 report 'standard error that is a pipe' 'missing: error: no such file' "$("$top/talft" check missing 2>&1 | cat)"
 
-explained 'an argument that is no text' 2 'usage\n' 'talft: error: an argument is not UTF-8 text\n' check $'\xff'
+explained 'an argument that is not UTF-8' 2 'usage\n' 'talft: error: an argument is not UTF-8 text\n' check $'\xff'
 
 # An unreadable file, as an ordinary user.
 cp five.obj secret.obj && chmod 000 secret.obj
 if [ -r secret.obj ]; then
-  skip 'what is said of a file that may not be read' 'this user may read all'
+  skip 'the message about an unreadable file' 'this user may read all'
 else
-  explained 'a file that may not be read' 3 '' 'secret.obj: error: permission denied\n' check secret.obj
+  explained 'an unreadable file' 3 '' 'secret.obj: error: permission denied\n' check secret.obj
 fi
 
 if command -v script >script.path; then
@@ -557,10 +558,10 @@ if command -v script >script.path; then
   while IFS='|' read -r form words; do
     binary="talft: note: an object is binary: redirect it to a file, as in \`talft $form >FILE.obj\`"
     script -qec "$top/talft $words 2>said" typescript </dev/null >/dev/null
-    report "what is said of \`$words\` on a terminal" "$binary" "$(cat said)"
+    report "the message about \`$words\` on a terminal" "$binary" "$(cat said)"
     # shellcheck disable=SC2086
     "$top/talft" $words >written 2>said </dev/null
-    report "what is said of \`$words\` into a file" '' "$(cat said)"
+    report "the message about \`$words\` into a file" '' "$(cat said)"
   done <<'END'
 compile SOURCE|compile eight.src
 asm TEXT|asm five.asm
@@ -569,14 +570,14 @@ schedule OBJECT|schedule five.obj
 upgrade OBJECT|upgrade five.obj
 END
   script -qec "$top/talft upgrade five.obj" typescript </dev/null >with
-  report 'what is said of an object comes before it' "$binary" "$(head -n 1 with | tr -d '\r')"
-  report 'what comes after an object begins a line' '' "$(tail -c 1 with | tr -d '\n')"
+  report 'the message about an object comes before it' "$binary" "$(head -n 1 with | tr -d '\r')"
+  report 'what follows an object begins a new line' '' "$(tail -c 1 with | tr -d '\n')"
   script -qec "$top/talft debug five.obj 2>said" typescript </dev/null >/dev/null
-  report 'what is said of a session on a terminal' \
+  report 'the message about a session on a terminal' \
     'talft: note: debugger commands are read from the terminal up to Ctrl-D; `tools/debugger OBJECT` has a prompt and help' "$(cat said)"
   script -qec "$top/talft debug five.obj step 4 2>said" typescript </dev/null >/dev/null
-  report 'what is said of no session on a terminal' 1 "$(grep -c 'unexpected argument `step`' said)"
-  report 'and of commands from the terminal' 0 "$(grep -c 'are read from the terminal' said)"
+  report 'the message about an extra argument on a terminal' 1 "$(grep -c 'unexpected argument `step`' said)"
+  report 'no note about commands from the terminal' 0 "$(grep -c 'are read from the terminal' said)"
   script -qec "env TALFT_EXPLAIN=0 $top/talft upgrade five.obj 2>said" typescript </dev/null >/dev/null
   report 'an object on a terminal, and no explanation' '' "$(cat said)"
 else

@@ -1,5 +1,5 @@
-# Runs the guide as written. A chapter that needs a missing program is left out and named. A program in place of talft
-# counts the calls.
+# Runs the guide as written. A chapter that needs a missing program is skipped and named. A wrapper around talft counts
+# the calls.
 
 mkdir guide
 ln -s "$top/tools" "$top/examples" guide
@@ -23,7 +23,7 @@ if [ -z "$left" ]; then
     "$([ $((calls - told)) -le 10 ] && [ $((told - calls)) -le 10 ] && echo yes || echo "$calls")"
 fi
 
-# The commands of README, with all that they write.
+# The commands in README, with everything that they write.
 if has clang 'the commands of README'; then
   sed -n '/^\$ tools\/cc /,/^```/p' "$top/README.md" | sed '$d' >readme.wanted
   (

@@ -1,6 +1,6 @@
-# An object is read in place. `large.obj` has 1,048,576 nodes and 65,536 instructions; `zeros` has as many bytes and
-# is refused at the first. A command over the object takes no more memory than loading `zeros`, apart from 8 MB; a copy of
-# just the nodes would take more than twice that.
+# An object is read in place. `large.obj` has 1,048,576 nodes and 65,536 instructions; `zeros` has as many bytes, and is
+# refused at the first. Apart from 8 MB, a command over the object takes no more memory than loading `zeros`; a copy of
+# the nodes alone would take more than twice as much.
 {
   printf 'TALFT\0\0\1\0\0\0\0\0\20\0\0\0\0\0\1\0\0\0\0\0\0\0\0\0\0\0\1\0\1\0\0\0\0\0\0\0\0\0\0\0\0\0\0\4'
   head -c 17825815 /dev/zero
@@ -9,7 +9,7 @@ head -c 17825864 /dev/zero >zeros
 echo '0:r1:6' >one.faults
 
 limit=$(least_memory "$(printf 'object 1 0\n/7')" trial zeros)
-report 'a limit under which a large file is loaded' found "${limit//[0-9]*/found}"
+report 'a memory limit under which a large file is loaded' found "${limit//[0-9]*/found}"
 in_place() {
   local name=$1 status=$2 text=$3
   shift 3

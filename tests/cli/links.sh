@@ -1,4 +1,4 @@
-# Links: two modules in assembly text that continue in each other, linked, checked, run, struck, scheduled and under a
+# Links: two modules in assembly text that jump to each other, linked, checked, run, struck, scheduled and tried in a
 # campaign; compiled modules; and a map for each refusal.
 
 # `module NAME LINES..` makes the object of an assembly text.
@@ -10,7 +10,7 @@ module() {
   report "the module $name" 0 $?
 }
 
-# `linked NAME LINES..` links the map of these lines into linked.obj.
+# `linked NAME LINES..` links by a map with these lines, and writes linked.obj.
 linked() {
   local name=$1
   shift
@@ -19,7 +19,7 @@ linked() {
   report "$name" 0 $?
 }
 
-# `unlinked NAME STATUS TEXT LINES..` links the map of these lines, which is refused.
+# `unlinked NAME STATUS TEXT LINES..` links by a map with these lines, which is refused.
 unlinked() {
   local name=$1 status=$2 text=$3
   shift 3
@@ -36,7 +36,7 @@ for name in caller doubler; do
 done
 "$top/talft" link "$top/examples/caller.map" >linked.obj 2>errors
 report 'a link of two modules' 0 $?
-report 'the version of what is linked' 2 "$(od -An -tu1 -j7 -N1 linked.obj | tr -d ' ')"
+report 'the version of the linked object' 2 "$(od -An -tu1 -j7 -N1 linked.obj | tr -d ' ')"
 expect 'its check' 0 'accepted\n' check linked.obj
 expect 'its run' 0 'out 10\n' run linked.obj --steps 34
 expect 'its run, a step shorter' 9 'out 10\n' run linked.obj --steps 33
@@ -45,7 +45,7 @@ expect 'a fault in the other module that is masked' 0 'out 10\n' run linked.obj 
 expect 'a fault in an address that is sent to the other module' 1 '' run linked.obj --fault 8:r33:7
 expect 'a recovery from a fault in the other module' 0 'out 10\nagain 0\n' recover linked.obj --fault 14:r2:7
 "$top/talft" schedule linked.obj >scheduled.obj 2>errors
-report 'the schedule of what is linked' 0 $?
+report 'the schedule of the linked object' 0 $?
 expect 'the run of the schedule' 0 'out 10\n' run scheduled.obj
 awk 'BEGIN { for (i = 0; i < 1000; i++) printf "%d:r%d:%d\n", i % 34, i * 7 % 64, i * i % 1000 }' >link.faults
 for object in linked scheduled; do
@@ -54,7 +54,7 @@ for object in linked scheduled; do
 done
 "$top/talft" dis linked.obj >linked.asm
 "$top/talft" asm linked.asm >again.obj
-report 'what is linked is its text' 0 "$(cmp linked.obj again.obj; echo $?)"
+report 'the text of the linked object assembles to it' 0 "$(cmp linked.obj again.obj; echo $?)"
 
 # ROWS
 
@@ -72,7 +72,7 @@ linked 'an entry block that is imported' 'module start.obj' 'import go 0' 'modul
 expect 'its run from the exported block' 0 'out 5\n' run linked.obj
 "$top/talft" upgrade five.obj >second.obj
 linked 'a module alone' 'module second.obj'
-report 'is itself' 0 "$(cmp linked.obj second.obj; echo $?)"
+report 'a module linked alone does not change' 0 "$(cmp linked.obj second.obj; echo $?)"
 printf 'module five.obj' >some.map
 "$top/talft" link some.map >linked.obj 2>errors
 report 'a map without its last line feed' 0 $?
@@ -83,7 +83,8 @@ expect 'the run of 64 modules' 0 'out 5\n' run linked.obj
 
 # COMPARED WITH ANOTHER LINKER
 
-# `compared NAME LINES` links with examples/NAME.map, and compares with what tests/link.py makes from the modules' texts.
+# `compared NAME LINES` links by examples/NAME.map, and compares the object with the one that tests/link.py makes from
+# the modules' texts.
 compared() {
   local name=$1 lines=$2
   cp "$top/examples/$name.map" .
@@ -107,12 +108,12 @@ compared updown 'out 1\nout 2\nout 3\nout 2\nout 1\nout 0\n'
 expect 'a fault in the second turn' 1 'out 3\n' run count.linked --fault 40:r1:9
 expect 'its recovery' 0 'out 3\nout 2\nout 1\nagain 1\n' recover count.linked --fault 40:r1:9
 
-# Compiled objects never fail the walk. Linked alone, each gives itself in version 2.
+# Compiled objects never fail the walk. Linked alone, each becomes itself in version 2.
 for program in "$top"/examples/*.src; do
   name=${program##*/}
   if "$top/talft" compile "$program" >alone.obj 2>errors; then
     linked "the link of $name alone" 'module alone.obj'
-    report "what is linked of $name alone" '' "$("$top/talft" upgrade alone.obj | cmp - linked.obj 2>&1)"
+    report "the link of $name alone" '' "$("$top/talft" upgrade alone.obj | cmp - linked.obj 2>&1)"
   fi
 done
 
@@ -160,8 +161,8 @@ expect 'refusal 11' 13 'link 11 65536\n' link some.map
 
 expect 'a missing map' 3 '' link "$work/missing"
 unlinked 'a missing module' 3 '' 'module five.obj' 'module missing.obj'
-unlinked 'a missing module behind one that is refused' 13 'link 3 1\n' 'module five.obj' 'module reload.obj' 'module missing.obj'
-unlinked 'a module whose bytes spell no object' 7 'object 1 0\n' 'module five.obj' 'module large.asm'
+unlinked 'a missing module after a refused one' 13 'link 3 1\n' 'module five.obj' 'module reload.obj' 'module missing.obj'
+unlinked 'a module whose bytes do not spell an object' 7 'object 1 0\n' 'module five.obj' 'module large.asm'
 unlinked 'a module that is not accepted' 8 'check block 0 index 3 premise 2\n' 'module mixed.obj' 'module missing.obj'
 expect 'no map' 2 'usage\n' link
 expect 'two maps' 2 'usage\n' link some.map some.map

@@ -1,4 +1,4 @@
-# What the tools say about mistakes that people make: each message says what is wrong, where, and what to do.
+# What the tools say about mistakes that people make: each message says what is wrong, where, and what to do about it.
 
 mkdir mistakes && cd mistakes || exit 2
 cp "$top/examples/five.obj" five.obj
@@ -19,11 +19,11 @@ mkdir folder kept
 echo '{' >kept/campaign.json
 five_sites='r0 to r63, d, pcg, pcb, qa0 to qa7 and qv0 to qv7'
 
-# Each row has the status, the words and the message: for status 2 in the first line, for status 1 in the last one.
+# Each row has the status, the arguments and the message: for status 2 it is the first line, for status 1 the last.
 while IFS='|' read -r status words message; do
   # shellcheck disable=SC2086
   tool "the status of $words" "$status" '' $words
-  report "what is said of $words" "$message" "$(if [ "$status" = 2 ]; then head -n 1 said; else tail -n 1 said; fi)"
+  report "the message about $words" "$message" "$(if [ "$status" = 2 ]; then head -n 1 said; else tail -n 1 said; fi)"
 done <<END
 2|build|build: missing FILE
 2|build five.asm --uncheked|build: unknown option \`--uncheked\`; did you mean \`--unchecked\`?
@@ -146,7 +146,7 @@ TALFT=$PWD/folder refuses 'a folder as the program' \
   "faults: $PWD/folder: is a folder; set \$TALFT to the program \`talft\`, or add its folder to PATH" faults five.obj
 report 'no file is made' '' "$(ls x.obj ./*.new nofolder 2>/dev/null)"
 
-# Clang's messages are kept, and explained; a stand-in prints them.
+# Clang's messages are passed on and explained. A stand-in for clang prints them.
 cat >clang <<'END'
 #!/bin/sh
 case "$*" in *runtime.c*) exit 0 ;; esac
@@ -162,7 +162,7 @@ printf "clang: error: unable to execute command: Executable \"wasm-ld\" doesn't 
 refuses_clang() {
   CLANG=$PWD/clang CLANG_SAYS=$PWD/$1 refuses "the message $1 of clang" "cc: clang cannot compile or link one.c: its messages are above; $2" \
     cc one.c -o x.obj
-  report "the message $1 itself" '' "$(diff <(head -n -1 said) "$1")"
+  report "the message $1 of clang itself" '' "$(diff <(head -n -1 said) "$1")"
 }
 refuses_clang stdio 'there is no C library: do without `stdio.h`; outputs are stores to global variables (docs/C.md)'
 refuses_clang string 'there is no C library: do without `string.h`; declare `memcpy`, `memmove`, `memset`, `memcmp` and `strlen` '\
@@ -172,14 +172,14 @@ refuses_clang symbols \
   '`printf` and `exit` are not defined: add the C file that defines them, or do without: there is no C library (docs/C.md)'
 refuses_clang linker 'the linker wasm-ld is not found: install lld'
 echo 'clang: error: unable to make temporary file: No such file or directory' >unable
-CLANG=$PWD/clang CLANG_SAYS=$PWD/unable TMPDIR=/nonexistent refuses 'a folder TMPDIR that is missing' \
+CLANG=$PWD/clang CLANG_SAYS=$PWD/unable TMPDIR=/nonexistent refuses 'a missing TMPDIR' \
   'cc: clang cannot make a temporary file: TMPDIR is `/nonexistent`: set it to a folder that can be written' cc one.c -o x.obj
-CLANG=$PWD/clang CLANG_SAYS=$PWD/unable TMPDIR='' TMP='' TEMP='' TEMPDIR='' refuses 'a folder /tmp that cannot be written' \
+CLANG=$PWD/clang CLANG_SAYS=$PWD/unable TMPDIR='' TMP='' TEMP='' TEMPDIR='' refuses '/tmp, which cannot be written' \
   'cc: clang cannot make a temporary file: /tmp cannot be written: set TMPDIR to a folder that can be written' cc one.c -o x.obj
 if has clang 'the functions of a C file' && has wasm-ld 'the functions of a C file'; then
   printf 'int x;\nint foo(void) { return x + 1; }\nvoid step(int a) { x = a; }\n' >two.c
   echo 'static int x;' >nothing.c
-  TMPDIR=/nonexistent refuses 'a folder TMPDIR that clang does not find' \
+  TMPDIR=/nonexistent refuses 'a TMPDIR that clang does not find' \
     'cc: clang cannot make a temporary file: TMPDIR is `/nonexistent`: set it to a folder that can be written' cc two.c -o x.obj
   refuses 'a C file without an entry' 'cc: two.c: defines no function `run` or `main`; use --entry with `foo` or `step`' \
     cc two.c -o x.obj
@@ -195,13 +195,13 @@ if has clang 'the functions of a C file' && has wasm-ld 'the functions of a C fi
 'without parameters, such as `int main(void)`' cc main.c -o x.obj
   printf 'volatile int x;\nvoid run(void) { while (1) x = x + 1; }\n' >endless.c
   tool 'an endless C program' 0 '' cc endless.c --steps 1000 -o endless.obj
-  report 'what is said of an endless C program' \
+  report 'the message about an endless C program' \
     'cc: note: endless.obj: the run was cut after 1000 steps; a larger --steps verifies more; a program that never '\
 'ends is always cut' \
     "$(tail -n 1 said)"
   printf 'int x;\nvoid run(void) { int a[1000]; for (int i = 0; i < 1000; i++) a[i] = i; x = a[x]; }\n' >large.c
   tool 'an array that is larger than the stack' 0 '' cc large.c --steps 1000 -o large.obj
-  report 'what is said of an array that is larger than the stack' 'if this is the stack, raise --stack (512)' \
+  report 'the message about an array that is larger than the stack' 'if this is the stack, raise --stack (512)' \
     "$(tail -n 1 said | sed 's/.*; //')"
   echo 'int x; void run() { x = 1; }' >plus.cpp
   refuses 'a C++ file' 'cc: plus.cpp: defines no function `run` or `main`; use --entry with `_Z3runv`' cc plus.cpp -o x.obj
@@ -209,15 +209,15 @@ if has clang 'the functions of a C file' && has wasm-ld 'the functions of a C fi
     'cc: nothing.c: defines no function `run` or `main`; the entry is `void run(void)`, and not static' cc nothing.c -o x.obj
 fi
 
-# Control characters are not written raw, and long words are cut.
+# Messages escape control characters, and cut long words.
 refuses 'a name with an escape' 'debugger: a\x1b[31mb: no such file' debugger $'a\e[31mb'
-refuses 'a name of two lines' 'plot: a\nb: no such file' plot $'a\nb'
+refuses 'a name with a line feed' 'plot: a\nb: no such file' plot $'a\nb'
 refuses 'a name that is not UTF-8' 'faults: a\xffb: no such file' faults $'a\xffb'
 refuses 'an empty list of words' 'faults: --values: invalid number ``: expected decimal numbers below 2^64, separated by commas' \
   faults five.obj --values ''
 refuses 'an empty name' 'ending: an empty file name: no such file' ending ''
 long=$(printf 'r%.0s' {1..5000})
-refuses 'a site that is long' "faults: --sites: unknown site \`${long:0:58}..\`: the sites are $five_sites" \
+refuses 'a long site' "faults: --sites: unknown site \`${long:0:58}..\`: the sites are $five_sites" \
   faults five.obj --sites "$long"
 refuses 'a name that is too long' "build: ${long:0:99}..${long:0:99}: the name is too long" build "$long"
 report 'an escape at the prompt' 'line 1: invalid number `\x1b[31m`: expected decimal digits, or hex as 0x10' \
@@ -225,10 +225,10 @@ report 'an escape at the prompt' 'line 1: invalid number `\x1b[31m`: expected de
 if [ "$(id -u)" != 0 ]; then
   cp five.obj secret.obj
   chmod 0 secret.obj
-  refuses 'a file that may not be read' 'faults: secret.obj: permission denied' faults secret.obj
+  refuses 'an unreadable file' 'faults: secret.obj: permission denied' faults secret.obj
 fi
 
-# Commands of the debugger.
+# Mistaken commands of the debugger.
 for row in 'stepp|unknown command `stepp`; did you mean `step`?; `help` lists the commands' \
   're|ambiguous command `re`: `reverse-next`, `reverse-line`, `reverse-continue`, `registers` or `record`' \
   'info queues|unknown topic `queues`: expected info registers|queue|cells|breaks|strikes|position|outputs|names; did you mean `queue`?' \
@@ -241,7 +241,7 @@ for row in 'stepp|unknown command `stepp`; did you mean `step`?; `help` lists th
   report "the command ${row%%|*}" "line 1: ${row#*|}" "$(echo "${row%%|*}" | "$top/tools/debugger" five.obj 2>&1 | tail -n 1)"
 done
 
-# No temporary folder: Python is told to try only one that is missing.
+# No temporary folder: Python tries only a missing one.
 mkdir no_temporary
 printf 'import tempfile\ntempfile._candidate_tempdir_list = lambda: ["/nonexistent"]\n' >no_temporary/sitecustomize.py
 while read -r words; do
@@ -258,7 +258,7 @@ plot lines
 report lines --object five.obj
 ending five.obj --text five.asm
 END
-# A limit on files: the one that is written is named. `TEMP` is a name that the tool makes up.
+# A limit on the size of files: the message names the file. `TEMP` stands for a name that the tool makes up.
 "$top/talft" compile "$top/examples/sieve.src" >big.obj
 "$top/talft" dis big.obj >big.asm
 while IFS='|' read -r words told; do
@@ -277,7 +277,7 @@ END
 report 'standard output that is limited' 'faults: standard output: file too large' \
   "$(ulimit -f 1; "$top/tools/faults" big.obj --flip all --sample 999 2>&1 >limited | tail -n 1)"
 
-# On a terminal, an object is not written, and an error starts a new line.
+# On a terminal, no object is written, and an error starts a new line.
 if has script 'mistakes on a terminal'; then
   on_terminal() { timeout 60 script -qec "$1" /dev/null </dev/null | tr -d '\r'; }
   report 'an object to a terminal' \

@@ -1,4 +1,4 @@
-# Files, pipes, folders and devices: each has its status, and no message of a crash.
+# Files, pipes, folders and devices: each gives its status, and no crash message.
 
 expect 'a missing file' 3 '' trial "$work/missing"
 expect 'a folder' 3 '' trial "$work"
@@ -24,9 +24,9 @@ wait
 refused_at_open() {
   if [ "$(id -u)" -eq 0 ]; then
     # The superuser may read every file.
-    expect 'a file without permission to read' 0 'out 5\n' trial unreadable
+    expect 'an unreadable file' 0 'out 5\n' trial unreadable
   else
-    expect 'a file without permission to read' 3 '' trial unreadable
+    expect 'an unreadable file' 3 '' trial unreadable
   fi
 }
 cp "$top/examples/five.obj" unreadable
@@ -35,13 +35,13 @@ refused_at_open
 
 got=$("$top/talft" debug "$top/examples/five.obj" <&- 2>errors; printf '/%d' $?)
 report 'standard input that is closed' "$(printf '/3')" "$got"
-report 'what is said of standard input that is closed' 'error: standard input is closed' "$(cat errors)"
+report 'the message about standard input that is closed' 'error: standard input is closed' "$(cat errors)"
 got=$("$top/talft" debug "$top/examples/five.obj" <"$work" 2>errors; printf '/%d' $?)
 report 'a folder as standard input' "$(printf '/3')" "$got"
-report 'what is said of a folder as standard input' 'error: standard input is a folder' "$(cat errors)"
+report 'the message about a folder as standard input' 'error: standard input is a folder' "$(cat errors)"
 got=$("$top/talft" debug "$top/examples/five.obj" 0>written 2>errors; printf '/%d' $?)
-report 'standard input that is written' "$(printf '/3')" "$got"
-report 'what is said of standard input that is written' 'error: standard input cannot be read' "$(cat errors)"
+report 'standard input that is open only for writing' "$(printf '/3')" "$got"
+report 'the message about standard input that is open only for writing' 'error: standard input cannot be read' "$(cat errors)"
 
 # A reader that closes the pipe after the first line.
 "$top/talft" compile "$top/examples/endless.src" >endless.obj
@@ -49,15 +49,15 @@ set -o pipefail
 "$top/talft" trial endless.obj --steps 10000000 2>errors | head -n 1 >first
 report 'a pipe that is closed' 4 "${PIPESTATUS[0]}"
 set +o pipefail
-report 'the first line before it was closed' 'out 1' "$(cat first)"
-report 'no message where it was closed' '' "$(cat errors)"
+report 'the first line before the pipe is closed' 'out 1' "$(cat first)"
+report 'no message after the pipe is closed' '' "$(cat errors)"
 
-# A reader that is gone before the first line is written, which happens at the end.
+# A reader that is gone before the first line is written: the program writes only at its end.
 { sleep 0.3; "$top/talft" trial "$top/examples/five.obj" 2>errors; echo $? >closed.status; } | true
 report 'a pipe that is closed before the first line' 4 "$(cat closed.status)"
-report 'no message where it was closed at once' '' "$(cat errors)"
+report 'no message after the pipe is closed at once' '' "$(cat errors)"
 
-# Interrupted and short writes are continued, and a full disk fails: within the output and at its end.
+# Interrupted and short writes are continued; a full disk is an error, within the output and at its end.
 if has cc 'writes that are interrupted'; then
   cc -O1 -fPIC -shared -o halting_write.so "$top/tests/halting_write.c"
   "$top/talft" trial endless.obj --steps 1000000 >endless.text 2>errors

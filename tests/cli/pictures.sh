@@ -1,4 +1,5 @@
-# Pictures and pages of campaigns, with tools/plot and tools/report. In the pictures, the dots of each colour are counted.
+# Pictures and pages of campaigns, from tools/plot and tools/report. The dots of each colour in the pictures are
+# counted.
 
 unset DISPLAY
 dots() { python3 "$top/tests/picture.py" "$1" 2>&1; }
@@ -30,18 +31,18 @@ if has gnuplot 'the pictures'; then
   report 'a ring around the only corrupt fault' 1 "$(grep -c "<path stroke='rgb(213,  94,   0)'" cell.svg)"
   python3 -c 'import sys, xml.etree.ElementTree as tree; tree.parse(sys.argv[1])' few.svg
   report 'an SVG is in the grammar of XML' 0 $?
-  # The cells are 76 dots wide in the PNG; the frame and the legend remove and add some.
+  # The cells are 76 dots wide in the PNG; the frame covers some dots, and the legend adds some.
   report 'the cells of few.png' '10 4 1' \
     "$(dots few.png | awk '{ printf "%.0f %.0f %.0f", $2 / 1748, $6 / 1748, $8 / 1748 }')"
   tool 'only a PNG' 0 '' plot few.lines cell.lines --title 'one & <two>' --out pair.png
   report 'no SVG' 'pair.png' "$(ls pair.png pair.svg 2>/dev/null)"
-  tool 'a title with signs' 0 '' plot few.lines --title "it's one & <two>" --out pair.svg
+  tool 'a title with special characters' 0 '' plot few.lines --title "it's one & <two>" --out pair.svg
   report 'the title' "it's one & <two>" "$(python3 -c 'import html, sys; print(html.unescape(sys.stdin.read()))' \
     < <(sed -n 's/.*<text>\(.*two.*\)<.text>/\1/p' pair.svg))"
 
-    # The texts of legend and axes, and folded rows. No picture is wider than a repository's page.
+    # The texts of the legend and the axes, and folded rows. No picture is wider than a repository's web page.
   texts() { sed -n 's/.*<text>\(.*\)<.text>.*/\1/p; s/.*<text><tspan[^>]*>\([^<]*\)<.*/\1/p' "$1"; }
-  report 'no fault of the list is in the legend' 1 "$(texts few.svg | grep -c 'no fault of the list')"
+  report 'the legend explains white' 1 "$(texts few.svg | grep -c 'no fault of the list')"
   report 'the axis says what a column is' 1 "$(grep -c 'step before which the fault strikes (one column: 1 step)' few.svg)"
   report 'the shares of the verdicts' 1 "$(grep -c 'masked 10 (50.0%)' few.svg)"
   report 'the picture is 860 dots wide' 860 "$(sed -n 's/^<svg *//; s/^ *width="\([0-9]*\)".*/\1/p' few.svg | head -n 1)"
@@ -49,10 +50,10 @@ if has gnuplot 'the pictures'; then
   report 'both registers are used' 0 "$(grep -c '>unused<' used.svg)"
   sed 's/r1:/r9:/' few.lines >unused.lines
   tool 'a picture with an unused register' 0 '' plot unused.lines --object "$top/examples/five.obj" --out unused.svg
-  report 'its faults are told apart' 1 "$(grep -c 'of 10 faults; 10 more in unused registers' unused.svg)"
+  report 'its faults are counted separately' 1 "$(grep -c 'of 10 faults; 10 more in unused registers' unused.svg)"
   report 'they are left out of the shares' 1 "$(grep -c 'masked 10 (100%)' unused.svg)"
 
-# The same faults on code that is accepted, and on code whose blue stores read the green registers.
+# The same faults on accepted code, and on code whose blue stores read the green registers.
   "$top/talft" compile "$top/examples/fibonacci.src" >fibonacci.obj
   python3 "$top/tests/unpaired.py" fibonacci.obj >unpaired.obj
   "$top/tools/faults" fibonacci.obj --sites r0-r7,r32-r39,d,pcg,pcb,qa0,qv0 >list 2>said
@@ -61,18 +62,18 @@ if has gnuplot 'the pictures'; then
   report 'a fault of the unpaired code is corrupt' 10 $?
   tool 'both pictures' 0 '' plot paired.lines --out paired.svg
   tool 'the other one' 0 '' plot unpaired.lines --out unpaired.svg
-  report 'nothing corrupt is seen of the code that is accepted' 'corrupt 0' "$(dots paired.svg | grep -o 'corrupt 0')"
-  report 'what is corrupt is seen of the other' 'some' "$(dots unpaired.svg | sed 's/.*corrupt [1-9].*/some/')"
+  report 'the picture of accepted code shows no corrupt fault' 'corrupt 0' "$(dots paired.svg | grep -o 'corrupt 0')"
+  report 'the picture of the other code shows corrupt faults' 'some' "$(dots unpaired.svg | sed 's/.*corrupt [1-9].*/some/')"
 fi
 
 head -n 5 few.lines >cut.lines
-refuses 'lines that are cut off' \
+refuses 'truncated lines' \
   'plot: cut.lines:6: missing last line `faults ..`, with the totals: the file is incomplete' plot cut.lines
 sed 's/idle 4/idle 5/' few.lines >wrong.lines
 refuses 'totals that are not those of the lines' \
   'plot: wrong.lines:21: the totals do not match the lines, which add up to masked 10 detected 5 idle 4 corrupt 1' plot wrong.lines
 sed '3s/masked/broken/' few.lines >broken.lines
-refuses 'a line that is none' \
+refuses 'an invalid line' \
   'plot: broken.lines:3: unexpected `2:r0:1 broken`: expected STEP:SITE:WORD VERDICT, as `talft campaign` writes it' \
   plot broken.lines
 echo 'faults 0 masked 0 detected 0 idle 0 corrupt 0' >none.lines
@@ -81,14 +82,14 @@ refuses 'a campaign without a fault' 'plot: none.lines: has no faults to draw: i
 refuses 'a missing file' 'plot: absent: no such file' plot absent
 refuses 'a page without an object' \
   'report: missing object: give `--dir DIR`, the folder of the tool `campaign`, or `--object OBJECT`' report few.lines
-refuses 'a page of lines that are cut off' \
+refuses 'a page of truncated lines' \
   'report: cut.lines:6: missing last line `faults ..`, with the totals: the file is incomplete' \
   report cut.lines --object "$top/examples/five.obj"
 for script in plot report; do
   report "the help of $script" "usage: $script" "$("$top/tools/$script" --help | head -n 1 | grep -o "usage: $script")"
 done
 
-# The instructions that a page names: a fault before each fetch.
+# The instructions that a page names, for a fault before each fetch.
 names() {
   awk -v sites="$2" 'BEGIN { for (step = 0; step < 2 * sites; step += 2) printf "%d:r9:1 masked\n", step
     printf "faults %d masked %d detected 0 idle 0 corrupt 0\n", sites, sites }' >each.lines
@@ -116,19 +117,20 @@ index 14, line 4)" \
   report 'the path of its slow fault' 1 "$(grep -c 'the strike 60:r4:1' lined.html)"
 fi
 
-# The commands of docs/TOOLS.md, as a reader runs them. They print nothing but their progress.
+# The commands in docs/TOOLS.md, run as a reader would. They print nothing but their progress.
 if command -v gnuplot >/dev/null; then
   mkdir reader
   ln -s "$top/talft" "$top/tools" "$top/tests" "$top/examples" reader
   awk '/^```/ { inside = !inside; next } inside' "$top/docs/TOOLS.md" >reader/commands
-  report 'what a reader is told' '' "$(cd reader && bash commands 2>&1 | grep -v '^faults: [0-9]\|^campaign: [0-9]')"
+  report 'the messages of the commands in docs/TOOLS.md' '' "$(cd reader && bash commands 2>&1 | grep -v '^faults: [0-9]\|^campaign: [0-9]')"
   count=$(grep -o 'has [0-9,]* faults' "$top/docs/TOOLS.md" | tr -dc 0-9)
-  report 'the number of faults that docs/TOOLS.md tells' "$count" "$(grep -c : reader/lines)"
-  report 'the pictures of a reader' 'both.png both.svg fibonacci.html fibonacci.png fibonacci.svg' \
+  report 'the number of faults in docs/TOOLS.md' "$count" "$(grep -c : reader/lines)"
+  report 'the pictures that these commands draw' 'both.png both.svg fibonacci.html fibonacci.png fibonacci.svg' \
     "$(cd reader && find . -size +4k \( -name '*.??g' -o -name '*.html' \) | sed 's/..//' | sort | paste -sd ' ')"
 fi
 
-# `choose SITE VERDICT` chooses as a reader does, and gives the number of rows and the page's note about them.
+# `choose SITE VERDICT` writes the script that chooses these, and gives the number of rows and the page's note about
+# them.
 choose() {
   printf '(() => { for (const [id, value] of [["site", "%s"], ["verdict", "%s"]]) {' "$1" "$2"
   printf 'const select = document.getElementById(id); select.value = value; '
@@ -136,7 +138,7 @@ choose() {
   printf 'return document.querySelectorAll("#faults tbody tr").length + " " + '
   printf 'document.getElementById("told").textContent; })()\n'
 }
-# The same from the campaign's lines. Up to a hundred of each site and verdict are listed.
+# The wanted answer, from the campaign's lines. At most a hundred of each site and verdict are listed.
 chosen() {
   awk -F '[: ]' -v site="$1" -v verdict="$2" '/:/ && (site == "" || $2 == site) && (verdict == "" || $4 == verdict) {
       all++; if (kept[$2, $4]++ < 100) listed++

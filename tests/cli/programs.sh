@@ -1,5 +1,5 @@
-# Programs that must compile, or must not. `compiles NAME WANTED CRATE` compiles the program of a crate; WANTED is what
-# the compiler says about it.
+# Programs that must compile, and programs that must not. `compiles NAME WANTED CRATE` compiles the program of a crate;
+# WANTED is what the compiler says about it.
 mkdir house
 tar -C "$top" --exclude=out -cf - crates crates.txt HANDLES | tar -C house -xf -
 mkdir -p house/crates/one_fault/src house/crates/kept_name/src
@@ -10,8 +10,8 @@ compiles() {
   report "$1" "$2" "$(cd "house/crates/$3" && rt try 2>&1 | grep -o 'run=ended status=0\|error\[[^:]*: [^:]*' | head -n 1)"
 }
 
-# At most one fault: a run that was struck has no strike, and the run without a fault is spent by its strike. The
-# program strikes a run, and then does THEN.
+# At most one fault: a struck run has no method to strike it, and striking consumes the run without a fault. The program
+# strikes a run, and then does THEN.
 strikes() {
   cat >house/crates/one_fault/src/main.rt <<END
 //! Strikes a run.
@@ -38,8 +38,8 @@ strikes 'a second strike' 'error[unknown-method]: no method named `strike` found
   '{ struck.strike(Site::D, 2, &[]); struck.step() }'
 strikes 'a step without the strike' 'error[borrow-e0382]: borrow of moved value' 'clean.step()'
 
-# A name is a slice of an object's bytes: it may outlive the view, but not the bytes. The program
-# takes a name, then does THEN, and then reads the name.
+# A name is a slice of an object's bytes: it may outlive the view, but not the bytes. The program takes a name, does
+# THEN, and then reads the name.
 keeps() {
   cat >house/crates/kept_name/src/main.rt <<END
 //! Keeps a name.

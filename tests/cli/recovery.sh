@@ -1,4 +1,4 @@
-# Recoveries: whatever is struck, the whole output is written, and the number of outputs before a restart.
+# Recoveries: whatever is struck, they write the whole output, and the number of outputs before a restart.
 
 expect 'a recovery without a fault' 0 'out 5\n' recover "$top/examples/five.obj"
 expect 'a recovery of the detected fault' 0 'out 5\nagain 0\n' recover "$top/examples/five.obj" --fault 4:r1:6
@@ -17,8 +17,8 @@ for _ in range(10):
     a, b = b, a + b')
 expect 'a recovery of a compiled object' 0 "${wanted//$'\n'/\\n}\nagain 3\n" recover numbers.obj --fault 296:r32:7
 
-# A list of 1,000 faults: the text is the same for each, except for the line of a restart, which appears exactly for those
-# that a campaign finds detected.
+# A list of 1,000 faults: the output is the same for each, except for the line about a restart, which appears exactly
+# for those that a campaign finds detected.
 awk 'BEGIN { for (i = 0; i < 1000; i++) printf "%d:r%d:%d\n", i % 700, i * 7 % 64, i * i % 1000 }' >recovery.faults
 whole=0 again=0
 while read -r fault; do
@@ -28,6 +28,6 @@ while read -r fault; do
     "$wanted"$'\nagain '[0-9]*$'\n/0') whole=$((whole + 1)) again=$((again + 1)) ;;
   esac
 done <recovery.faults
-report 'the recoveries of 1,000 faults that are whole' 1000 "$whole"
+report 'the complete recoveries of 1,000 faults' 1000 "$whole"
 "$top/talft" campaign numbers.obj --faults recovery.faults >verdicts
-report 'those of them with a restart' "$(sed -n 's/^faults .* detected \([0-9]*\) .*/\1/p' verdicts)" "$again"
+report 'the recoveries with a restart' "$(sed -n 's/^faults .* detected \([0-9]*\) .*/\1/p' verdicts)" "$again"

@@ -1,5 +1,6 @@
-# Releases of the proved program and the C library: they have the right files, are the same bytes when made twice, name their
-# build, run the guide when installed in a clean root, and build and run a loader in C; and the package is removed again.
+# Releases of the proved program and the C library: they have the right files, have the same bytes when made twice, name
+# their build, run the guide when installed in a clean root, and build and run a loader in C; and the package can be
+# removed.
 release=$work/release
 program=$top/crates/talft/out/talft
 mkdir "$release"
@@ -16,19 +17,19 @@ runs_guide() {
   ln -s "$2/share/talft/tools" "$2/share/talft/examples" "$place"
   got=$(env -u TALFT python3 "$top/tests/guide.py" "$top/docs/GUIDE.md" "$place" 2>&1)
   asked=$(sed -n 's/^\([0-9]*\) of .*/\1/p' <<<"$got")
-  report "the guide, by $1" "$asked of $asked commands write what the guide says" "$(grep -v '^left out' <<<"$got")"
+  report "the guide with $1" "$asked of $asked commands write what the guide says" "$(grep -v '^left out' <<<"$got")"
 }
 
 # `says_its_build NAME FOLDER` compares what the program installed under a folder says about itself.
 says_its_build() {
-  report "the version by $1" "$(printf 'usage\n/2/'; cat "$2/share/doc/talft/BUILD")" \
+  report "the version of $1" "$(printf 'usage\n/2/'; cat "$2/share/doc/talft/BUILD")" \
     "$("$2/bin/talft" --version 2>"$release/said"; printf '/%d/' $?; cat "$release/said")"
-  report "the version by $1, not explained" "$(printf 'usage\n/2/')" \
+  report "the version of $1, not explained" "$(printf 'usage\n/2/')" \
     "$(TALFT_EXPLAIN=0 "$2/bin/talft" --version 2>"$release/said"; printf '/%d/' $?; cat "$release/said")"
 }
 
-# `library_runs NAME FOLDER` builds the loader with the library installed under a folder, as its documents say, and runs
-# it: it must answer as the program does. Python uses the same library.
+# `library_runs NAME FOLDER` builds the loader with the library installed under a folder, as the documents say, and runs
+# it: it must answer like the program. Python uses the same library.
 library_runs() {
   local way loader=$release/loader_${1// /_} from=$2/share/talft/examples/c/loader.c five=$2/share/talft/examples/five.obj
   local wanted
@@ -42,12 +43,12 @@ library_runs() {
     else
       continue
     fi
-    report "the $way library by $1 checks" "$(printf 'accepted\n/0')" "$(LD_LIBRARY_PATH=$2/lib "$loader" "$five" 2>&1; printf '/%d' $?)"
-    report "the $way library by $1 runs" "$wanted" "$(LD_LIBRARY_PATH=$2/lib "$loader" "$five" 1000 2>&1; echo $?)"
-    report "the $way library by $1 refuses" "$("$2/bin/talft" check "$2/share/talft/examples/mixed.obj" 2>"$release/said"; echo $?)" \
+    report "the $way library of $1 checks" "$(printf 'accepted\n/0')" "$(LD_LIBRARY_PATH=$2/lib "$loader" "$five" 2>&1; printf '/%d' $?)"
+    report "the $way library of $1 runs" "$wanted" "$(LD_LIBRARY_PATH=$2/lib "$loader" "$five" 1000 2>&1; echo $?)"
+    report "the $way library of $1 refuses" "$("$2/bin/talft" check "$2/share/talft/examples/mixed.obj" 2>"$release/said"; echo $?)" \
       "$(LD_LIBRARY_PATH=$2/lib "$loader" "$2/share/talft/examples/mixed.obj" 2>&1; echo $?)"
   done
-  report "the library by $1 from Python" "[('out', 5)]" "$(PYTHONPATH=$2/share/talft/tools TALFT_LIBRARY=$2/lib/libtalft.so.0 \
+  report "the library of $1 from Python" "[('out', 5)]" "$(PYTHONPATH=$2/share/talft/tools TALFT_LIBRARY=$2/lib/libtalft.so.0 \
     python3 -B -c 'import sys, talft; print(talft.run(open(sys.argv[1], "rb").read())[1])' "$five" 2>&1)"
 }
 
@@ -102,5 +103,5 @@ if has dpkg-deb 'the Debian package'; then
   runs_guide 'the package' "$root/usr"
   library_runs 'the package' "$root/usr"
   debian --purge talft
-  report 'what is left of the package' '' "$(find "$root" -path "$root/var" -prune -o -type f -print)"
+  report 'nothing is left of the package' '' "$(find "$root" -path "$root/var" -prune -o -type f -print)"
 fi

@@ -1,8 +1,9 @@
-# Memory is not reported as exhausted when there is enough: each table at its limit, with the inputs of limits.py. No clause
-# distinguishes a body that gives up early from one whose allocation failed; these rows do.
+# No call reports exhausted memory when there is enough: each table at its limit, with the inputs of limits.py. No
+# clause distinguishes a body that gives up early from one whose allocation failed; these rows do.
 mkdir room && cd room || exit
 
-# `at_limit NAME [SIZE]` runs a row of limits.py at its greatest size, or at this one. Status and last line are those it wants.
+# `at_limit NAME [SIZE]` runs a row of limits.py at its largest size, or at SIZE. Status and last line must be as it
+# says.
 at_limit() {
   local status said
   mapfile -t room_row < <(python3 "$top/tests/limits.py" "$1" "${2:-full}")
@@ -14,7 +15,7 @@ at_limit() {
 }
 
 # Objects: 1,024 cells, 1,048,576 nodes, 4,096 code types, 262,144 register rows, 32,768 queue rows, 65,536 blocks, 65,536
-# instructions, 1,048,576 substitution rows, 128 of them for each jump.
+# instructions, and 1,048,576 substitution rows, 128 for each jump.
 for room_name in largest-second-check largest-trial largest-survey largest-debug largest-second-upgrade; do
   at_limit "$room_name"
 done

@@ -1,5 +1,5 @@
-# Schedules: for compiled objects the order is the one that tests/schedule.py finds by exchanging neighbours; the object of
-# fibonacci.src before and after, as texts, run, and under a campaign.
+# Schedules: for compiled objects, the order is the one that tests/schedule.py finds by exchanging neighbours. The
+# object of fibonacci.src, before and after scheduling: its text, its run, and a campaign.
 
 for object in five reload indexed; do
   "$top/talft" dis "$top/examples/$object.obj" >before.asm

@@ -1,4 +1,4 @@
-# What a newcomer meets besides the program's answers: objects built in place, campaigns that were cut, one notation.
+# What a newcomer meets besides the program's answers: objects built in place, campaigns that are cut, one notation.
 
 cp "$top/examples/five.asm" built.asm
 tool 'an object is built' 0 '' build built.asm
@@ -13,7 +13,7 @@ refuses 'an object that is not accepted' 'build: wrong.obj: refused by `talft ch
   build wrong.asm
 report 'nothing is left over' '' "$(ls ./*.new 2>&1 | grep -v 'No such file')"
 cp built.src built.txt
-refuses 'a name of another kind' \
+refuses 'a file of an unknown kind' \
   'build: built.txt: unknown kind of file; expected a name that ends in .src, .asm or .map' build built.txt
 
 # five.obj takes 14 steps, so a run of 12 steps is cut. Both faults strike, and the second is detected in step 11.
@@ -24,7 +24,7 @@ report 'how many struck runs were cut' 'campaign: 1 struck run was still running
   "$(tail -n 1 said)"
 tool 'a campaign that is not cut' 0 '0:r9:1 masked\n4:r1:6 detected 11\nfaults 2 masked 1 detected 1 idle 0 corrupt 0\n' \
   campaign "$top/examples/five.obj" --faults cut.faults --steps 14 --dir whole.kept
-report 'nothing is said of it' 0 "$(grep -c 'still running' said)"
+report 'no message about it' 0 "$(grep -c 'still running' said)"
 
 report 'one notation of strikes' '' "$(grep -rlI 'K:SITE:V\|STEP:SITE:V\b' "$top"/docs "$top/README.md" "$top/editors" "$top/examples" \
   "$top/man" $(find "$top/tools" -maxdepth 1 -type f ! -name debugger) 2>/dev/null)"
@@ -39,7 +39,7 @@ report 'the pages that are named' '' "$(grep -ohE 'talft(\\?-[a-z0-9]+)?(\\f[A-Z
 for script in $(grep -lE '^#!' "$top"/tools/* 2>/dev/null); do
   report "the page of ${script##*/}" 1 "$(grep -c "^.SH SYNOPSIS" "$top/man/talft-${script##*/}.1" 2>&1)"
 done
-# Each premise has an entry that says what fails and what to do.
+# Each premise has an entry that says what fails and what to do about it.
 report 'the premises and what to do' 18 "$(sed -n '/^.SH PREMISES/,/^.SH RULES/p' "$top/man/talft-typing.7" |
   grep -c 'what to do:')"
 for part in STRIKES CAMPAIGNS 'SESSIONS OF THE DEBUGGER'; do
@@ -49,7 +49,7 @@ for part in SYNOPSIS EXAMPLES ENVIRONMENT 'EXIT STATUS'; do
   report "$part in talft(1)" 1 "$(grep -c "^.SH $part" "$top/man/talft.1")"
 done
 
-# Vim recognizes a file by its text, not just by its name.
+# Vim recognizes a file by its text, not by its name alone.
 kind_in_vim() {
   timeout 60 vim -es -u NONE -N -i NONE -c "set rtp^=$top/editors/vim" -c 'filetype on' -c "edit $1" \
     -c "call writefile([&filetype], 'kind') | qall!" </dev/null >errors 2>&1
@@ -64,7 +64,7 @@ if has vim 'the kinds of files in Vim' && vim --version | grep -q '+syntax'; the
   report 'another assembly text in Vim' no "$(kind_in_vim other.asm | grep -q talft && echo yes || echo no)"
 fi
 
-# Ctrl-C before the proof, with a stand-in for the kit that starts another process, as the kit starts compilers.
+# Ctrl-C before the proof. A stand-in for the kit starts another process, as the kit starts compilers.
 mkdir -p unproved/crates/talft/src kit left
 cp -r "$top/build" "$top/talft" "$top/crates.txt" "$top/VERSION" unproved
 mkdir unproved/docs && cp "$top/docs/PROMISES.md" unproved/docs
@@ -105,15 +105,15 @@ cp "$top/tests/c/control.wasm" read.wasm
 cp "$top/examples/five.asm" read.asm
 ln -s read.asm text-again.asm
 touch read.lines read.svg
-refuses 'an object over its module' 'cc: read.wasm: is an input; give the output another name' \
+refuses 'an object written over its module' 'cc: read.wasm: is an input; give the output another name' \
   cc read.wasm -o read.wasm
-refuses 'a text over its module' 'wasm2asm: ./read.wasm: is an input; give the output another name' \
+refuses 'a text written over its module' 'wasm2asm: ./read.wasm: is an input; give the output another name' \
   wasm2asm read.wasm -o ./read.wasm
-refuses 'an object over its text' 'build: text-again.asm: is an input; give the output another name' \
+refuses 'an object written over its text' 'build: text-again.asm: is an input; give the output another name' \
   build read.asm -o text-again.asm
-refuses 'a page over its lines' 'report: read.lines: is an input; give the output another name' \
+refuses 'a page written over its lines' 'report: read.lines: is an input; give the output another name' \
   report read.lines --dir cut.kept --out read.lines
-refuses 'a picture over its lines' 'plot: read.svg: is an input; give the output another name' \
+refuses 'a picture written over its lines' 'plot: read.svg: is an input; give the output another name' \
   plot read.svg --out read.svg
 report 'the module' '' "$(cmp read.wasm "$top/tests/c/control.wasm" 2>&1)"
 report 'the text' '' "$(cmp read.asm "$top/examples/five.asm" 2>&1)"

@@ -1,7 +1,7 @@
 # Nothing is computed twice, and memory use stays close to what is needed.
 
-# An operand that is evaluated twice is evaluated 2^30 or 2^100 times here. Each bracket on the right takes a register pair
-# more, so there are 30 of them.
+# If operands were evaluated twice, the innermost would be evaluated 2^30 or 2^100 times here. Each bracket on the right
+# takes one more register pair, so there are only 30 of them.
 nested() {
   local left=$1 right=$2 depth=$3 n
   printf 'cell out = 0; out = '
@@ -15,12 +15,12 @@ nested '(' ' + 1)' 100 >left.src
 for words in 'right mean 31' 'right exec 31' 'left mean 101' 'left exec 101'; do
   read -r side command value <<<"$words"
   got=$(timeout 3 "$top/talft" "$command" $side.src; printf '/%d' $?)
-  report "$command of an expression that is deep on its $side" "$(printf 'out %d\n/0' "$value")" "$got"
+  report "$command of an expression that is deep on the $side" "$(printf 'out %d\n/0' "$value")" "$got"
 done
 
-# The least memory under which the program says `usage`, and each command on a small input within 8 MB more.
+# The least memory under which the program writes `usage`, and each command on a small input within 8 MB more.
 limit=$(least_memory "$(printf 'usage\n/2')" usage)
-report 'a limit under which the program says usage' found "${limit//[0-9]*/found}"
+report 'a memory limit under which the program writes `usage`' found "${limit//[0-9]*/found}"
 small() {
   report "$* in little memory" "$(within unlimited "$@" | tr '\0' 0)" "$(within $((limit + 8192)) "$@" | tr '\0' 0)"
 }

@@ -30,7 +30,7 @@ class Tests:
 
 
 def assembly(tests):
-    """An assembly text with a planned fault: steps, scopes, strikes, why it was detected."""
+    """An assembly text with a planned fault: steps, scopes, strikes, and why it was detected."""
     client, program = Client(), os.path.join(EXAMPLES, "five.asm")
     client.begin({"program": program, "fault": "4:r1:6"})
     tests.check("entry", "entry", client.event("stopped")["reason"])
@@ -60,7 +60,7 @@ def assembly(tests):
 
 
 def strikes(tests, client):
-    """A word is put by hand, and the planned fault is undone so."""
+    """Writing a word by hand undoes the planned fault."""
     client.evaluate("step 6")
     tests.check("goto", "goto", client.event("stopped")["reason"])
     tests.check("hover", "6", client.evaluate("r1", "hover"))
@@ -84,7 +84,7 @@ def strikes(tests, client):
 
 
 def source(tests):
-    """A source: its lines, words that are watched, addresses, conditions, completion."""
+    """A source: its lines, watched words, addresses, conditions, completion."""
     client, program = Client(), os.path.join(EXAMPLES, "fibonacci.src")
     client.begin({"program": program, "stopOnEntry": False}, [4])
     stop = client.event("stopped")
@@ -160,7 +160,7 @@ def refusals(tests):
 
 
 def port(tests):
-    """A run without end over a port: pause ends it; two clients at once, of which one goes away."""
+    """An endless run over a port, which pause ends; and two clients at once, one of which leaves."""
     server = subprocess.Popen([DAP, "--port", "0"], stderr=subprocess.PIPE, universal_newlines=True)
     number = int(server.stderr.readline().rsplit(":", 1)[1])
     try:
@@ -175,10 +175,10 @@ def port(tests):
         client.body("pause", {"threadId": 1})
         stop, frame = client.event("stopped"), client.frame()
         tests.check("paused", "pause", stop["reason"])
-        # It stays where the run got to, which is where it was if no call had ended yet.
+        # The session stays where the run got to: where it began, if no call had ended yet.
         tests.check("where it got to", True, "where it was" in stop["description"] and frame["line"] == 20
                     or stop["description"].replace("Interrupted, ", "") + " running" in frame["name"])
-        # A pause right behind a continue is not lost.
+        # A pause right after a continue is not lost.
         for sent in [client.send("continue", {"threadId": 1}), client.send("pause", {"threadId": 1})]:
             client.answer(sent)
         tests.check("paused at once", "pause", client.event("stopped")["reason"])
@@ -198,7 +198,7 @@ def port(tests):
 
 
 def broken(tests):
-    """What is no message ends the server with one line."""
+    """An invalid message ends the server, with one line."""
     for data in (b"nonsense\r\n\r\n", b"Content-Length: x\r\n\r\n", b"Content-Length: 3\r\n\r\n{{{",
                  b"Content-Length: 99\r\n\r\n{}", b"Content-Length: 2\r\n\r\n[]"):
         run = subprocess.run([DAP], input=data, stdout=subprocess.PIPE, stderr=subprocess.PIPE, check=False)

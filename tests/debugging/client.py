@@ -15,7 +15,7 @@ CHECKS = [protocol.check] + ([published.Schema().check] if published.is_there() 
 
 
 class Client:
-    """Speaks to a server of its own, or to one at a port."""
+    """Talks to a server of its own, or to one at a port."""
 
     def __init__(self, port=None):
         self.bad, self.events, self.sent, self.heard, self.count = [], [], 0, 0, 0
@@ -34,7 +34,7 @@ class Client:
         self.bad += [whose + line for check in CHECKS for line in check(message)]
 
     def listen(self):
-        """Takes what the server says."""
+        """Receives the server's messages."""
         while True:
             header = {}
             while (line := self.source.readline()) not in (b"\r\n", b""):
@@ -51,7 +51,7 @@ class Client:
             self.inbox.put(message)
 
     def send(self, command, arguments=None):
-        """Sends a request; its number."""
+        """Sends a request; returns its number."""
         self.sent += 1
         message = {"seq": self.sent, "type": "request", "command": command}
         if arguments is not None:
@@ -74,18 +74,18 @@ class Client:
                 return message
 
     def ask(self, command, arguments=None):
-        """A request's answer."""
+        """Sends a request; returns its answer."""
         return self.answer(self.send(command, arguments))
 
     def body(self, command, arguments=None):
-        """The body of a request's answer, which has to be none that refuses."""
+        """Sends a request, which must succeed; returns the body of its answer."""
         answer = self.ask(command, arguments)
         if not answer["success"]:
             raise AssertionError(f"{command}: {answer['message']}")
         return answer.get("body")
 
     def event(self, name, timeout=60):
-        """The body of the next event of this name; others before it are left out."""
+        """The body of the next event of this name; skips other events."""
         while True:
             message = self.events.pop(0) if self.events else self.inbox.get(timeout=timeout)
             if message is None:
@@ -94,12 +94,12 @@ class Client:
                 return message.get("body")
 
     def move(self, command, **more):
-        """A move, and why it stopped."""
+        """Makes a move; returns why it stopped."""
         self.body(command, dict(more, threadId=1))
         return self.event("stopped")
 
     def begin(self, launch, lines=(), filters=("detected",)):
-        """Launches, and sets breakpoints on lines; the answer of launch."""
+        """Launches, and sets breakpoints on lines; returns the answer to `launch`."""
         self.body("initialize", {"adapterID": "talft", "clientID": "test", "linesStartAt1": True,
                                  "columnsStartAt1": True, "pathFormat": "path", "supportsInvalidatedEvent": True})
         answer = self.ask("launch", launch)
@@ -112,12 +112,12 @@ class Client:
         return answer
 
     def set_lines(self, path, lines):
-        """Sets breakpoints of a file."""
+        """Sets breakpoints in a file."""
         source = {"path": os.path.abspath(path)}
         return self.body("setBreakpoints", {"source": source, "breakpoints": lines})["breakpoints"]
 
     def frame(self):
-        """The frame."""
+        """The only stack frame."""
         return self.body("stackTrace", {"threadId": 1, "startFrame": 0, "levels": 20})["stackFrames"][0]
 
     def scope(self, name):
@@ -128,11 +128,11 @@ class Client:
         return {variable["name"]: variable["value"] for variable in variables}, reference
 
     def evaluate(self, text, context="repl"):
-        """What an expression or a command gives."""
+        """The result of an expression or a command."""
         return self.body("evaluate", {"expression": text, "context": context})["result"]
 
     def end(self):
-        """Ends the session; the server's status."""
+        """Ends the session; returns the server's status."""
         self.ask("disconnect", {"terminateDebuggee": True})
         if not self.process:
             return 0

@@ -1,5 +1,6 @@
 ;;; emacs.el --- Emacs with dap-mode as a client of tools/dap -*- lexical-binding: t -*-
-;; It debugs the file $PROGRAM with a fault, steps on and back, and writes the place of each stop to the file $TOLD.
+;; It debugs the file $PROGRAM with a fault, steps forward and back, and writes the place of each stop to the file
+;; $TOLD.
 (require 'dap-mode)
 (load (expand-file-name "../../editors/debugging/dap-mode.el" (file-name-directory load-file-name)))
 (setq dap-auto-configure-features nil dap-auto-show-output nil)
@@ -13,7 +14,7 @@
     (format "line %s: %s" (gethash "line" frame) (gethash "name" frame))))
 
 (defun stopped (session)
-  "Notes where SESSION is, and does what comes next."
+  "Notes where SESSION is, and makes the next move."
   (when (dap--debug-session-active-frame session)
     (push (place-of session) told)
     (if plan

@@ -1,4 +1,4 @@
-# endless.asm: counts for ever, and stores what it counts. It is not accepted: `debug` takes any object.
+# endless.asm: counts forever, and stores each number. It is not accepted, but `debug` takes any object.
 cell out int 0
 cell seen int 0
 node 0 memory

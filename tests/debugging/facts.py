@@ -1,8 +1,8 @@
 """Compares what the tools know about the machine with the program: python3 facts.py SEED RUNS STEPS PROGRAM.. .
 
-Each run goes step by step, with random strikes. For each step the module debugging/machine.py must say whether it
-fetches, which registers it reads and writes, whether it changes d, what it compares, and whether it is detected. Ends
-with `N steps: M wrong`."""
+Each run goes step by step, with random strikes. For each step, debugging/machine.py must say correctly whether it
+fetches, which registers it reads and writes, whether it changes d, what it compares, and whether it is detected. The
+last line is `N steps: M wrong`."""
 import os
 import random
 import sys
@@ -18,19 +18,19 @@ WORDS = [0, 1, 2, 3, 7, 9, 1_048_576, 1_048_577, 2 ** 63, 2 ** 64 - 1]
 
 
 class Facts:
-    """Counts steps, and what is wrong of them."""
+    """Counts steps and mistakes."""
 
     def __init__(self):
         self.steps, self.wrong, self.detected = 0, 0, {}
 
     def check(self, session, name, wanted, got):
-        """Tells what is wrong."""
+        """Counts and prints a mistake."""
         if wanted != got:
             self.wrong += 1
             print(f"FAILED {name} at {session.position} after {session.strikes}: wanted {wanted}, got {got}")
 
     def step(self, session):
-        """One step, and what the module says of it."""
+        """Takes a step, and compares it with what the module says about it."""
         before, fetched = session.state(), session.fetched(session.position)
         told = None if fetched is None and not machine.is_fetch(before.position) else machine.detection(before, fetched)
         session.step(1)
@@ -55,7 +55,7 @@ class Facts:
         self.check(session, "only a commit changes a cell", set(), changed - stored)
 
     def reads(self, session, chance):
-        """A register that the next step does not read makes no other word another."""
+        """Checks that a strike of a register that the next step does not read changes no other word."""
         position, fetched = session.position, session.fetched(session.position)
         if not fetched:
             return
@@ -66,7 +66,7 @@ class Facts:
                    {name: word for name, word in words[0].items() if name != site and words[1].get(name) != word})
 
     def run(self, target, chance, steps):
-        """One run. It strikes what the program uses, for most words of others do nothing."""
+        """Makes a run. It strikes sites that the program uses, as most others have no effect."""
         session = Session(target)
         used = {word for instruction in target.code for word in instruction.words if word in SITES}
         sites = sorted(used) + ["d", "pcg", "pcb", "qa0", "qv0"]
@@ -78,7 +78,7 @@ class Facts:
                 try:
                     session.zap(chance.choice(sites), chance.choice(WORDS))
                 except Refused:
-                    # Nothing is pending there.
+                    # The queue has no such entry.
                     pass
             if chance.random() < 0.1:
                 self.reads(session, chance)

@@ -1,10 +1,10 @@
 #!/usr/bin/env bash
 # Types into a terminal: `keys.sh WIDTH HEIGHT COMMAND` runs the command in tmux, and takes lines from standard input:
-#   shot         writes the screen when it has not changed for a while
+#   shot         writes the screen once it has not changed for a while
 #   text:..      types a text
 #   await TEXT   waits until the screen has the text, at most 60 seconds
 #   pause N      waits N seconds
-#   size W H     makes the terminal as large
+#   size W H     makes the terminal W columns wide and H rows high
 #   kill         closes the terminal
 #   terminate    sends the signal TERM to what the command has started
 # Any other line is a key as tmux names it.
@@ -14,7 +14,7 @@ shift 2
 tmux -L "$server" -f /dev/null new-session -d -s it -x "$width" -y "$height" "$*" || exit 1
 trap 'tmux -L "$server" kill-server 2>/dev/null' EXIT
 screen() { tmux -L "$server" capture-pane -p -t it 2>/dev/null; }
-# Waits until the screen stays as it is.
+# Waits until the screen stays the same.
 settled() {
   local last now=none n
   for ((n = 0; n < 100; n++)); do

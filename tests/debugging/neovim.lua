@@ -1,4 +1,4 @@
--- Loads the configuration for nvim-dap over a stand-in of that plugin, and writes what it was told.
+-- Loads the configuration for nvim-dap over a stand-in for that plugin, and writes what the plugin gets.
 local dap = { adapters = {}, configurations = {}, step_back = function() end, reverse_continue = function() end }
 package.loaded.dap = dap
 dofile(os.getenv('TALFT_TOOLS') .. '/../editors/debugging/nvim-dap.lua')

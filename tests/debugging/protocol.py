@@ -1,5 +1,5 @@
 """Checks messages of the Debug Adapter Protocol. The tables are written by hand from the specification at
-https://microsoft.github.io/debug-adapter-protocol/specification; they have the messages that the tests exchange.
+https://microsoft.github.io/debug-adapter-protocol/specification; they cover the messages that the tests exchange.
 
 A field is `name:type`, and `name?:type` where it may be absent. A type is int, str, bool, any, a structure, or one of
 them in square brackets for a list. published.py checks against a copy of the published schema, if there is one."""
@@ -37,7 +37,7 @@ REQUESTS = {
     "initialize": ("adapterID:str clientID?:str linesStartAt1?:bool columnsStartAt1?:bool pathFormat?:str"
                    " supportsInvalidatedEvent?:bool", "exceptionBreakpointFilters?:[Filter] "
                    + " ".join(f"supports{name}?:bool" for name in CAPABILITIES.split())),
-    # What launch takes besides is the adapter's own.
+    # The other arguments of launch are the adapter's own.
     "launch": ("noDebug?:bool program:str fault?:str wild?:any text?:str source?:str stopOnEntry?:bool"
                " stopAtEnd?:bool", ""),
     "configurationDone": ("", ""), "restart": ("", ""), "terminate": ("restart?:bool", ""),
@@ -75,7 +75,7 @@ EVENTS = {
     "stopped": "reason:str description?:str threadId?:int text?:str allThreadsStopped?:bool hitBreakpointIds?:[int]",
     "invalidated": "areas?:[str] threadId?:int",
 }
-# Fields that take one of these words alone.
+# Fields that take only these words.
 WORDS = {"breakMode": {"never", "always", "unhandled", "userUnhandled"}, "startMethod": {"launch", "attach",
          "attachForSuspendedLaunch"}, "accessType": {"read", "write", "readWrite"}}
 

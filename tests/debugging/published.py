@@ -5,18 +5,18 @@ import os
 
 COPY = "/usr/lib/python3/dist-packages/_pydevd_bundle/_debug_adapter/pydevd_schema.py"
 LATER = {("DisassembledInstruction", "presentationHint")}
-# What the head of a message has, whatever it is.
+# The fields that every message has.
 HEAD = {"seq", "type", "body", "command", "event", "request_seq", "success", "message", "arguments"}
 TYPES = {"string": str, "integer": int, "number": (int, float), "boolean": bool, "array": list, "object": dict}
 
 
 def is_there():
-    """Whether there is a copy."""
+    """Whether the copy exists."""
     return os.path.exists(COPY)
 
 
 class Schema:
-    """The definitions of the copy: what each has, what it needs, and which is that of a message."""
+    """The definitions in the copy: the fields of each, which it requires, and which one a message has."""
 
     def __init__(self):
         self.properties, self.required, self.of = {}, {}, {}
@@ -27,7 +27,7 @@ class Schema:
                 self.add(node)
 
     def add(self, node):
-        """One definition."""
+        """Adds a definition."""
         for item in node.body:
             if isinstance(item, ast.Assign) and getattr(item.targets[0], "id", "") == "__props__":
                 self.properties[node.name] = ast.literal_eval(item.value)
@@ -54,7 +54,7 @@ class Schema:
         return self.of_definition(definition, message, f"{kind} {name}", HEAD)
 
     def of_definition(self, name, value, at, more=()):
-        """What is wrong with an object of a definition."""
+        """What is wrong with an object, by its definition."""
         if not isinstance(value, dict):
             return [f"{at}: no object"]
         properties = self.properties[name]
@@ -67,7 +67,7 @@ class Schema:
         return bad
 
     def of_rule(self, rule, value, at):
-        """What is wrong with a value of a rule."""
+        """What is wrong with a value, by its rule."""
         kind = rule.get("type", rule.get("$ref", "").split("/")[-1] or None)
         kinds = kind if isinstance(kind, list) else [kind]
         if kind is None or value is None and "null" in kinds:
@@ -81,7 +81,7 @@ class Schema:
         return self.of_definition(kind, value, at) if properties and "enum" not in properties else []
 
     def of_plain(self, rule, kind, value, at):
-        """What is wrong with a value that is no definition's."""
+        """What is wrong with a value that has no definition."""
         if not isinstance(value, TYPES[kind]) or kind in ("integer", "number") and isinstance(value, bool):
             return [f"{at}: {value!r} is no {kind}"]
         if "enum" in rule and value not in rule["enum"]:

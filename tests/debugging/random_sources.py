@@ -1,8 +1,8 @@
-"""Random sources against tools/lines: python3 random_sources.py COUNT [SEED]. Ends with `N sources: M wrong, K lines`.
+"""Tests tools/lines on random sources: python3 random_sources.py COUNT [SEED]. Ends with `N sources: M wrong, K lines`.
 
 Each source that compiles must get lines, so each instruction of its object has the mnemonic and the operands that
 docs/COMPILER.md gives. Each line must also be plausible for the instruction: a jump is on the line of a test or of a
-brace, a store on one that assigns, and a constant that occurs once in the source on its line."""
+brace, a store on one that assigns, and a constant that occurs only once in the source on its line."""
 import os
 import random
 import subprocess
@@ -17,7 +17,7 @@ SIGNS = ["+", "-", "*", "<", "==", "&", "|", "^", "<<", ">>"]
 
 
 class Source:
-    """A random source; `marks` has the line of each constant that stands once."""
+    """A random source; `marks` has the line of each constant that occurs only once."""
 
     def __init__(self, chance):
         self.chance, self.lines, self.marks = chance, [], {}
@@ -39,19 +39,19 @@ class Source:
             self.put("# nothing")
 
     def put(self, text):
-        """A line, now and then with a comment or an empty line before it."""
+        """Adds a line, sometimes with a comment or an empty line before it."""
         if self.chance.random() < 0.2:
             self.lines.append(self.chance.choice(["", "# a comment; if (v0) {", "   "]))
         self.lines.append(text)
 
     def mark(self):
-        """A constant that stands nowhere else. It will stand on the next line that is put."""
+        """A constant that occurs nowhere else, for the next line that is added."""
         word = 1_000_000_007 + 13 * len(self.marks)
         self.marks[word] = None
         return word
 
     def put_marked(self, text):
-        """A line with constants that stand nowhere else."""
+        """Adds a line with constants that occur nowhere else."""
         self.put(text)
         for word in self.marks:
             if self.marks[word] is None:
@@ -77,7 +77,7 @@ class Source:
         return f"{self.expression(depth + 1)}{self.chance.choice(['', ' '])}{sign} {self.expression(depth + 1)}"
 
     def statement(self, depth):
-        """A random statement on lines of its own."""
+        """Adds a random statement, on lines of its own."""
         kinds = ["assign"] * 4 + (["while", "if", "if else"] if depth < 3 else [])
         indent, kind = "  " * depth, self.chance.choice(kinds)
         targets = self.cells + self.variables + [f"{name}[{self.expression(2)}]" for name in self.arrays]

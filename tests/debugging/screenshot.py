@@ -1,4 +1,4 @@
-"""Draws a screen of the debugger as an SVG: tmux capture-pane -e -p | python3 screenshot.py >FILE."""
+"""Draws the debugger's screen as an SVG: tmux capture-pane -e -p | python3 screenshot.py >FILE."""
 import html
 import re
 import sys
@@ -9,17 +9,17 @@ PART = re.compile(r"\x1b\[([0-9;]*)m|\x1b\([B0]|\x0f|([^\x1b\x0f]+)")
 
 
 class Style:
-    """What the sequences so far have chosen."""
+    """The style that the escape sequences so far have chosen."""
 
     def __init__(self):
         self.reset()
 
     def reset(self):
-        """As at the start of a line."""
+        """Resets the style, as at the start of a line."""
         self.ink, self.bold, self.dim, self.reverse, self.underline = INK, False, False, False, False
 
     def take(self, codes):
-        """The codes of one sequence."""
+        """Applies the codes of one sequence."""
         for code in [int(code or 0) for code in codes.split(";")]:
             if code == 0:
                 self.reset()
@@ -33,7 +33,7 @@ class Style:
                 self.ink = COLOURS.get(code, INK)
 
     def text(self, column, row, text):
-        """A text at a place."""
+        """Draws a text at a place."""
         x, y, width = column * WIDE + 10, row * HIGH + 10, len(text) * WIDE
         box = f'<rect x="{x:.1f}" y="{y}" width="{width:.1f}" height="{HIGH}" fill="{self.ink}"/>'
         box, ink = (box, PAPER) if self.reverse else ("", self.ink)

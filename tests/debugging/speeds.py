@@ -1,4 +1,4 @@
-"""Measures commands of a session far from the start: python3 speeds.py TURNS. It writes a table in Markdown.
+"""Times commands of a session far from its start: python3 speeds.py TURNS. Writes a table in Markdown.
 
 The run has 44 steps for each turn of its loop. Times depend on this machine and its load."""
 import os
@@ -24,14 +24,14 @@ out = i;
 
 
 class Speeds:
-    """A session, and the table of what its commands take."""
+    """A session, and the table of the times of its commands."""
 
     def __init__(self, target, steps):
         self.session, self.steps = Session(target), steps
         print("| command | position after | calls | seconds |\n|---|---|---|---|")
 
     def timed(self, name, call, *words):
-        """Carries out a command, and writes its row."""
+        """Executes a command, and writes its row."""
         before, start = self.session.timeline.calls.count, time.time()
         call(*words)
         took, calls = time.time() - start, self.session.timeline.calls.count - before

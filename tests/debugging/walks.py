@@ -1,6 +1,6 @@
 """Random walks of a session: python3 walks.py PROGRAM [SEED [COMMANDS [WALKS]]]. Ends with `N walks: M failed`.
 
-After each walk the program runs its record as a plain script, which must lead to the same state. Each run to a
+After each walk the program runs the recording as a plain script, which must lead to the same state. Each run to a
 breakpoint or a watched word, forward or back, must stop where a search of all states says."""
 import os
 import random
@@ -14,10 +14,10 @@ from debugging.person import Session
 from debugging.sessions import path
 from debugging.target import Target
 
-# How many steps are searched, and the refusals that a walk may meet.
+# How many steps are searched, and how refusals begin that a walk may meet.
 SEARCHED = 1_100
 EXPECTED = ("nothing there", "nothing to undo", "cannot go ", "`qa", "`qv")
-# What is set a second time is refused, too.
+# Setting something a second time is refused, too.
 AGAIN = " already"
 COMMANDS = ["step", "step", "back", "goto", "zap", "flip", "undo", "go", "go", "go back", "break", "watch", "clear",
             "plan", "next", "next back", "line", "line back"]
@@ -32,7 +32,7 @@ class Walk:
         self.session, self.names = Session(target), target.listing.cells[:4]
 
     def check(self, name, wanted, got):
-        """Tells what differs."""
+        """Counts and prints a difference."""
         if wanted != got:
             self.failed += 1
             print(f"FAILED {name}, seed {self.seed}: wanted {wanted}, got {got}")
@@ -81,19 +81,19 @@ class Walk:
         return 0
 
     def run(self, back):
-        """A run, and what the search says of it."""
+        """Makes a run, and compares its stop with the search."""
         session, states = self.session, self.all_states()
         if session.position >= len(states):
             return
         wanted, there = self.searched(states, back), session.position
         session.go_back() if back else session.go()
         if not back and wanted == SEARCHED:
-            # The search ends here; the run need not.
+            # The search ends here, but the run need not.
             wanted = max(wanted, session.position)
         self.check(f"a run from {there}", wanted, session.position)
 
     def do(self, what):
-        """One command."""
+        """Executes a random command."""
         session, chance = self.session, self.chance
         if what == "step":
             session.step(chance.choice([0, 1, 1, 2, 7, 60, 300]))
@@ -124,7 +124,7 @@ class Walk:
              "line back": lambda: stepping.back(session)}[what]()
 
     def walk(self, count):
-        """So many commands, and then the record."""
+        """Executes this many commands, and then tests the recording."""
         for _ in range(count):
             what = self.chance.choice(COMMANDS)
             try:
@@ -135,7 +135,7 @@ class Walk:
         self.record()
 
     def record(self):
-        """The record is a script that leads to the same state."""
+        """Tests that the recording is a script that leads to the same state."""
         session = self.session
         said = session.timeline.calls.ask(session.journal.lines + session.timeline.questions).text.splitlines()
         state = session.state()

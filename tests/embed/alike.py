@@ -1,11 +1,11 @@
 #!/usr/bin/env python3
-"""Compares two programs, on objects and on damaged ones: what they write, and how they end.
+"""Compares the output and the status of two programs, on objects and on damaged objects.
 
     alike.py COUNT TALFT OTHER.. -- FILE..
 
-OTHER may have words before the program, as `qemu-aarch64`. Sources and assembly texts are compiled and assembled by both, and
-so are random sources, until COUNT of them have objects. As many objects are made from the files' by turning a few bytes. The
-numbers are drawn from a fixed seed."""
+OTHER may have words before the program, such as `qemu-aarch64`. Both compile the sources and assemble the texts among
+the files, and compile random sources until COUNT of them have objects. COUNT more objects are made from those of the
+files by changing a few bytes. Random numbers come from a fixed seed."""
 import os
 import random
 import subprocess

@@ -1,5 +1,5 @@
-/* Checks and runs objects by the library whose memory is one block of the caller. It looks for the least block with which
- * a check answers anything but status 5, and checks that a run with this block, call after call, ends the same way.
+/* Runs objects with the library that takes its memory from one block of the caller. Doubles the block until a run
+ * returns something other than status 5, and checks that repeated runs in this block end the same way.
  *
  *     arena FILE..
  */

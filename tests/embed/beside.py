@@ -1,6 +1,6 @@
 #!/usr/bin/env python3
-"""Calls talft.py, and writes what the command writes: `set OBJECT CELL WORD`, `campaign OBJECT LIST STEPS`, `link MAP
-FILE..`."""
+"""Calls talft.py, and writes what the command would write: `set OBJECT CELL WORD`, `campaign OBJECT LIST STEPS`, `link
+MAP FILE..`."""
 import sys
 
 import talft

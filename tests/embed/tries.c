@@ -1,12 +1,13 @@
-/* Tries the C library on damaged objects and with memory that runs out. It is linked with the archive in place of heap.c:
- * its own heap counts the blocks, and lets one allocation fail.
+/* Tries the C library on damaged objects and with failing allocations. It is linked with the archive instead of heap.c:
+ * its own heap counts the blocks, and makes one allocation fail.
  *
  *     tries COUNT SEED FILE..
  *
- * For each object it checks that talft_check, talft_run, talft_recover and talft_open agree on the status and the refusal,
- * for each bit turned and for COUNT damages; that a cell that is set keeps the verdict, and set back makes the bytes again;
- * that a campaign and a link agree with the check; that each allocation that fails ends a call with status 5 or its usual
- * answer; and that no block is left. The last line has the number of calls and a sum of all answers, which tells processors apart.
+ * For each object, intact, with each bit of a small one flipped, and with COUNT random damages, it checks that
+ * talft_check, talft_run, talft_recover and talft_open agree on the status and the refusal; that setting a cell keeps
+ * the verdict, and setting it back restores the bytes; that a campaign and a link agree with the check; and that no
+ * block is left. If an allocation fails, a call on an intact object must end with status 5 or its usual answer. The
+ * last line has the number of calls, and a sum over all answers, by which processors can be compared.
  */
 #include "../../embed/rattle.h"
 #include "talft.h"
@@ -69,7 +70,7 @@ static void wrong(const char *what)
     exit(1);
 }
 
-/* What a call answers, added to the sum. */
+/* Adds what a call answers to the sum. */
 static uint32_t answered(uint32_t status, const talft_refusal *why)
 {
     calls++;
@@ -86,7 +87,7 @@ static bool same(const talft_refusal *a, const talft_refusal *b)
     return a->part == b->part && a->number == b->number && a->place == b->place && a->index == b->index;
 }
 
-/* A run from call to call, with a strike and a restart. */
+/* Makes a run in several calls, with a strike and a restart. */
 static uint32_t by_machine(size_t len, talft_refusal *why)
 {
     talft_machine machine = TALFT_NO_MACHINE;
@@ -116,7 +117,7 @@ static uint32_t by_machine(size_t len, talft_refusal *why)
     return status;
 }
 
-/* A cell is set and set back. What was accepted stays so, and what is refused stays refused. */
+/* Sets a cell, and sets it back. What was accepted stays accepted, and what was refused stays refused. */
 static void by_cell(size_t len, uint32_t verdict)
 {
     talft_refusal why = {9, 9, 9, 9}, other = {9, 9, 9, 9};
@@ -140,7 +141,7 @@ static void by_cell(size_t len, uint32_t verdict)
         wrong("the bytes are not as they were");
 }
 
-/* A campaign of a few faults, and a link of the object alone. */
+/* Runs a campaign of a few faults, and links the object alone. */
 static void by_lists(size_t len, uint32_t verdict, const talft_refusal *refused)
 {
     static const char list[] = "4:r1:6\n7:r33:99\n20:pcg:3\n31:d:9\n9:qv0:1\n900:r2:7", map[] = "module own\n";
@@ -182,7 +183,7 @@ static void by_lists(size_t len, uint32_t verdict, const talft_refusal *refused)
         wrong("a module is found that is not there");
 }
 
-/* Each call over the object. They agree on its refusal. */
+/* Makes each call over the object: they must agree on its refusal. */
 static void try_all(size_t len)
 {
     talft_refusal why = {9, 9, 9, 9}, other = {9, 9, 9, 9};
@@ -219,7 +220,7 @@ static void try_all(size_t len)
         wrong("a block is left");
 }
 
-/* Each allocation of the calls fails, one at a time. */
+/* Makes each allocation of the calls fail, one at a time. */
 static void try_failing(size_t len)
 {
     talft_refusal why = {0, 0, 0, 0};

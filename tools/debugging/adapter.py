@@ -25,7 +25,7 @@ FILTER = {"filter": "detected", "label": "Detected", "default": True,
 
 
 class Adapter(Views, Breaks):
-    """Answers requests; `handle` is called for one after the other."""
+    """Answers requests; `handle` is called for each of them in turn."""
 
     def __init__(self, wire):
         self.wire, self.session, self.over, self.ended = wire, None, False, False
@@ -41,7 +41,7 @@ class Adapter(Views, Breaks):
             self.stop.set()
 
     def taken(self):
-        """That request is being handled now."""
+        """Called when that request is handled."""
         with self.lock:
             self.waiting -= 1
             if self.waiting == 0:
@@ -139,7 +139,7 @@ class Adapter(Views, Breaks):
         self.wire.event("stopped", body)
 
     def run(self, call, *words, forward=True, reason="step"):
-        """A move, its outputs, and why it stopped."""
+        """Makes a move, and reports its outputs and why it stopped."""
         session = self.session
         position = session.position
         if session.state().status != "running" and forward:
@@ -162,7 +162,7 @@ class Adapter(Views, Breaks):
         return self.tell(stop if isinstance(stop, runs.Stop) else None, reason)
 
     def tell(self, stop, reason):
-        """Why the run stopped here."""
+        """Reports why the run stopped here."""
         state, why = self.session.state(), stop.reason if stop else None
         at = f"at {state.position}"
         if why == "watch":
@@ -193,7 +193,7 @@ class Adapter(Views, Breaks):
     # MOVES
 
     def move(self, request, call, *words, body=None, forward=True):
-        """Answers, and then moves."""
+        """Answers a request, and then makes the move."""
         self.wire.answer(request, body)
         self.run(call, *words, forward=forward)
 

@@ -7,7 +7,7 @@ from debugging.adapter_views import DIS
 
 
 class Breaks:
-    """Requests that set breakpoints; the session has the breakpoints of all of them."""
+    """Requests that set breakpoints; the session holds the breakpoints of all requests."""
 
     def is_source(self, source):
         """Whether a client's source is the source (True), the text (False), or neither (None)."""

@@ -12,14 +12,14 @@ from messages import quoted
 THREAD, DIS = 1, 1
 SCOPES = ["Green", "Blue", "Special", "Queue", "Cells", "Differences", "Outputs"]
 KINDS = {"G": "green word", "B": "blue word"}
-# An editor lists outputs one by one.
+# An editor shows each output as a variable, so only the last ones are listed.
 MOST_OUTPUTS = 1_000
 
 
 class Views:
     """Requests that show words, and those that strike them."""
 
-    # WHERE IT IS
+    # WHERE THE SESSION IS
 
     def on_threads(self, request, asked):
         self.wire.answer(request, {"threads": [{"id": THREAD, "name": "machine"}]})
@@ -32,7 +32,7 @@ class Views:
         return {"name": os.path.basename(target.path) + ".asm", "sourceReference": DIS, "origin": "talft dis"}
 
     def source(self):
-        """Where lines are: the source if its lines are known, or else the assembly text."""
+        """The file whose lines are shown: the source if its lines are known, or else the assembly text."""
         path = self.session.target.source_file
         return {"name": os.path.basename(path), "path": path} if path else self.text_source()
 
@@ -75,7 +75,7 @@ class Views:
         self.wire.answer(request, {"scopes": scopes})
 
     def value(self, word, asked):
-        """A word in the client's format, with the cell at this address."""
+        """A word in the client's format, with the cell that has this address."""
         cell = self.session.target.cell_at(word)
         hexadecimal = (asked.get("format") or {}).get("hex")
         return (hex(word) if hexadecimal else str(word)) + (f" ({cell})" if cell else "")
@@ -148,7 +148,7 @@ class Views:
             self.command(request, text)
 
     def command(self, request, text):
-        """A command of the prompt."""
+        """Runs a command of the prompt."""
         session, lines = self.session, []
         before = session.position, session.strikes
         session.timeline.calls.may_stop = True

@@ -62,7 +62,7 @@ class Condition:
         return [side for left, _, right in self.parts for side in (left, right) if isinstance(side, str)]
 
     def holds(self, answers):
-        """Whether it holds, with the answer to each question."""
+        """Whether it holds, given the answer to each question."""
         def word(side):
             return int(answers[side].split(" ")[-1]) if isinstance(side, str) else side
         return all(COMPARES[sign](word(left), word(right)) for left, sign, right in self.parts)
@@ -88,20 +88,20 @@ class Break:
         self.instruction, self.places = parts[0], {part.key() for part in parts}
 
     def is_as(self, other):
-        """Whether another one halts at the same moments."""
+        """Whether another breakpoint halts under the same conditions."""
         texts = [one.condition and one.condition.text for one in (self, other)]
         return ((self.places, self.temporary, self.least, texts[0])
                 == (other.places, other.temporary, other.least, texts[1]))
 
     def told(self):
-        """The text after its place."""
+        """What a list of breakpoints says after the place."""
         parts = [f"and {part.place()}" for part in self.parts[1:]] + (["temporary"] if self.temporary else [])
         parts += [f"from hit {self.least} on"] if self.least > 1 else []
         return "  ".join(parts + ([f"if {self.condition.text}"] if self.condition else []))
 
 
 def read(text, target, temporary=False):
-    """`PLACE [if CONDITION] [hit N]` as a breakpoint."""
+    """Reads `PLACE [if CONDITION] [hit N]` as a breakpoint."""
     parts = SPLIT.split(text)
     marks = [mark.strip() for mark in SPLIT.findall(text)]
     condition, least, place = None, 1, place_in(text)
@@ -118,7 +118,7 @@ def read(text, target, temporary=False):
 
 
 def wanted_of(breaks):
-    """What a run asks at each halt, and whether it stays there. Hits are counted in the order of the calls."""
+    """What a run asks at each halt, and whether it then stays there. Hits are counted in the order of the calls."""
     questions = sorted({line for one in breaks for line in (one.condition.questions() if one.condition else [])})
     hits = {}
 
@@ -138,12 +138,12 @@ def place_in(text):
 
 
 def places_of(breaks):
-    """All places of these."""
+    """All places of these breakpoints."""
     return {place for one in breaks for place in one.places}
 
 
 def are_plain(breaks):
-    """Whether each of them halts each time."""
+    """Whether each of them halts every time."""
     return all(one.condition is None and one.least <= 1 for one in breaks)
 
 

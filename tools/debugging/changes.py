@@ -1,11 +1,11 @@
-"""Where a word changes: the next or the last step that gives a register or a cell a new word."""
+"""Where a word changes: the next or the previous step that gives a register or a cell a new word."""
 import re
 
 from debugging.machine import may_write_d, written_register
 from debugging.runs import CHUNKS, Stop, halts, marks, place_at
 from debugging.sessions import path
 
-# Breakpoints of the program, and how many answers and pieces of a run one call may have.
+# How many breakpoints the program takes, and how many answers and pieces of a run one call may have.
 MOST_PLACES, MOST_ANSWERS, PIECES = 64, 60_000, 1_000
 
 
@@ -34,7 +34,7 @@ def every_second(timeline, start, end, strikes, question):
 
 
 def answers_at(timeline, points, strikes, question):
-    """(position, answer) at rising positions, from one call, and whether the machine stopped before the last."""
+    """(position, answer) at ascending positions, from one call, and whether the machine stopped before the last."""
     lead = path(strikes, 0, points[0])
     script = lead + [question]
     for last, at in zip(points, points[1:]):
@@ -59,7 +59,7 @@ def answers_at(timeline, points, strikes, question):
 def seen(timeline, start, end, strikes, name):
     """(position, answer) over a run: between two of them at most one instruction or strike changes the word.
 
-    The last may stand before the end. Also how the machine stopped, if it did."""
+    The last may come before the end. Also returns how the machine stopped, if it did."""
     question = f"reg {name}"
     places = writers(timeline.target, name)
     if places is None:
@@ -71,7 +71,7 @@ def seen(timeline, start, end, strikes, name):
 
 
 def register_forward(timeline, position, strikes, name, limit=None):
-    """The first position after this one where a register has another word than before it; or the stop, or the limit."""
+    """The first position after this one where a register has a new word; or the stop, or the limit."""
     here = position
     for chunk in CHUNKS + (CHUNKS[-1],) * 1_000_000:
         end = here + chunk if limit is None else min(here + chunk, limit)
@@ -93,7 +93,7 @@ def register_forward(timeline, position, strikes, name, limit=None):
 
 
 def register_backward(timeline, position, strikes, name):
-    """The last position before this one from which a step or a strike gave a register another word; or the start."""
+    """The last position before this one from which a step or a strike gave a register a new word; or the start."""
     end = position
     last = [(position, timeline.ask_at(position, strikes, [f"reg {name}"]).line())]
     for chunk in CHUNKS + (CHUNKS[-1],) * 1_000_000:
@@ -110,7 +110,7 @@ def register_backward(timeline, position, strikes, name):
 
 
 def exactly(timeline, before, after, strikes, name, old, new):
-    """Which position after `before` has the new word first: after its instruction, or at a strike later."""
+    """The first position after `before` that has the new word: after its instruction, or at a later strike."""
     for at in (before + 1, before + 2):
         if at < after and (line := timeline.ask_at(at, strikes, [f"reg {name}"]).line()) != old:
             return Stop(at, "running", "watch", (old, line))
@@ -165,7 +165,7 @@ def cell_change(timeline, start, end, strikes, name, last):
 
 
 def cell_forward(timeline, position, strikes, name, limit=None):
-    """The first position after this one where a cell has another word; or the stop, or the limit."""
+    """The first position after this one where a cell has a new word; or the stop, or the limit."""
     here, chunk = position, 4_096
     while limit is None or here < limit:
         end = here + chunk if limit is None else min(here + chunk, limit)

@@ -30,7 +30,7 @@ class Commands(Shown):
         self.depth, self.before, self.displayed, self.told_replaced = 0, None, [], False
 
     def resolve(self, name):
-        """The whole name of a command."""
+        """The full name of a command."""
         name = SHORT.get(name, name)
         if name in HELP:
             return name
@@ -54,7 +54,7 @@ class Commands(Shown):
         name, words = self.resolve(match[1]), match[3].split()
         call = getattr(self, "do_" + name.replace("-", "_"))
         if name in ("source", "record") and words:
-            # A path may have blanks.
+            # A path may contain blanks.
             words = [match[3].strip()]
         if name in ("print", "x"):
             call(words, match[2] or "")
@@ -125,7 +125,7 @@ class Commands(Shown):
         self.forward(number(words, 1, 1), False)
 
     def forward(self, count, by_line):
-        """Steps instructions or lines forward; names a breakpoint that ends them."""
+        """Steps instructions or lines forward; names the breakpoints that end the move."""
         old = self.session.position
         self.moved(stepping.forward, self.session, count, by_line)
         if self.session.position > old:

@@ -28,7 +28,7 @@ class Shown:
             getattr(self, "do_" + topics[0])(words[1:])
 
     def strikes(self):
-        """All strikes."""
+        """Prints all strikes."""
         session = self.session
         lines = []
         for strike in session.strikes:
@@ -41,7 +41,7 @@ class Shown:
         self.say(*lines or ["no strike"])
 
     def breaks(self):
-        """All breakpoints, with their hits so far, and watches."""
+        """Prints all breakpoints, with their hits so far, and all watches."""
         session = self.session
         lines = []
         for at, one in session.breaks.items():
@@ -53,7 +53,7 @@ class Shown:
         self.say(*lines or ["no breakpoints or watches"])
 
     def names(self):
-        """The source's names and their places."""
+        """Prints the source's names and their places."""
         names = self.session.target.names
         lines = [f"  {name}  {place.told()}" for name, place in (names or {}).items()]
         self.say(*lines or ["no source names are known: `debugger OBJECT --source SOURCE` names an object's source"])

@@ -1,7 +1,7 @@
 """Why a run was detected, and the path of a fault: what each step changed compared with the run without the fault.
 
-The words come from the program, for the run with its strikes and for the run without. debugging/machine.py has what each
-instruction compares."""
+The words come from the program, for the run with its strikes and for the run without. debugging/machine.py says what
+each instruction compares."""
 from debugging.machine import compared, detection, is_fetch, own_colour, read_registers
 
 # How many steps after the first strike are followed, and how many lines of a path are printed.
@@ -13,7 +13,7 @@ MOST_LATER = 1_000_000
 
 
 def counted(count, noun):
-    """A number with its noun."""
+    """A count with its noun."""
     return f"{count} {noun}{'' if count == 1 else 's'}"
 
 
@@ -48,21 +48,21 @@ def table(rows):
 class Change:
     """A position on the path: what changed there, by which instruction or strikes, and what is correct again.
 
-    `left` is how many words differ then, `passed` has the instruction's comparisons that differ from those without the
-    strike, and `meets` the colours of the words that it took."""
+    `left` is how many words still differ, `passed` has the instruction's comparisons that differ from those without the
+    strike, and `meets` has the colours of the words that it took."""
 
     def __init__(self, position, instruction, strikes, new, gone, left):
         self.position, self.instruction, self.strikes, self.new, self.gone = position, instruction, strikes, new, gone
         self.left, self.passed, self.meets = left, [], []
 
     def lines(self, target):
-        """As lines, including one for each comparison that passed."""
+        """The change as lines, with one for each comparison that passed."""
         who = f"{self.instruction.words[0]}" if self.instruction else "the fetch"
         return [self.told(target)] + [f"    {who} compared {row.left} with {row.right}: equal, so it passed" if row.what
                                       else f"    {who} passed: {row.left}" for row in self.passed]
 
     def told(self, target):
-        """As a line."""
+        """The change as a line."""
         words = {name: word for name, word, _ in self.new}
         if "pcg" in words and "pcb" in words:
             told = [f"pcg and pcb {words['pcg']}, not where they are without the strike"]
@@ -155,7 +155,7 @@ def meeting(words, state, known):
 
 
 def cause_lines(target, changes):
-    """Where a program mixes its colours, so that one fault is on both sides; or nothing."""
+    """Where a program mixes its colours, so that one fault is on both sides, as lines; empty if nowhere."""
     lines = []
     for change in changes:
         if change.meets:
@@ -206,7 +206,7 @@ def stop_lines(session):
 
 
 def end_line(session):
-    """The fault's result. Outputs are compared in order: one run may be later than the other."""
+    """The fault's result. Outputs are compared in order: one run may lag behind the other."""
     state, outputs = session.state(), session.outputs()
     text, clean = outputs.text(), session.timeline.outputs(state.position + MOST_LATER, ()).text()
     if state.status == "detected":

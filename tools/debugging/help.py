@@ -66,7 +66,7 @@ SHORT = {"s": "step", "n": "next", "l": "line", "rs": "back", "reverse-step": "b
          "cell": "print", "stepi": "step", "si": "step", "nexti": "next", "ni": "next", "bt": "where",
          "fin": "finish"}
 INFO = ["registers", "queue", "cells", "breaks", "strikes", "position", "outputs", "names"]
-# What an empty line repeats, and what takes no word.
+# The commands that an empty line repeats, and those that take no argument.
 AGAIN = {"step", "next", "line", "back", "reverse-next", "reverse-line", "continue", "reverse-continue"}
 ALONE = {"continue", "reverse-continue", "finish", "run", "end", "undo", "queue", "cells", "where", "explain", "diff",
          "quit"}
@@ -128,7 +128,7 @@ jmp_B r34 0 7 4     jumps to the address in r34; the numbers after it fill in th
 
 
 def help_of(name):
-    """All of a command, as lines."""
+    """The full help of a command, as lines."""
     form, told, example, more = HELP[name]
     lines = [form, f"  {told}"] + [f"  {line}" for line in more.splitlines()]
     topics = [f"  topics: {' '.join(INFO)}"] if name == "info" else []
@@ -147,6 +147,6 @@ def help_lines():
 
 
 def short(name):
-    """The short form of a command in brackets, or nothing."""
+    """The short form of a command in brackets, or an empty text."""
     found = [other for other, whole in SHORT.items() if whole == name and len(other) <= 2 and other.isalpha()]
     return f" ({found[0]})" if found else ""

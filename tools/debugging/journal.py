@@ -30,7 +30,7 @@ class Journal:
         self.put()
 
     def put(self, *lines):
-        """More lines."""
+        """Adds lines."""
         self.lines += lines
         if not self.file:
             return
@@ -42,7 +42,7 @@ class Journal:
             raise Refused(f"{named(path)}: {reason(error)}; recording ends") from error
 
     def move(self, old, new, strikes):
-        """Moves from a position to another; one too far back is reached from the start, replacing all earlier lines."""
+        """Records a move. A position too far back is reached from the start, which replaces all earlier lines."""
         if new > old:
             self.low = max(self.low, new - MOST_BACK)
             # Strikes made here already have their lines.
@@ -53,6 +53,6 @@ class Journal:
             self.again(new, strikes)
 
     def again(self, position, strikes):
-        """To a position from the start, replacing all earlier lines."""
+        """Replaces all earlier lines by the way from the start to a position."""
         self.lines, self.low = [], max(0, position - MOST_BACK)
         self.put(*path(made_by(strikes, position), 0, position))

@@ -11,18 +11,18 @@ LIBC = ctypes.CDLL(None)
 
 
 def end_with_parent():
-    """In a new process: it is killed when the tool is, even by a signal that the tool cannot take."""
+    """Called in a new process: it is killed when the tool ends, even by a signal that the tool cannot catch."""
     LIBC.prctl(PARENT_DEATH_SIGNAL, int(signal.SIGKILL))
 
 
 def leave_on_signals():
-    """A closed terminal and `kill` end the tool as an exit does: calls are ended, and the terminal is restored."""
+    """Makes a closed terminal and `kill` end the tool like an exit: calls are ended, and the terminal is restored."""
     def leave(number, _):
-        # A second signal must not interrupt the work of the first.
+        # A second signal must not interrupt the handling of the first.
         for other in (signal.SIGTERM, signal.SIGHUP):
             signal.signal(other, signal.SIG_IGN)
         for run in list(RUNNING):
-            # Including those of other threads.
+            # This includes the calls of other threads.
             run.kill()
         sys.exit(128 + number)
     for number in (signal.SIGTERM, signal.SIGHUP):

@@ -24,7 +24,7 @@ class Instruction:
         return self.block, self.index
 
     def short(self):
-        """The text without the substitution of a blue jump."""
+        """The text, without the substitution if it is a blue jump."""
         return " ".join(self.words[:WORDS_OF_TRANSFER.get(self.words[0])])
 
     def shown_line(self):
@@ -65,7 +65,7 @@ class Listing:
         self.code.append(Instruction(" ".join(words), len(self.code) + 1, block, index, number))
 
     def said(self):
-        """The lines with words, with single spaces."""
+        """The lines that say something, with single spaces."""
         return [" ".join(line.split()) for line in self.lines if line.split() and line.split()[0][0] != "#"]
 
     def at(self, address):
@@ -73,7 +73,7 @@ class Listing:
         return self.code[address - 1] if address is not None and 1 <= address <= len(self.code) else None
 
     def at_place(self, block, index):
-        """The instruction of a block, or None."""
+        """The instruction at an index of a block, or None."""
         if not 0 <= block < len(self.blocks) or index < 0:
             return None
         start, after = self.blocks[block], (self.blocks + [len(self.code)])[block + 1]
@@ -102,7 +102,7 @@ class Listing:
         return self.at(min(there)[1]) if there else None
 
     def parts_of_line(self, line, source=False):
-        """Where the code of this line, or of the next one with code, begins: a `while` begins before its loop and in it."""
+        """The first instruction of each part of this line, or of the next line with code. A `while` has two parts."""
         first = self.first_of_line(line, source)
         if not first or not source:
             return [first] if first else []

@@ -12,7 +12,7 @@ REGISTERS = [f"r{i}" for i in range(64)] + ["d"]
 QUEUE_LENGTH = 8
 OPERATIONS = ("add", "sub", "mul", "ltu", "eq", "and", "or", "xor", "shl", "shr")
 
-# Two words that an instruction compares, or a sentence in `left` alone; `same` says whether the machine goes on.
+# Two words that an instruction compares, or a sentence in `left` alone; `same` says whether the machine continues.
 Compared = collections.namedtuple("Compared", "what left right same")
 # Why a step is detected: a sentence, and what was compared.
 Detection = collections.namedtuple("Detection", "sentence compared")
@@ -60,8 +60,8 @@ def cell_number(word, count):
 def detection(state, instruction, named=str, target=str):
     """Why the step from a state is detected, or None if it is not. The instruction is the fetched one.
 
-    `named` and `target` write a word that is an address of a cell, or of an instruction. For a wild load this says what
-    happens when no answer is left, as only the program knows its answers."""
+    `named` and `target` format a word that is the address of a cell, or of an instruction. For a wild load this says
+    what happens when no answer is left, as only the program knows the answers."""
     if instruction is None:
         return of_fetch(state)
     rule = RULES.get(instruction.words[0])

@@ -5,13 +5,13 @@ from debugging import explaining, views
 
 KEYS = (": command  ? help  q quit  n/p step  i/I instruction  c/r run  e explain  b break  z zap  f flip  u undo"
         "  g goto  l/L line")
-# What the signs of the timeline and the marks of pairs mean.
+# What the symbols of the timeline and the marks of pairs mean.
 LEGEND = "  ".join(["o here", "! strike", "@ both", *views.MARKS.values()])
 # How many columns the green half of a register pair takes at most, with the space after it.
 HALF = 27
 # How many of the last outputs determine the cells that changed last.
 LAST_CHANGED = 200
-# The least number of columns with room for a short blue word.
+# The smallest number of columns with room for a short blue word.
 WIDE = 75
 
 
@@ -30,11 +30,11 @@ class Panes:
             try:
                 self.window.addnstr(row, column, text.ljust(width), width, self.style[style])
             except curses.error:
-                # The window has become smaller: its next key reports the new size.
+                # The window has become smaller: the next key reports its new size.
                 pass
 
     def draw(self):
-        """The whole screen."""
+        """Draws the whole screen."""
         self.window.erase()
         height, wide = self.window.getmaxyx()
         session = self.session
@@ -71,7 +71,7 @@ class Panes:
         return rows, here
 
     def code(self, top, height, width):
-        """The instructions, with the chosen one in the middle."""
+        """Draws the instructions, with the chosen one in the middle."""
         rows, here = self.code_lines(height)
         at = next((i for i, row in enumerate(rows) if row[0] == here), 0)
         first = max(0, min(at - height // 2, len(rows) - height))
@@ -84,7 +84,7 @@ class Panes:
             self.put(top + i, 0, text, style, width)
 
     def registers(self, top, column, height):
-        """Both colours side by side; returns the next row."""
+        """Draws both colours side by side; returns the next row."""
         state = self.session.state()
         shown = [pair for pair in views.pairs(self.session, self.before) if self.every or not pair.is_unset]
         cut = max(0, len(shown) - max(3, height - 3))
@@ -127,7 +127,7 @@ class Panes:
         return list(words.items())[:most]
 
     def rest(self, row, column, height):
-        """Displayed words, the queue, cells and outputs, as far as there is room."""
+        """Draws displayed words, the queue, cells and outputs, as far as there is room."""
         session = self.session
         state, outputs = session.state(), session.outputs()
         total = len(session.target.listing.cells)
@@ -146,7 +146,7 @@ class Panes:
             self.put(row + i, column, text, style)
 
     def time(self, row, wide):
-        """The timeline, and the strikes."""
+        """Draws the timeline and the strikes."""
         session = self.session
         end = max(self.length, session.position)
         note = f" {end} steps" if self.ends else f" {end} steps and more"

@@ -1,4 +1,4 @@
-"""A person's session: where it is, its strikes, breakpoints and watches, and what can be undone.
+"""A user's session: where it is, its strikes, breakpoints and watches, and what can be undone.
 
 The prompt, the screen and the adapter for editors all use it."""
 from common import ALL_SITES, SITES, WORDS, Refused, invalid_fault
@@ -13,7 +13,7 @@ MOST_UNDONE = 1_000
 
 
 class Session:
-    """Moves, strikes, and what is there."""
+    """Moves, strikes, and the words at a position."""
 
     def __init__(self, target, fault=None):
         self.target, self.timeline = target, Timeline(target)
@@ -23,10 +23,10 @@ class Session:
         if fault:
             self.plan(fault)
 
-    # WHAT IS THERE
+    # THE WORDS AT A POSITION
 
     def state(self):
-        """The state here."""
+        """The state at the current position."""
         return self.state_at(self.position)
 
     def state_at(self, position):
@@ -34,7 +34,7 @@ class Session:
         return self.timeline.state_at(position, self.strikes)
 
     def unstruck(self):
-        """The state of the run without the strikes, here."""
+        """The state of the run without the strikes, at the current position."""
         return self.timeline.state_at(self.position, ())
 
     def fetched(self, position):
@@ -132,13 +132,13 @@ class Session:
         return breaks.places_of(self.breaks.values())
 
     def halting(self, position=None):
-        """The breakpoints that halt here or at another position, by number: those whose conditions and hits are met."""
+        """The breakpoints that halt here or at another position, by number: their conditions and hit counts are met."""
         state = self.state_at(self.position if position is None else position)
         return {number: one for number, one in self.breaks.items()
                 if runs.is_break(state, one.places) and self.is_due(one, state.position)}
 
     def is_due(self, one, position):
-        """Whether a breakpoint's condition and its hits are met at a position."""
+        """Whether a breakpoint's condition and its hit count are met at a position."""
         if one.condition:
             questions = one.condition.questions()
             answers = self.timeline.ask_at(position, self.strikes, questions)
@@ -147,9 +147,9 @@ class Session:
         return one.least <= 1 or self.hits(one, position) >= one.least
 
     def go(self, more=()):
-        """Forward to the first breakpoint, these included, to a change of a watched word, or to the stop.
+        """Forward to the first breakpoint, those in `more` included, to a change of a watched word, or to the stop.
 
-        An interrupted move ends at the last place that was reached; if there is none, it raises Interrupted."""
+        An interrupted move ends at the last position that it reached; if it reached none, it raises Interrupted."""
         every = list(self.breaks.values()) + list(more)
         if len(breaks.places_of(every)) > breaks.MOST:
             raise Refused(breaks.TOO_MANY)
@@ -168,7 +168,7 @@ class Session:
             return self.arrive(runs.Stop(here, "running", "interrupted", None))
 
     def first_stop(self, start, end, every):
-        """Why a run stops first between two positions: at a breakpoint, a change, its stop, or the limit."""
+        """Where a run first stops between two positions, and why: a breakpoint, a change, its stop, or the limit."""
         stop = self.first_break(start, end, every)
         for number, name in self.watched():
             find = changes.cell_forward if name in self.target.listing.cells else changes.register_forward
@@ -178,7 +178,7 @@ class Session:
         return stop
 
     def first_break(self, start, end, every):
-        """The same without what is watched."""
+        """Likewise without watched words."""
         places = breaks.places_of(every)
         if breaks.are_plain(every):
             return runs.forward(self.timeline, start, self.strikes, places, end)
@@ -186,11 +186,11 @@ class Session:
                                breaks.are_counted(every), end)
 
     def watched(self):
-        """(number, word) of each word that is watched."""
+        """(number, name) of each watched word."""
         return [(number, site) for number, sites in self.watches.items() for site in sites]
 
     def go_back(self):
-        """Back to the last breakpoint or to before the last change of a watched word, or to the start."""
+        """Back to the last breakpoint, to before the last change of a watched word, or to the start."""
         stop, every = runs.Stop(0, "running", "start", None), list(self.breaks.values())
         if every:
             wanted = None if breaks.are_plain(every) else breaks.wanted_of(every)
@@ -248,7 +248,7 @@ class Session:
                                                              else "is empty")
 
     def flip(self, site, bit):
-        """Strikes now, with the current word and one bit flipped."""
+        """Strikes now: flips one bit of the current word."""
         if not 0 <= bit < 64:
             raise Refused(f"invalid bit {bit}: expected 0 to 63")
         self.check_strike(site, 0)
@@ -269,11 +269,11 @@ class Session:
             raise Refused(f"`{word}` is {NO_WORD}")
 
     def add_strike(self, strike):
-        """Adds a strike, in the order of the steps."""
+        """Adds a strike; the strikes stay sorted by step."""
         self.strikes = tuple(sorted(self.strikes + (strike,), key=lambda s: s.step))
 
     def plan(self, text):
-        """A strike STEP:SITE:WORD that is made each time the session passes the step."""
+        """Plans a strike STEP:SITE:WORD, which is made each time the session passes the step."""
         strike = self.read_strike(text)
         if strike in self.strikes:
             raise Refused(f"{quoted(text)} is planned already")
@@ -284,7 +284,7 @@ class Session:
         return self.strikes
 
     def read_strike(self, text):
-        """`STEP:SITE:WORD` as a planned strike."""
+        """Reads `STEP:SITE:WORD` as a planned strike."""
         parts = text.split(":")
         if len(parts) != 3 or not all(parts):
             raise Refused(f"invalid fault {quoted(text)}: expected STEP:SITE:WORD, such as 4:r1:6")
@@ -306,14 +306,14 @@ class Session:
         self.take_new_past()
 
     def take_new_past(self):
-        """The strikes before this position have changed: the machine may have stopped sooner."""
+        """Called when strikes before this position have changed: the machine may now stop sooner."""
         self.position = self.state().position
         self.journal.again(self.position, self.strikes)
 
     # BREAKPOINTS AND WATCHES
 
     def add_break(self, text, temporary=False):
-        """A breakpoint, by `PLACE [if CONDITION] [hit N]`."""
+        """Sets a breakpoint, given as `PLACE [if CONDITION] [hit N]`."""
         one = breaks.read(text, self.target, temporary)
         for number, other in self.breaks.items():
             if one.is_as(other):
@@ -325,13 +325,13 @@ class Session:
         return number, one
 
     def hits(self, one, position=None):
-        """How often a breakpoint's condition was met there, from the start up to here or to another position."""
+        """How often a breakpoint was reached and its condition held, from the start up to here or another position."""
         wanted = breaks.wanted_of([breaks.Break(one.parts, condition=one.condition)])
         end = (self.position if position is None else position) + 1
         return len(runs.hits(self.timeline, 0, end, self.strikes, one.places, wanted))
 
     def add_watch(self, name):
-        """A watch of a register, a counter or a cell, or of both registers of a variable."""
+        """Sets a watch on a register, a counter or a cell, or on both registers of a variable."""
         sites = self.registers_of(name)
         if sites[0] not in self.target.listing.cells and sites[0] not in SITES[:67]:
             raise Refused(f"`{name}`: parts of the queue cannot be watched") if name in SITES else self.unknown(name)

@@ -1,4 +1,4 @@
-"""Reads the words of commands."""
+"""Reads the arguments of commands."""
 from common import WORDS, Refused
 from messages import quoted
 
@@ -6,7 +6,7 @@ NO_WORD = f"out of range: expected 0 to {WORDS - 1}"
 
 
 def number(words, default=None, least=0):
-    """The only word as a number."""
+    """The only argument, as a number."""
     if not words and default is not None:
         return default
     if not words:
@@ -22,7 +22,7 @@ def number(words, default=None, least=0):
 
 
 def no_more(words, command=None):
-    """Refuses superfluous words."""
+    """Refuses superfluous arguments."""
     if words:
         raise Refused(f"unexpected argument {quoted(words[0])}" + (f": `{command}` takes none" if command else ""))
 
@@ -35,7 +35,7 @@ def no_sign(command, words):
 
 
 def fault_joined(words):
-    """The words of a command line, so that a fault that begins with a dash is not mistaken for an option."""
+    """The arguments with each --fault and its value joined: a value that begins with a dash is not an option."""
     joined = []
     for word in words:
         if joined and joined[-1] == "--fault":
@@ -46,7 +46,7 @@ def fault_joined(words):
 
 
 def word_of(text):
-    """A word of the machine, as Python writes numbers."""
+    """A word of the machine, from a number in Python's notation."""
     try:
         found = int(text.replace("_", ""), 0)
     except ValueError:
@@ -57,7 +57,7 @@ def word_of(text):
 
 
 def one_word(words, wanted):
-    """The only word."""
+    """The only argument."""
     if not words:
         raise Refused(wanted)
     no_more(words[1:])

@@ -11,7 +11,7 @@ FIRST_STRETCH = 65_536
 
 # Where a run stopped, and why: `what` is the place, or the words before and after a change.
 Stop = collections.namedtuple("Stop", "position status reason what")
-# A breakpoint with its conditions: what is asked at each halt, and whether the answers fulfil it.
+# A breakpoint with its conditions: what is asked at each halt, and whether the answers satisfy it.
 Wanted = collections.namedtuple("Wanted", "questions holds")
 
 
@@ -52,7 +52,7 @@ def going(here, ahead, times):
     asked = []
     for strike in ahead:
         if strike.step - here > times * MOST_STEPS:
-            # It happens after this call.
+            # This strike is made after this call.
             break
         while here < strike.step:
             asked.append((min(strike.step - here, MOST_STEPS), None))
@@ -93,7 +93,7 @@ def marks(strikes, start, end):
 
 
 def halts(timeline, start, end, strikes, places, questions=()):
-    """(where, answers) at the start, at each breakpoint, and now and then between; strikes are made in between."""
+    """(where, answers) at the start, at each breakpoint, and now and then in between; strikes are made on the way."""
     found, here = [], start
     for stop in sorted(at for at in marks(strikes, start, end) if at < end) + [end]:
         first = True
@@ -131,14 +131,14 @@ def halts_up_to(timeline, here, stop, strikes, places, questions):
 
 
 def hits(timeline, start, end, strikes, places, wanted=None):
-    """The halts from start to before end that are breakpoints and fulfil their conditions."""
+    """The halts from start to before end that are at breakpoints whose conditions hold."""
     questions = wanted.questions if wanted else []
     return [where for where, told in halts(timeline, start, end, strikes, places, questions)
             if is_break(where, places) and (not wanted or wanted.holds((where.block, where.index), told))]
 
 
 def forward_if(timeline, position, strikes, places, wanted, counted, limit):
-    """Like `forward`, to the first breakpoint that fulfils its conditions. Hits are counted from the start."""
+    """Like `forward`, to the first breakpoint whose conditions hold. Hits are counted from the start."""
     here = 0 if counted else position
     for chunk in CHUNKS + (CHUNKS[-1],) * 1_000_000:
         end = min(here + chunk, limit)
@@ -155,7 +155,7 @@ def forward_if(timeline, position, strikes, places, wanted, counted, limit):
 
 
 def backward(timeline, position, strikes, places, wanted=None, counted=False):
-    """The last breakpoint before a position that fulfils its conditions, or the start."""
+    """The last breakpoint before a position whose conditions hold, or the start."""
     end = position
     for chunk in (position,) if counted else CHUNKS:
         start = max(0, end - chunk)

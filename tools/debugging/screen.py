@@ -44,7 +44,7 @@ class Screen(Panes):
         self.window, self.session = window, session
         self.lines, self.message, self.cursor, self.every, self.before = [], "", None, False, None
         self.commands = Commands(session, views.plain, self.lines.append, self.is_sure, True)
-        # The mark of a cut text.
+        # Marks a text that is cut.
         self.cut = "…" if window.encoding.lower() in ("utf-8", "utf8") else ">"
         end = runs.place_at(session.timeline, 1_000_000, ())
         self.length, self.ends = end.position, end.status != "running"
@@ -68,7 +68,7 @@ class Screen(Panes):
     # WHAT IS TYPED
 
     def ask(self, prompt):
-        """A line typed at the bottom; None if it is cancelled."""
+        """Reads a line typed at the bottom; None if it is cancelled."""
         typed = ""
         while True:
             self.put(self.window.getmaxyx()[0] - 2, 0, f"{prompt} {typed}_", "title")
@@ -109,7 +109,7 @@ class Screen(Panes):
     # WHAT KEYS DO
 
     def run(self, line):
-        """A command of the prompt; long answers get a page."""
+        """Runs a command of the prompt; long answers get a page."""
         self.before, self.cursor = self.session.state(), None
         self.lines.clear()
         name = self.commands.do(line)
@@ -132,7 +132,7 @@ class Screen(Panes):
         self.message = f"breakpoint {'removed' if there else 'set'} at {instruction.place()}"
 
     def move(self, call, *words):
-        """A move, and why it stopped."""
+        """Makes a move, and says why it stopped."""
         self.before, self.cursor = self.session.state(), None
         if call in (stepping.forward, stepping.back) and len(words) == 1 and self.session.target.source is None:
             self.message = "no source lines are known: one instruction"
@@ -164,7 +164,7 @@ class Screen(Panes):
         self.cursor = min(max(1, here + (1 if key == curses.KEY_DOWN else -1)), len(self.session.target.code))
 
     def key(self, key):
-        """One key."""
+        """Handles one key."""
         typed_for = {"z": "zap SITE WORD:", "f": "flip SITE BIT:", "g": "goto POSITION:", "w": "watch WORD:"}
         shown = {"e": lambda: explaining.explain(self.session), "?": lambda: HELP, "h": lambda: HELP}
         moves = self.moves()

@@ -22,7 +22,7 @@ MOST_STEPS, MOST_SCRIPT = 1_000_000, 1_000_000
 MOST_POSITION = 3_000_000_000
 # How many windows are kept, and how many bytes of outputs in all of them.
 KEPT, MOST_KEPT = 24, 64_000_000
-# How many states a window has before and after a position: more if getting there takes longer than they do.
+# How many states a window has before and after a position: more if getting there takes longer than reading them.
 AROUND = ((200_000, 48, 80), (3_000_000, 240, 400), (None, 600, 1_200))
 # A state includes its cells if there are at most this many.
 FEW_CELLS = 32
@@ -46,13 +46,13 @@ def made_by(strikes, position):
 
 
 def check_position(position):
-    """Refuses what is too far."""
+    """Refuses a position that is too far."""
     if position > MOST_POSITION:
         raise Refused(f"the position {position} is too far: a session ends at {MOST_POSITION}")
 
 
 def path(strikes, start, end):
-    """The lines from a position to another, each with its strikes made."""
+    """The script lines from one position to another, with the strikes on the way."""
     check_position(end)
     lines, here = [], start
     for strike in strikes:
@@ -91,7 +91,7 @@ class Calls:
 
     @contextlib.contextmanager
     def unstoppable(self):
-        """A context in which nobody sets `stop`, to inspect where an interrupted run has got to."""
+        """A context in which `stop` stays unset, to inspect where an interrupted run has got to."""
         stop, self.stop = self.stop, threading.Event()
         try:
             yield
@@ -176,7 +176,7 @@ class Answers:
         return "".join(outputs), made
 
     def skip(self, script):
-        """Leaves out the answers of a path and of `break` lines."""
+        """Skips the answers of a path and of `break` lines."""
         for line in script:
             self.step() if line.startswith("step") else self.line()
 
@@ -192,12 +192,12 @@ class Answers:
         return colour, int(word)
 
     def cell(self):
-        """The answer of `cell`, or None where there is no such cell."""
+        """The answer of `cell`, or None if there is no such cell."""
         line = self.line()
         return None if line == "no cell" else int(line.split(" ")[1])
 
     def queue(self):
-        """The answer of `queue`, if an answer of `step`, `reg` or `where`, or nothing, follows."""
+        """The answer of `queue`. An answer of `step`, `reg` or `where` must follow it, or the end."""
         pairs = []
         while self.at < len(self.text) and (self.text[self.at].isdigit() or self.text.startswith("empty\n", self.at)):
             line = self.line()
@@ -208,7 +208,7 @@ class Answers:
 
 
 class State:
-    """What the program said about one position."""
+    """What the program says about one position."""
 
     __slots__ = ("position", "status", "pcg", "pcb", "block", "index", "words", "queue", "cells", "commits", "count")
 
@@ -275,11 +275,11 @@ class Outputs:
         return self.count + self.after.count("\n")
 
     def text(self):
-        """All of them."""
+        """All outputs."""
         return self.before + self.after
 
     def since(self, first):
-        """The lines from a number on."""
+        """The lines from number `first` on."""
         if first >= self.count:
             return self.after.splitlines()[first - self.count:]
         return self.text().splitlines()[first:]
@@ -294,7 +294,7 @@ class Timeline:
 
     def __init__(self, target):
         self.target, self.calls = target, Calls(target)
-        # Whether a strike found nothing when it was last made: a planned one may.
+        # Whether a strike found nothing when it was last made, as a planned one may.
         self.windows, self.idle = [], {}
         names = target.listing.cells
         self.told_cells = names if len(names) <= FEW_CELLS else []
@@ -321,7 +321,7 @@ class Timeline:
         return made
 
     def read(self, first, count, strikes):
-        """A window of states from a position on, from one call."""
+        """Reads a window of states from a position on, with one call."""
         lead = path(strikes, 0, first)
         script = lead + self.questions
         for at in range(first + 1, first + count):
@@ -333,7 +333,7 @@ class Timeline:
         made = Window(strikes, first, outputs)
         made.states.append(self.state(answers, ""))
         if made.states[0].position != first:
-            # The machine stopped before.
+            # The machine stopped earlier.
             made.first = made.states[0].position
             return made
         for at in range(first + 1, first + count):
@@ -347,7 +347,7 @@ class Timeline:
         return made
 
     def state(self, answers, commits):
-        """The next state of the answers."""
+        """The next state in the answers."""
         return State(answers, self.told_cells, len(self.target.listing.cells), commits)
 
     def state_at(self, position, strikes):

@@ -1,7 +1,7 @@
 """Which line of a source each instruction comes from, and where each name is kept.
 
-The compiler keeps neither. But docs/COMPILER.md says what each statement becomes: this module lowers the source in the
-same order, and gives lines only if each instruction has the mnemonic and the operands that it finds there."""
+The compiler records neither. But docs/COMPILER.md says what each statement becomes: this module lowers the source in
+the same way, and gives lines only if each instruction has the mnemonic and the operands that result."""
 import re
 
 from debugging.machine import FIRST_CELL
@@ -14,7 +14,7 @@ OPERATIONS = {"==": "eq", "<": "ltu", "&": "and", "|": "or", "^": "xor", "<<": "
 
 
 class Unknown(Exception):
-    """The source is not as this module expects; then no lines are known."""
+    """The source is not what this module expects, so no lines are known."""
 
 
 class Block:
@@ -30,7 +30,7 @@ class Name:
         self.pair, self.address, self.length = pair, address, length
 
     def told(self):
-        """In words."""
+        """The place in words."""
         if self.pair is not None:
             return f"registers r{self.pair} and r{self.pair + 32}"
         if self.length is None:
@@ -39,7 +39,7 @@ class Name:
 
 
 class Tokens:
-    """The tokens of a source in turn, each with its line."""
+    """The tokens of a source, one after the other, each with its line."""
 
     def __init__(self, text):
         self.tokens, self.at, line, at = [], 0, 1, 0
@@ -52,7 +52,7 @@ class Tokens:
             line, at = line + match[0].count("\n"), match.end()
 
     def peek(self):
-        """The next token, or None."""
+        """The next token, which stays; or None."""
         return self.tokens[self.at][0] if self.at < len(self.tokens) else None
 
     def line(self):
@@ -60,7 +60,7 @@ class Tokens:
         return self.tokens[min(self.at, len(self.tokens) - 1)][1] if self.tokens else 1
 
     def take(self, wanted=None):
-        """The next token, which must be this one."""
+        """Takes the next token, which must be the wanted one, if given."""
         if self.at >= len(self.tokens) or wanted is not None and self.peek() != wanted:
             raise Unknown
         self.at += 1
@@ -76,7 +76,7 @@ class Lowering:
     # INSTRUCTIONS: "Images" of docs/COMPILER.md
 
     def both(self, line, *words):
-        """An instruction in green and in blue: a number is a pair's register."""
+        """Adds an instruction in green and in blue; a number in `words` is a pair, for the register of each colour."""
         for colour, first in (("G", 0), ("B", 32)):
             told = [f"r{first + word}" if isinstance(word, int) else colour if word == "C" else
                     word.replace("_C", "_" + colour) if isinstance(word, str) else word for word in words]
@@ -92,12 +92,12 @@ class Lowering:
         self.both(line, "jmp_C", self.count)
 
     def exit(self, line, pair, block):
-        """Jumps if the pair has 0."""
+        """Jumps if the pair holds 0."""
         self.word(line, self.count, block)
         self.both(line, "bz_C", pair, self.count)
 
     def begin(self, block):
-        """The block begins here."""
+        """Begins a block here."""
         block.address = len(self.made) + 1
 
     # STATEMENTS: "Lowering" of docs/COMPILER.md
@@ -131,7 +131,7 @@ class Lowering:
                 for words, line in self.made]
 
     def body(self):
-        """The statements between braces; the line of the closing one."""
+        """Lowers the statements between braces; returns the line of the closing one."""
         self.tokens.take("{")
         while self.tokens.peek() != "}":
             self.statement()
@@ -140,19 +140,19 @@ class Lowering:
         return line
 
     def statement(self):
-        """A statement."""
+        """Lowers a statement."""
         line, word = self.tokens.line(), self.tokens.take()
         {"while": self.loop, "if": self.choice}.get(word, self.assignment)(line, word)
 
     def test(self, line, out):
-        """A test: leaves the block if it is 0."""
+        """Lowers a test, which leaves the block if it is 0."""
         self.tokens.take("(")
         self.expression(line, self.count + 1)
         self.tokens.take(")")
         self.exit(line, self.count + 1, out)
 
     def loop(self, line, _):
-        """A loop."""
+        """Lowers a loop."""
         head, out = Block(), Block()
         self.go(line, head)
         self.begin(head)
@@ -161,7 +161,7 @@ class Lowering:
         self.begin(out)
 
     def choice(self, line, _):
-        """A choice, with both sides."""
+        """Lowers a choice, with both sides."""
         other, out = Block(), Block()
         self.test(line, other)
         end = self.body()
@@ -174,7 +174,7 @@ class Lowering:
         self.begin(out)
 
     def assignment(self, line, word):
-        """An assignment to a variable, a cell or a cell of an array."""
+        """Lowers an assignment to a variable, a cell or a cell of an array."""
         name, pair = self.name(word), self.count + 1
         if name.length is not None:
             self.index(line, pair)
@@ -192,7 +192,7 @@ class Lowering:
         self.both(line, "st_C", self.count, pair)
 
     def index(self, line, pair):
-        """The expression between square brackets."""
+        """Lowers the expression between square brackets."""
         self.tokens.take("[")
         self.expression(line, pair)
         self.tokens.take("]")
@@ -204,7 +204,7 @@ class Lowering:
         return self.names[word]
 
     def expression(self, line, pair, level=0):
-        """An expression into a pair."""
+        """Lowers an expression into a pair."""
         if level == len(LEVELS):
             self.atom(line, pair)
             return
@@ -215,7 +215,7 @@ class Lowering:
             self.both(line, OPERATIONS[sign], pair, pair, pair + 1)
 
     def atom(self, line, pair):
-        """A number, a name or brackets, into a pair."""
+        """Lowers a number, a name or a bracketed expression into a pair."""
         word = self.tokens.take()
         if word == "(":
             self.expression(line, pair)
@@ -237,7 +237,7 @@ class Lowering:
 
 
 def lowered(text):
-    """The words and line of each instruction, and the names, of a source; raises Unknown if they are not known."""
+    """The words and line of each instruction of a source, and its names; raises Unknown if they are not known."""
     lowering = Lowering(text)
     try:
         return lowering.program(), lowering.names

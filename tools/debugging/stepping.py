@@ -7,7 +7,7 @@ CHUNKS = (512, 8_192) + (100_000,) * 1_000_000
 
 
 def forward(session, count=1, by_line=True):
-    """Instructions forward, or source lines if known; a breakpoint or a stop ends it."""
+    """Steps instructions forward, or source lines if known; a breakpoint or a stop ends the move."""
     for turn in range(count):
         if session.state().status != "running":
             break
@@ -23,7 +23,7 @@ def forward(session, count=1, by_line=True):
 
 
 def back(session, count=1, by_line=True):
-    """Instructions back, or to where that many runs of source lines began."""
+    """Steps back by instructions, or by source lines if they are known: to where each line was entered."""
     for turn in range(count):
         if session.position == 0:
             break
@@ -39,7 +39,7 @@ def line_of(instruction):
 
 
 def end_of_line(session, line):
-    """Where the run leaves a line, or reaches a breakpoint: at a block's start, or after another line's code."""
+    """Where the run leaves a line, or reaches a breakpoint. A line begins with a block or after another line's code."""
     code = session.target.code
     starts = [i for before, i in zip([None] + code, code)
               if i.source_line != line and (i.index == 0 or before.source_line != i.source_line)]
@@ -73,7 +73,7 @@ def end_by_breaks(session, every):
 
 
 def start_of_line(session, end, line):
-    """The first of the positions up to this one without another line between."""
+    """Where the run entered the line that it is on at position `end`."""
     for chunk in CHUNKS:
         start = max(0, end - chunk)
         for at, block, index in reversed(runs.places_between(session.timeline, start, end, session.strikes)):

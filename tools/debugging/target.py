@@ -69,7 +69,7 @@ def kind_of_file(path):
 
 
 class Target:
-    """The object in memory, so that nobody changes it meanwhile and nothing is left behind, and what is known of it."""
+    """The object, and what is known about it. Its copy in memory cannot change, and leaves no file behind."""
 
     def __init__(self, path, wild=None, text=None, source=None):
         self.path, self.wild, self.program = path, wild, built_program()
@@ -98,13 +98,13 @@ class Target:
             raise
 
     def refusal(self):
-        """What the checker says if it refuses the object, as lines; nothing if it accepts it."""
+        """What the checker says if it refuses the object, as lines; empty if it accepts it."""
         if self.refused is None:
             self.refused = self.asked_refusal()
         return self.refused
 
     def asked_refusal(self):
-        """The same from a call of the program."""
+        """Likewise, from a call of the program."""
         environment = dict(os.environ, TALFT_EXPLAIN="1")
         run = subprocess.run([self.program, "check", self.object_file], stdout=subprocess.PIPE, stderr=subprocess.PIPE,
                              env=environment, pass_fds=[self.file], stdin=subprocess.DEVNULL, check=False)
@@ -135,7 +135,7 @@ class Target:
             return True
 
     def take_text(self, own):
-        """The user's own text in place of that of `dis`, if it assembles to the same object."""
+        """Takes the user's own text instead of that of `dis`, if it assembles to the same object."""
         if asked_of([self.program, "asm", own]) != self.ask("upgrade"):
             raise Refused(f"{named(own)}: does not assemble to {named(self.path)}; give the text that the "
                           "object was made from")
@@ -146,7 +146,7 @@ class Target:
         self.listing, self.text_file = listing, os.path.abspath(own)
 
     def take_source(self, own):
-        """The lines and names of a source, if the instructions are those that docs/COMPILER.md gives."""
+        """Takes the lines and names of a source, if the instructions are those that docs/COMPILER.md gives."""
         try:
             with open(own, encoding="utf-8", errors="replace") as file:
                 text = file.read()
@@ -208,7 +208,7 @@ class Target:
         return self.find_parts(text)[0]
 
     def line_of(self, instruction, before=""):
-        """`FILE:LINE` of an instruction with a text before it; nothing for an object alone."""
+        """`FILE:LINE` of an instruction with a text before it; empty for an object alone."""
         file = self.source_file or self.text_file
         return f"{before}{os.path.basename(file)}:{instruction.shown_line()}" if file else ""
 
@@ -254,7 +254,7 @@ class Target:
         return f"{word} (block {instruction.block} index {instruction.index})" if instruction else self.named(word)
 
     def names_of(self, register):
-        """The source's names that a register keeps, with a space before it, or nothing."""
+        """The source's names for a register, after a space; empty if there are none."""
         for name, place in (self.names or {}).items():
             if place.pair is not None and register in (f"r{place.pair}", f"r{place.pair + 32}"):
                 return f" [{name}]"

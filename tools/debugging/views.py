@@ -1,4 +1,4 @@
-"""Lines to read: registers in both colours, the queue, cells, instructions, and the timeline."""
+"""What people read, as lines: registers in both colours, the queue, cells, instructions, and the timeline."""
 import os
 
 from debugging.explaining import counted
@@ -13,7 +13,7 @@ MARKS = {"*": "* differs because of a strike", "~": "~ differs anyway"}
 
 
 class Paint:
-    """Colours on a terminal, unless NO_COLOR is set; else the bare text."""
+    """Colours on a terminal, unless NO_COLOR is set; otherwise plain text."""
 
     def __init__(self, stream):
         self.on = stream.isatty() and not os.environ.get("NO_COLOR") and os.environ.get("TERM") != "dumb"
@@ -27,7 +27,7 @@ def plain(style, text):
     return text
 
 
-# A word in decimal, or in the base of gdb's letter.
+# How a word is written: in decimal, or in the base of gdb's letter.
 BASES = {"": str, "d": str, "x": hex, "b": bin, "o": oct}
 
 
@@ -40,7 +40,7 @@ def spelled(session, word):
 class Pair:
     """A register of each colour, as the compiler pairs them: rI and r(32 + I).
 
-    Its mark is a star if the words differ, and `~` if they do so in the run without the strikes, too, as between a
+    Its mark is a star if the words differ, and `~` if they also differ in the run without the strikes, as between a
     green instruction and its blue one."""
 
     def __init__(self, session, i, state, before, clean):
@@ -57,7 +57,7 @@ class Pair:
         self.is_unset = words == [("G", 0), ("G", 0)]
 
     def within(self, *widths):
-        """The green and the blue text; if it doesn't fit, without the cell's name, or without any name."""
+        """The green and the blue text; if they don't fit, without the cell's name, or without any name."""
         return [next((text for text in texts if len(text) <= width), texts[-1])
                 for width, *texts in zip(widths, (self.green, self.blue), self.named, self.bare)]
 
@@ -65,7 +65,7 @@ class Pair:
 def pairs(session, before=None):
     """Each pair of registers; what changed since the state before is marked."""
     state = session.state()
-    # After the runs have diverged, the other one says nothing about this place.
+    # Once the runs have diverged, the other one says nothing about this place.
     clean = session.unstruck() if session.strikes else state
     clean = clean if (clean.position, clean.pcg) == (state.position, state.pcg) else None
     return [Pair(session, i, state, before, clean) for i in range(32)]
@@ -106,7 +106,7 @@ def place_of(session, instruction):
 
 
 def place_and_line(session, instruction):
-    """The same with the line of the text or of the source, where there is one."""
+    """Likewise, with the line of the text or of the source, if there is one."""
     return place_of(session, instruction) + session.target.line_of(instruction, ", ")
 
 
@@ -193,7 +193,7 @@ def strike_lines(session, old, strikes):
 
 
 def status_line(session):
-    """The place."""
+    """The position and the status."""
     state = session.state()
     return f"at {state.position} {state.status}"
 

@@ -5,11 +5,11 @@ names, memory                   the memory that the program uses, in cells, and 
 build                           functions to graphs of values (ir, fold, words): structured control (build),
                                 arithmetic (arith, divide), accesses (memory), calls (called), bulk memory (bulk),
                                 floating point (floats)
-opt, bits, ranges, narrow       folding, bits that may be 1 and that matter, ranges of words (loops: counters), and
-                                their uses
-layout, invariant, split        the order of blocks; what does not change in a loop goes before it; blocks end with
-                                their calls
-subroutines, early, alloc,      registers, of one function after the other; copies come before the branch back
-spill
+opt, bits, ranges, narrow       folding; which bits may be 1, and which matter; ranges of words (loops: counters), and
+                                what follows from them
+layout, invariant, split        the order of blocks; what does not change in a loop moves ahead of it; a call ends its
+                                block
+subroutines, early, alloc,      registers, one function at a time; copies for the next iteration come before the branch
+spill                           back
 emit, pins, turn, nodes, text   instructions in two colours, code types and substitutions, and the text
 """

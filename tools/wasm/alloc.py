@@ -33,8 +33,8 @@ def needs_of(b):
 
 
 def liveness(blocks):
-    """What is live at the start of each block, with its parameters that are used, and at its end, with what the moves
-    take."""
+    """What is live at the start of each block, including the parameters that are used, and at its end, including what
+    the moves read."""
     start = {b: set() for b in blocks}
     end = {b: set() for b in blocks}
     needs = {b: needs_of(b) for b in blocks}
@@ -97,7 +97,7 @@ def moves_of(blocks, start):
 
 class Colouring:
     def __init__(self, blocks, cannot_spill, banned):
-        """`banned`: registers that no value of these blocks may have."""
+        """`banned`: registers that no value in these blocks may have."""
         self.blocks, self.cannot = blocks, cannot_spill
         self.start, self.end = liveness(blocks)
         self.adj = interference(blocks, self.start, self.end)
@@ -133,7 +133,7 @@ class Colouring:
         return v
 
     def coalesce(self):
-        """Joins values that are copied to one another in one group, if the group still finds a register."""
+        """Joins values that are copied to one another into one group, if the group still finds a register."""
         left, self.high = self.moves, {v for v, near in self.adj.items() if len(near) >= self.count}
         while True:
             kept = []
@@ -150,7 +150,7 @@ class Colouring:
             left = kept
 
     def fits(self, a, b):
-        """Whether two groups, joined, still find a register: by the rule of Briggs, or that of George."""
+        """Whether two groups, once joined, still find a register: by Briggs's rule or by George's."""
         adj, high, count = self.adj, self.high, self.count
         near_a, near_b = adj[a], adj[b]
         taken = len(self.taken[a] | self.taken[b])
@@ -225,7 +225,7 @@ class Colouring:
             near = [n for n in adj[v] if n in rest]
             for n in near:
                 degree[n] -= 1
-            # Sorted, so that a text is the same in each run.
+            # Sorted, so that each run writes the same text.
             low += sorted((n for n in near if degree[n] == K - 1), key=lambda n: n.id)
         likes = {}
         for _, p, x in self.moves:
@@ -246,8 +246,8 @@ class Colouring:
 
 
 def allocate(blocks, first_cell, banned=frozenset(), kept=()):
-    """Pairs of all values, what is live where each block starts, and how many cells were needed for spills. `kept`:
-    calls that leave no register alone: what lives across them is in a frame."""
+    """The pairs of all values, what is live where each block starts, and how many cells and words of a frame hold
+    spilled values. `kept`: the blocks after calls that preserve no register: what lives across them is in the frame."""
     tiny, cells, framed = {v for v in blocks[0].params if v.op == "return"}, 0, 0
     if kept:
         start, _ = liveness(blocks)

@@ -143,7 +143,7 @@ class Arith(Divide):
         if sign == "u":
             quotient, rest = self._unsigned(a, b, bits)
             return quotient if kind == "div" else rest
-        if kind == "div":    # the least number by -1 does not fit
+        if kind == "div":    # the lowest number divided by -1 does not fit
             if b == full or not isinstance(b, int):
                 worst = mk("or", mk("xor", a, top), mk("xor", b, full))
                 self.trap_if_zero(worst, at, "division overflow")
@@ -157,7 +157,7 @@ class Arith(Divide):
         return self._absolute(rest, sign_a, bits)
 
     def _signed_power(self, kind, a, k, bits):
-        """Division by 2^k towards 0, or its remainder: 2^k - 1 is added to a negative number, then it rounds down."""
+        """Division by 2^k towards 0, or its remainder: adds 2^k - 1 to a negative number, and then rounds down."""
         mk, top = self.mk, 1 << (bits - 1)
         sign = mk("shr", a, bits - 1)
         more = sign if k == 1 else mk("and", mk("sub", 0, sign), (1 << k) - 1) if k else 0
@@ -197,7 +197,7 @@ class Arith(Divide):
         return self.newton32(a, b) if small else self.newton64(a, b)
 
     def _turns(self, note, starts, turns, step):
-        """A loop that applies `step` to the words of `starts` a number of times; the words afterwards."""
+        """Makes a loop that applies `step` to the words of `starts` `turns` times; returns the words afterwards."""
         g = self.g
         head = g.block(self.depth + 1, note)
         g.at.term = ("jmp", Edge(head, [turns] + starts))

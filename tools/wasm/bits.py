@@ -8,8 +8,8 @@ NONE = frozenset()
 
 
 def readers_of(blocks):
-    """For each value the blocks that must be looked at again when more of its bits may be 1: those that use it, except
-    its own, and those that take it as an argument."""
+    """For each value the blocks to visit again when more of its bits may be 1: those that use it, except its own, and
+    those that take it as an argument."""
     home, readers = {v: b for b in blocks for v in b.insts}, {}
     for b in blocks:
         for v in b.insts:
@@ -24,7 +24,7 @@ def readers_of(blocks):
 
 
 def grown(p, i, ways, turn):
-    """The bits of a parameter that may be 1. If they keep growing, all possible ones are taken at once."""
+    """The bits of a parameter that may be 1. If they keep growing, all possible ones are added at once."""
     ones = p.ones
     for _, e in ways:
         ones |= ones_of(e.args[i])
@@ -38,7 +38,7 @@ def grown(p, i, ways, turn):
 
 
 def known_ones(blocks, preds):
-    """For each value the bits that may be 1, from nothing upwards."""
+    """For each value the bits that may be 1: starts from none and adds more."""
     for b in blocks:
         for p in b.params:
             p.ones = 0 if preds[b] else p.full
@@ -189,7 +189,7 @@ def optimise(g, length, rounds=12):
         blocks, preds = clean(g)
         changed = drop_masks(blocks, preds, length) or share_sums(blocks, preds, length)
         for b in blocks:
-            for p in b.params:      # without their masks words may have other bits
+            for p in b.params:      # without their masks, words may have other bits
                 p.most = M64
         if not changed and turn:
             return blocks

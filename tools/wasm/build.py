@@ -14,7 +14,7 @@ UNARY = {"eqz", "clz", "ctz", "popcnt", "wrap", "extend_s", "extend_u", "ext8", 
 
 
 class Label:
-    """A block that can be left: for a loop its head, otherwise the edges that leave it, each with what is known there."""
+    """The target of branches: for a loop its head, otherwise the edges to its end, each with what is known there."""
     __slots__ = ("kind", "height", "results", "edges", "head", "assigned", "ins", "saved", "params")
 
     def __init__(self, kind, height, params, results, ins=None):
@@ -52,8 +52,8 @@ class Builder(Calls, Arith, Access, Bulk, Floats):
         return M32 if kind in (I32, F32) else M64
 
     def trap_edge(self, at, what):
-        """A trap is a loop on itself: a run that ends is then one that did not trap. Each has a block of its own, so
-        that the place of a trap is known."""
+        """An edge to a trap. A trap is a block that jumps to itself, so a run that ends has not trapped. Each has a
+        block of its own, so that the place of a trap is known."""
         key = self.g, self.func.name, at, what
         if key not in self.traps:
             block = self.traps[key] = self.g.block()
@@ -62,7 +62,7 @@ class Builder(Calls, Arith, Access, Bulk, Floats):
 
     def trap(self, at, what):
         self.g.at.term = ("jmp", self.trap_edge(at, what))
-        self.g.at = self.g.block(self.depth)    # nothing comes here
+        self.g.at = self.g.block(self.depth)    # unreachable
 
     def build(self, entry, start, result_cell):
         """The graph of the program, and the shared functions."""
@@ -241,7 +241,7 @@ class Builder(Calls, Arith, Access, Bulk, Floats):
         self.g.at = None
 
     def leave(self, label):
-        """To the end of the construct (also for a loop: its end, not its head)."""
+        """Jumps to the end of the construct (for a loop, too: its end, not its head)."""
         n = len(label.results)
         edge = Edge(None)
         label.edges.append((edge, list(self.locals), list(self.globals), self.stack[len(self.stack) - n:] if n else []))

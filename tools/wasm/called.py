@@ -9,11 +9,11 @@ LONG = 400      # a function is shared if its copies after the first would toget
 
 
 class Shared:
-    """A function that is compiled once: its graph, and the globals that it takes and gives besides its own values."""
+    """A function that is compiled once: its graph, and the globals that it takes and returns besides its own values."""
 
     def __init__(self, func, taken, given):
         self.func, self.taken, self.given, self.graph = func, taken, given, None
-        self.circle = ()        # the functions by which it calls itself
+        self.circle = ()        # the functions through which it calls itself
 
 
 def callees(module, func):
@@ -30,7 +30,7 @@ def callees(module, func):
 
 
 def table_of(module, table):
-    """The functions of a table, by their places."""
+    """The functions of a table, by index."""
     found = {}
     if module.tables[table][0] == FUNCREF:
         for where, offset, items in module.elements:
@@ -180,7 +180,7 @@ class Calls:
         return results
 
     def call_indirect(self, ins):
-        """The function of a table: each possible one is called separately; otherwise it is a trap."""
+        """Calls a function of a table: there is a direct call for each possible one; any other index traps."""
         index, stack = self.stack.pop(), self.stack
         table, (params, results) = table_of(self.module, ins.b), ins.a
         label = self.label("call", params, results)

@@ -3,12 +3,12 @@ from .opcodes import BULK, CONSTANTS, FUNCREF, I32, LOADS, NUMBERS, NUMERIC, STO
 
 MOST_LOCALS = 50_000
 INVALID = "the module is not valid: compile and link it again"
-ANY = None      # the type of a value that code after a jump would have
+ANY = None      # the type of a value in code after a jump, which is never reached
 
 
 class Instr:
-    """An instruction: where it stands, its name and its immediates. `match` of a block is the number of its end,
-    `els` that of its else; both of an `else` or `end` are None, but `match` of an else is its end."""
+    """An instruction: its offset, its name and its immediates. For a block, `match` is the number of its end, and `els`
+    that of its else, if there is one. For an else, `match` is the number of its end."""
     __slots__ = ("at", "op", "a", "b", "match", "els")
 
     def __init__(self, at, op, a=None, b=None):
@@ -124,7 +124,7 @@ class Decoder:
         form = LOADS.get(code) or STORES[code]
         self.needs_memory()
         if 8 << align > form[1]:
-            self.wrong("an alignment greater than the access")
+            self.wrong("an alignment larger than the access")
         if code in LOADS:
             self.pop(I32)
             self.push(form[0])

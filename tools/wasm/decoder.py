@@ -14,7 +14,7 @@ class Invalid(Exception):
 
 
 class Bytes:
-    """A part of a file that is read from its front."""
+    """A part of a file that is read from front to back."""
 
     def __init__(self, data, at, end):
         self.data, self.at, self.end = data, at, end
@@ -134,7 +134,7 @@ class Module:
             self.functions.append(Function(self, len(self.functions), self.types[part.unsigned()]))
 
     def least(self, part):
-        """The minimum size of a table or a memory. The maximum is also read, but nothing grows here."""
+        """The minimum size of a table or a memory. The maximum is read and ignored, as nothing grows here."""
         bounded = part.byte() & 1
         size = part.unsigned()
         if bounded:

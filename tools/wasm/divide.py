@@ -6,7 +6,7 @@ class Divide:
     """Mixed into the builder: uses mk. All shifts by 64 and more give 0."""
 
     def _normal(self, d, bits):
-        """d shifted up so that its highest bit of `bits` is 1, and by how much."""
+        """d shifted left until bit `bits` - 1 is 1, and by how much."""
         mk, by = self.mk, 0
         for k in (32, 16, 8, 4, 2, 1)[0 if bits == 64 else 1:]:
             step = mk("mul", mk("ltu", d, 1 << (bits - k)), k)
@@ -26,7 +26,7 @@ class Divide:
         return mk("add", r, -4 & M64)
 
     def _once_more(self, q, r, d):
-        """One more if r is not below d."""
+        """Adds 1 to the quotient, and subtracts d from the rest, if r is not below d."""
         mk = self.mk
         mask = mk("add", mk("ltu", r, d), M64)
         return mk("sub", q, mask), mk("sub", r, mk("and", mask, d))

@@ -20,7 +20,7 @@ def ordered(pairs):
 
 
 def meet(p, x, b, start):
-    """Whether a parameter is still needed when its next word exists, so that they have two registers."""
+    """Whether a parameter is still needed when its next word exists, so that the two need different registers."""
     if isinstance(x, int):
         return True
     if x not in b.insts:
@@ -46,7 +46,7 @@ def copied(b, mid, start, other):
 
 
 def copy_early(blocks):
-    """Copies early for each branch that ends an iteration."""
+    """Makes the early copies for each branch that ends an iteration."""
     start, _ = liveness(blocks)
     number = {b: i for i, b in enumerate(blocks)}
     for b in blocks:

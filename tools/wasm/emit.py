@@ -1,6 +1,6 @@
-"""Pass 6: turns pairs into instructions in two colours, with code types and substitutions. Green is pair i, blue is pair 32 +
-i; both do the same, and share nothing. Nodes mirror the instructions, so that each form that is compared is compared
-with itself."""
+"""Pass 6: turns pairs into instructions in two colours, with code types and substitutions. For pair i, green uses
+register i and blue register 32 + i; both do the same, and share nothing. Nodes mirror the instructions, so that each
+normal form is compared with itself."""
 from .alloc import K
 from .ir import Block, Value
 from .nodes import Nodes
@@ -13,8 +13,8 @@ FIRST = 1 << 20
 
 class Emitter:
     def __init__(self, program, length, pins=(), scopes=None):
-        """pins: constants that have a pair of their own in all blocks: ("ref", cell), ("word", w) or ("code",
-        block). scopes: for each block of a loop the constants that the loop keeps, each with its pair."""
+        """pins: constants that have a pair of their own in all blocks: ("ref", cell), ("word", w) or ("code", block).
+        scopes: for each block in a loop the constants that the loop keeps, each with its pair."""
         self.pairs, self.start, self.length, self.entry = program.pairs, program.start, length, program.main.entry
         self.program, self.backs, blocks = program, program.backs, program.blocks
         self.returns = {b.after: b for b in reversed(blocks) if b.after}
@@ -36,7 +36,7 @@ class Emitter:
         self.wanted = set(self.rotated.values())
 
     def again(self, head):
-        """Repeats the test of a loop, with a branch back into it if it continues."""
+        """Repeats the test of a loop, with a branch back into the loop if it continues."""
         _, cond, zero, other = head.term
         inside = self.rotated[head]
         turn = inside is other.to
@@ -122,7 +122,7 @@ class Emitter:
             self.move_word(pair, FIRST + pin[1] if pin[0] == "ref" else pin[1], "ref:int" if pin[0] == "ref" else "int")
 
     def count(self, pin):
-        """A use of a constant without its own pair."""
+        """Counts a use of a constant that has no pair of its own."""
         key = self.block, pin
         self.uses[key] = self.uses.get(key, 0) + 10 ** min(self.depth, 6)
 
@@ -155,7 +155,7 @@ class Emitter:
     # Instructions: one in green, one in blue
     def both(self, op, *fields):
         if op != "st" and fields[op == "op"] == SPARE:
-            self.spare = None       # what the spare pair held is gone
+            self.spare = None       # forgets what the spare pair held
         for colour in "GB":
             self.code.append((op, colour, *fields))
 
@@ -225,7 +225,7 @@ class Emitter:
         self.at[pair] = self.nodes.make("add", self.word(FIRST + first), self.nodes.make("rem", self.at[a], length))
 
     def return_cell(self, shared):
-        """The spare gets the address of the cell where a function that calls itself keeps its return address."""
+        """Puts the address of the cell where a recursive function keeps its return address into the spare pair."""
         self.index(SPARE, self.program.stack[0], self.program.returns[shared], self.program.most)
 
     # Transfers
@@ -274,7 +274,7 @@ class Emitter:
         self.jump(entry)
 
     def move_frame(self, by):
-        """Moves on to the next frame, or back to the one before."""
+        """Moves to the next frame, or back to the one before."""
         for pair, words in zip(self.program.stack, (by, by * self.program.frame)):
             self.operate("add", pair, pair, ("word", words & M64))
 
@@ -328,7 +328,7 @@ class Emitter:
         return block
 
     def chain(self, block):
-        """A block and those that follow it without a jump."""
+        """Emits a block and those that follow it without a jump."""
         self.place[block] = len(self.code)
         kind = self.type_of(block)
         self.heads.append((block, len(self.code), kind))
@@ -342,8 +342,8 @@ class Emitter:
             block = self.end(block)
 
     def begin(self, block):
-        """What comes before the instructions of a block: constants of the program, the frame of a function that calls
-        itself."""
+        """Emits what comes before the instructions of a block: constants of the program, the frame of a recursive
+        function."""
         home = block.home
         if home and home.circle and block is home.graph.entry:
             self.return_cell(home)
@@ -360,7 +360,7 @@ class Emitter:
                 self.put(pin, pair)
 
     def end(self, block):
-        """The end of a block; returns the block that follows it without a jump, or None."""
+        """Emits the end of a block; returns the block that follows it without a jump, or None."""
         op = block.term[0]
         if op == "halt":
             self.code.append(("halt", "G"))

@@ -79,7 +79,7 @@ class Floats:
         form, bits, unsigned = op.split("_")[-2], INTEGERS[kind][1], op.endswith("_u")
         width = FORMS[form][1]
         sign, size = mk("shr", x, width - 1), mk("and", x, (1 << (width - 1)) - 1)
-        # The least size that does not fit, of either sign.
+        # The smallest magnitude that does not fit, for either sign.
         above = bits_of_power(form, bits if unsigned else bits - 1)
         below = bits_of_power(form, 0) if unsigned else above + 1 if bits >= FORMS[form][2] \
             else bits_of_power(form, bits - 1, 1)

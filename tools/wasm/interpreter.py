@@ -18,7 +18,7 @@ def signed(word, bits):
 
 
 def extended(word, low, bits):
-    """The low bits of a word as a signed number of this many bits."""
+    """The low bits of a word, sign-extended to this many bits."""
     return signed(word & ((1 << low) - 1), low) & ((1 << bits) - 1)
 
 

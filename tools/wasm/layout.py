@@ -1,5 +1,5 @@
-"""Pass 4: which branch goes on without a jump, tests inverted where that helps, words put into registers where an
-instruction takes no word there, and edges with moves turned into blocks."""
+"""Pass 4: chooses which side of a branch follows without a jump, inverts tests where that helps, puts words into
+registers where an instruction takes no word, and turns edges with moves into blocks."""
 from .invariant import hoist_all
 from .ir import Block, Edge, Value
 from .opt import dominators, order, preds_of, sweep

@@ -1,4 +1,4 @@
-"""Loops: their counters, and how often they iterate at most."""
+"""Loops: their counters, and how often they can iterate."""
 from .ir import Value
 from .words import M32, M64, ones_of
 
@@ -8,7 +8,7 @@ FULL = (0, M64)
 
 class Loop:
     """`steps`: for each counter what a turn adds to it, and the mask of its width; `tests`: for each edge on which
-    the loop goes on, its test, and whether the loop ends where that is 0; `own`: the range of a counter that is
+    the loop continues, its test, and whether the loop ends if that is 0; `own`: the range of a counter that is
     compared itself."""
 
     def __init__(self, head, body, latches):
@@ -91,7 +91,7 @@ class Counters:
         return min((n for n in found if n is not None), default=None)
 
     def turns_by(self, loop, cond, leaves_at_zero):
-        """The same from one test, which leaves the loop if its word is 0, or if it is not."""
+        """Likewise, from a single test, which leaves the loop if its word is 0, or if it is not 0."""
         if isinstance(cond, int):
             return None
         while cond.op == "eq" and cond.b == 0 and ones_of(cond.a) == 1:
@@ -107,7 +107,8 @@ class Counters:
         return None
 
     def counter(self, loop, x):
-        """x as a counter at a turn: (its range at the first, step, the greatest word it may be without wrapping around)."""
+        """x as a counter: the bounds of its first word, its step, the largest word of its width, its parameter, and how
+        far ahead of that it is; or None."""
         if isinstance(x, int):
             return None
         ahead = 0
@@ -124,7 +125,7 @@ class Counters:
         return low + ahead, high + ahead, step, width, x, ahead
 
     def turns_equal(self, loop, x, goal):
-        """The loop is left when x is the goal. x must reach it, and not pass it; it may wrap around once on its way."""
+        """The loop is left when x equals the goal. x must reach it, not pass it; it may wrap around once on the way."""
         low_goal, goal = self.of(goal)
         counted = self.counter(loop, x)
         if counted is None or low_goal != goal or goal > counted[3]:
@@ -151,7 +152,7 @@ class Counters:
                 continue
             low, high, step, width, p, ahead = counted
             (bound_low, bound), limit = self.of(other), top - 1 if top else width
-            bound_low, bound = bound_low + past, bound + past       # it goes on while x < bound, or while x >= bound
+            bound_low, bound = bound_low + past, bound + past       # continues while x < bound, or while x >= bound
             if bound > limit:
                 continue
             if less and step > 0 and bound + step <= limit:

@@ -27,7 +27,7 @@ class Memory:
                     self.words[self.cell(at + i)] |= byte << 8 * ((at + i) & 7)
 
     def test_size(self):
-        """Asked once the code is known to be translatable, so that its errors are reported first."""
+        """Called once the code is known to be translatable, so that errors in the code are reported first."""
         if self.need > MOST_CELLS:
             raise Refused(f"the memory from 0x{self.low:x} to 0x{self.high:x} takes {self.need} cells, more than "
                           f"{MOST_CELLS}", "use less data, a smaller -Wl,-z,stack-size=, or use --memory LO:HI")
@@ -66,7 +66,7 @@ class Memory:
 
 
 def span(x, depth=8):
-    """The least and the greatest word that a value may be."""
+    """The smallest and the largest word that a value may be."""
     if isinstance(x, int):
         return x, x
     least, most = 0, smear(x.ones)
@@ -89,7 +89,7 @@ class Access:
     """Mixed into the builder: loads and stores."""
 
     def effective(self, base, offset, size, align, at):
-        """The address of an access: one outside the memory traps, and so does one that is not aligned as its hint
+        """The address of an access. An access outside the memory traps, and so does one that is not aligned as its hint
         says."""
         address, memory = self.mk("add", base, offset), self.memory
         if isinstance(address, int):
@@ -154,7 +154,7 @@ class Access:
         self.put_high(self.at_word(address), byte, 255, place)
 
     def shift_of(self, address, align, size):
-        """8 times the place in the cell. The hint of alignment has been tested."""
+        """8 times the place in the cell. The alignment hint has been tested."""
         low = 7 & -(1 << min(align, (size // 8).bit_length() - 1))
         return self.mk("shl", self.mk("and", address, low), 3)
 

@@ -12,8 +12,8 @@ MOST_PAGES = 65536
 
 
 class Func:
-    """A function: the types that it takes and gives, `body`: its instructions, and `locals`: the types of all its
-    locals."""
+    """A function: the types that it takes and returns, its instructions (`body`), and the types of all its locals
+    (`locals`)."""
 
     def __init__(self, module, index, params, results):
         self.module, self.index, self.params, self.results = module, index, params, results
@@ -21,7 +21,7 @@ class Func:
 
     @property
     def name(self):
-        """As a word of a line: names in modules may have any characters."""
+        """The name as one printable word: names in modules may contain any characters."""
         return plain(self.module.func_names.get(self.index, f"func[{self.index}]"))
 
 
@@ -220,7 +220,7 @@ class Module:
             try:
                 self.names(part)
             except Refused:
-                pass        # names are for people only: a module without them is as good
+                pass        # names are only for people: a module needs none
 
     def names(self, part):
         while part.at < part.end:

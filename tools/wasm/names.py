@@ -29,7 +29,7 @@ def linked_symbols(module, first, stack_top):
     try:
         aligns, found = read_linking(module.linking)
     except Refused:
-        return []       # names are for people only
+        return []       # names are only for people
     comes_first = stack_top is not None and (stack_top < 1024 or first is not None and stack_top <= first)
     end, places = stack_top if comes_first else 1024, []
     for i, align in enumerate(aligns):

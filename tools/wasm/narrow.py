@@ -1,4 +1,4 @@
-"""Pass 3d: uses of ranges: tests that cannot fail, masks that clear nothing, signed tests that can be unsigned."""
+"""Pass 3d: uses ranges to remove tests that cannot fail and masks that clear nothing, and to make tests unsigned."""
 from .loops import TOPS
 from .opt import find, resolve
 from .ranges import Ranges
@@ -6,7 +6,7 @@ from .words import M64, PURE, smear
 
 
 def turned_down(v, of):
-    """v, a test of signed words, as one of unsigned words if both have the same sign; or a number; or None."""
+    """v, a test of signed words, as a test of unsigned words if the signs are equal; or a constant test; or None."""
     a, b = v.a, v.b
     sides = []
     top = next((x.b for x in (a, b) if not isinstance(x, int) and x.op == "xor" and x.b in TOPS), None)
@@ -71,7 +71,7 @@ def rewrite(ranges, b):
 
 
 def use_ranges(blocks, preds):
-    """Finds the ranges, and uses them. A parameter keeps the bits of its greatest word."""
+    """Finds the ranges, and uses them. A parameter keeps the bits of its largest word."""
     ranges, changed = Ranges(blocks, preds), []
     if not ranges.settle():
         return False

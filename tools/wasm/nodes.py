@@ -2,7 +2,7 @@
 
 
 class Nodes:
-    """Expressions, each once. A node is a tuple (kind, ..), and its scope the least that it may have."""
+    """Expressions, each once. A node is a tuple (kind, ..); its scope is the smallest that it may have."""
 
     def __init__(self):
         self.rows, self.scopes, self.number = [], [], {}

@@ -62,7 +62,7 @@ def rounded(bits, apply):
             return a | FORMS[bits][3]
         if math.isinf(value) or value == 0:
             return a
-        # The sign stays if the result is 0.
+        # If the result is 0, the sign stays.
         return word_of(math.copysign(apply(value), value), bits)
     return run
 
@@ -77,7 +77,7 @@ def root(bits):
 
 
 def nearest_of(whole, bits):
-    """The bits of the floating-point number that is nearest to an integer; of two, the even one."""
+    """The bits of the floating-point number nearest to an integer; in a tie, of the even one."""
     fraction = {32: 24, 64: 53}[bits]
     size = abs(whole)
     shift = size.bit_length() - fraction

@@ -14,7 +14,7 @@ def find(x):
 
 
 def order(g):
-    """The blocks that are reached, in reverse postorder."""
+    """The reachable blocks, in reverse postorder."""
     seen, out, todo = set(), [], [(g.entry, 0)]
     seen.add(g.entry)
     while todo:
@@ -204,7 +204,7 @@ def rebuild(g, blocks, preds):
         b.cse, b.known = table, {k: v for k, v in known.items() if k.op == "ref"}
         rebuild_block(g, b)
         for key in [k for k in g.added if k[0] == "idx"]:
-            table.pop(key, None)     # an address is cheap to make again, and costly to keep
+            table.pop(key, None)     # an address is cheap to compute again, and costly to keep
         todo.append((b, g.added))
         todo += [(x, None) for x in reversed(under[b])]
     resolve(blocks)
@@ -274,7 +274,7 @@ def sweep(blocks, preds):
 
 
 def clean(g):
-    """Cleans the graph again and again, while much changes."""
+    """Cleans the graph repeatedly, as long as much changes."""
     for _ in range(50):
         blocks = order(g)
         preds = preds_of(blocks)

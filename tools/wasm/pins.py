@@ -1,5 +1,5 @@
-"""Pass 6b: constants that keep their own register where they are used often: some in the whole program, and others
-in a loop, which has them when it is entered."""
+"""Pass 6b: constants that are used often keep registers of their own: some in the whole program, and others in a loop,
+where they are set on entry."""
 from .alloc import K
 from .ir import Value
 from .loops import find_loops
@@ -8,7 +8,7 @@ from .opt import dominators, preds_of
 
 def taken(program, body):
     """The pairs that hold a value somewhere in a loop, or get one where it is left. A block that the layout put on an edge
-    has no values of its own: what lives there is an argument of the edge, or lives at its end."""
+    has no values of its own: what is live there is an argument of the edge, or live at its end."""
     pairs, found = program.pairs, set()
     for b in body:
         values = [*b.params, *b.insts, *program.start.get(b, ())]
@@ -39,7 +39,7 @@ def scopes_of(emitter, pins, most):
     kept = set(emitter.free()[:len(pins)])
     for loop in loops_of(program):
         outer, wanted = scopes.get(loop.head, {}), {}
-        for b in sorted(loop.body, key=lambda b: b.id):     # in order, so that a text is the same in each run
+        for b in sorted(loop.body, key=lambda b: b.id):     # in order, so that each run writes the same text
             for pin, n in uses.get(b, {}).items():
                 wanted[pin] = wanted.get(pin, 0) + n
         free = sorted(set(range(K)) - taken(program, loop.body) - kept - set(outer.values()))
@@ -52,8 +52,8 @@ def scopes_of(emitter, pins, most):
 
 
 def choose(emitter, most):
-    """What an emitter that has run without such constants would keep: those of the program, at most `most`, and those
-    of loops, which may be twice as many in each."""
+    """The constants to keep, chosen after an emitter has run without any: at most `most` for the whole program, and at
+    most twice as many for each loop."""
     total = {}
     for (_, pin), n in emitter.uses.items():
         total[pin] = total.get(pin, 0) + n

@@ -64,7 +64,7 @@ class Ranges(Counters):
         return known if known is not None else (0, smear(x.ones))
 
     def learn(self, x, low, high, undo, depth=4):
-        """x is between low and high here, which bounds what it is made from."""
+        """Learns that x is between low and high here, which bounds what x is computed from."""
         if isinstance(x, int):
             return
         l, h = self.of(x)
@@ -97,7 +97,7 @@ class Ranges(Counters):
             self.learn(x.a, -(-low // c), high // c, undo, depth)
 
     def assume(self, cond, holds, undo):
-        """The word of a test is not 0 here (holds), or it is 0."""
+        """Assumes that the word of a test is not 0 here (`holds`), or that it is 0."""
         if isinstance(cond, int):
             return
         if not holds:
@@ -172,7 +172,7 @@ class Ranges(Counters):
         return changed
 
     def enter(self, b, undo):
-        """What follows from the test on the only way into a block."""
+        """Learns what follows from the test on the only way into a block."""
         if len(self.preds[b]) == 1:
             before, edge = self.preds[b][0]
             if before.term[0] == "bz":
@@ -194,7 +194,7 @@ class Ranges(Counters):
                     self.facts[x] = old
 
     def settle(self):
-        """From the first guess upwards until nothing grows, and once down again."""
+        """Widens the ranges from a first guess until nothing grows, and narrows them once."""
         if not self.loops:
             self.walk(False)
             return True

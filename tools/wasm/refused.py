@@ -2,7 +2,7 @@
 
 
 def plain(name):
-    """A name of a module as a part of one line: printable ASCII, and not long."""
+    """A name from a module, as part of one line: printable ASCII, and not long."""
     text = "".join(c if "!" <= c <= "~" else "?" for c in name)
     return text if len(text) <= 80 else text[:77] + "..."
 

@@ -4,8 +4,8 @@ from .opt import preds_of
 
 
 def cells_of(colouring, groups, first_cell):
-    """A cell for each group that is spilled, and how many cells that takes. Constants and addresses have none: they
-    are made again."""
+    """A cell for each group that is spilled, and how many cells that takes. Constants and addresses get none: they are
+    computed again."""
     place, cell_of = {}, {}
     for g in groups:
         members = colouring.members[g]
@@ -19,7 +19,7 @@ def cells_of(colouring, groups, first_cell):
 
 
 class Spiller:
-    """`place`: for each value that is spilled its cell, ("frame", word), or None where it is made again; `tiny`:
+    """`place`: for each value that is spilled its cell, ("frame", word), or None if it is computed again; `tiny`:
     values so short-lived that they must not be spilled."""
 
     def __init__(self, place, tiny):
@@ -69,7 +69,7 @@ class Spiller:
         for v in old:
             if v in self.place and self.place[v] is None:
                 continue
-            if waiting and v.op != "get":       # results are taken, and stored, before anything else has a register
+            if waiting and v.op != "get":       # results are fetched and stored before anything else gets a register
                 self.keep(waiting, b.insts, b)
                 waiting = []
             v.a, v.b = self.fetch(v.a, b.insts, b), self.fetch(v.b, b.insts, b)

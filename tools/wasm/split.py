@@ -29,8 +29,7 @@ def split(g):
 
 
 def again(b):
-    """Addresses of cells by an index are made again where they are used in another block: they must not live across a
-    call."""
+    """Computes addresses of cells by an index again where another block uses them: they must not live across a call."""
     made, insts = {v: v for v in b.insts if v.op == "idx"}, []
     for v in b.insts:
         for side in ("a", "b"):

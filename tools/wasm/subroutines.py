@@ -1,5 +1,5 @@
-"""Pass 5b: registers of the program and of its shared functions. A function has its registers before those that call
-it: what they keep across the call is in others, which pass through the function's code types."""
+"""Pass 5b: registers of the program and of its shared functions. A function gets its registers before its callers do:
+what they keep across the call is in other registers, which pass through the function's code types."""
 from .alloc import K, allocate
 from .early import copy_early
 from .ir import Block, Edge, Value
@@ -9,10 +9,10 @@ MOST_FRAMES = 64
 
 
 class Program:
-    """All blocks: `pairs`: the pair of registers of each value; `start`: what is live where each block starts;
-    `cells`: how many cells hold spilled values; `backs`: the pair of the return address of each shared function that
-    calls others; `stack`: where there are functions that call themselves, the pairs of the number of their frames and
-    of the next frame's first word."""
+    """All blocks. `pairs`: the pair of registers of each value; `start`: what is live where each block starts; `cells`:
+    how many cells hold spilled values; `backs`: the pair of the return address of each shared function that calls
+    others; `stack`: if there are recursive functions, the pairs that hold the number of frames and the next frame's
+    first word."""
 
     def __init__(self, main, shared):
         self.main, self.shared, self.pairs, self.start, self.backs = main, shared, {}, {}, {}
@@ -41,7 +41,7 @@ class Program:
         return found
 
     def deepen(self):
-        """The code of a shared function runs as often as its calls do."""
+        """Adds the depth of its deepest call to the blocks of each shared function, which run as often."""
         deepest = dict.fromkeys(self.order, 0)
         for s in reversed(self.order):
             for b in self.blocks_of[s]:
@@ -75,7 +75,7 @@ class Program:
         self.keep()
 
     def take_cells(self, first, free):
-        """Cells of frames and of return addresses, as many as there are, but no more than MOST_FRAMES of each."""
+        """Takes cells for frames and return addresses: as many frames as there is room for, at most MOST_FRAMES."""
         self.frame = max(self.frame, 1)
         self.most = min(MOST_FRAMES, free // (self.frame + len(self.recursive)))
         self.frames = first
@@ -84,8 +84,8 @@ class Program:
             s.limit.b = self.most
 
     def prepare(self, s):
-        """A shared function takes the address to go back to: in a register like others, or where it calls others in
-        one of its own."""
+        """A shared function takes its return address as another parameter, or, if it calls other functions, in a
+        register reserved for it."""
         if s is not None:
             s.back, s.pairs, s.used = None, {}, set()
             s.results = list(range(len(s.func.results) + len(s.given)))
@@ -97,7 +97,7 @@ class Program:
 
     @staticmethod
     def is_inner(s, callee):
-        """Whether through this call a function may call itself."""
+        """Whether a function may call itself through this call."""
         return s is not None and s.func in callee.circle
 
     def test_depth(self, s):
@@ -122,12 +122,12 @@ class Program:
         s.used |= set(pairs.values()) | set(s.results)
         for c in [*self.calls[s], *(c for c in self.recursive if c.func in s.circle)]:
             s.used |= c.used
-        for c in self.recursive:        # functions of a cycle use what each of them uses
+        for c in self.recursive:        # functions in a cycle use what any of them uses
             if c.func in s.circle:
                 c.used |= s.used
 
     def keep(self):
-        """The registers that pass through each shared function: what its callers keep, and what passes through them."""
+        """Finds the registers that pass through each shared function: those that its callers keep or pass on."""
         kept, changed = {s: set() for s in self.order}, True
         while changed:
             changed = False

@@ -10,7 +10,7 @@ def return_name(k, i):
 
 
 class Text:
-    """`cells`: pairs of a name and the first word. `counts` has the number of each kind."""
+    """`cells`: pairs of a name and an initial word. `counts` has the number of items of each kind."""
 
     def __init__(self, emitter, cells):
         self.emitter, self.nodes, self.cells = emitter, emitter.nodes, cells

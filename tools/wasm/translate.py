@@ -66,7 +66,7 @@ def choose_entry(module, name):
 
 
 def uses(module, entry):
-    """The globals, and the addresses that are known without folding, of what the entry reaches."""
+    """The globals that the entry and what it calls use, and the addresses that are known without folding."""
     used, places, seen, todo = set(), [], set(), [entry]
     while todo:
         func = todo.pop()
@@ -82,7 +82,7 @@ def uses(module, entry):
 
 
 def stack_pointers(module):
-    """The globals that are the stack pointer, each with its first value."""
+    """The globals that may be the stack pointer, each with its initial value."""
     return [(i, value) for i, (kind, mutable, value) in enumerate(module.globals) if mutable and kind == I32
             and module.global_names.get(i, "__stack_pointer" if i == 0 else "") == "__stack_pointer"]
 
@@ -134,7 +134,7 @@ def memory_of(module, path, options, entry):
 
 
 def emitted(program, memory, cells, options):
-    """The emitter that has run; the second time it keeps the constants that loops use most in free pairs."""
+    """An emitter that has run. If allowed, it keeps the constants that a first one used most in free pairs."""
     emitter = Emitter(program, memory.length)
     emitter.run(cells)
     if options.pins > 0:
@@ -144,7 +144,7 @@ def emitted(program, memory, cells, options):
 
 
 def table_of(memory, with_result, spills, frames):
-    """The cells: (name, first word, address in the module or None); and the name of the result's cell."""
+    """The cells: (name, initial word, address in the module or None); and the name of the result's cell."""
     names = memory.names()
     taken = set(names)
 

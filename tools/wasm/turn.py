@@ -1,7 +1,7 @@
 """Pass 6a: repeats a loop's test where it jumps back, so that an iteration needs no jump besides its branch."""
 from .ir import Value
 
-MOST_TESTED = 10    # values of a test that is made twice
+MOST_TESTED = 10    # how many values a repeated test may have
 
 
 def counted_uses(blocks):
@@ -15,7 +15,7 @@ def counted_uses(blocks):
 
 
 def loops_to_turn(blocks, skip):
-    """Short loop heads, each with the block inside after it. `skip` skips blocks that only jump."""
+    """Short loop heads, each with the block after it in the loop. `skip` skips blocks that only jump."""
     number = {b: i for i, b in enumerate(blocks)}
     uses, found = counted_uses(blocks), {}
     for b in blocks:

@@ -53,7 +53,7 @@ class Expected:
         names = {at: name for name, at in translation.cells if at is not None}
         self.program = Interpreter(Module(data), most, most_stores)
         self.how, self.what, results = self.program.run(entry)
-        # A word that has no cell is outside the memory that the program uses.
+        # A word without a cell is outside the memory that the program uses.
         self.stores = [(names.get(at, f"address {at:#x}"), word) for at, word in self.program.stores]
         if translation.result and self.how == "done":
             self.stores.append((translation.result, results[0]))
@@ -86,7 +86,7 @@ def verify(data, entry, translation, run):
 
 
 def agreement(run, module, count, traps):
-    """The verdict on two runs with the same stores, as far as both go; nothing if they differ."""
+    """The verdict on two runs with the same stores, as far as both go; None if they differ."""
     more, fewer = len(module.stores) > count, len(module.stores) < count
     if run.how == "done":
         if module.how == "cut" and not more:

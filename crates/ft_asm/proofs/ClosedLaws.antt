@@ -1,4 +1,4 @@
--- Tables that hold what the lines so far say, after a line that closes the part before it.
+-- The tables still hold what the lines so far say after a line that closes the part before it.
 use Rattle.std.proofs.Common.{◌≡◌, ℕ, ◌+◌, true, false, [], ◌∷◌, ◌++◌, length, Some, refl, ap, sym, ◌∙◌, arith}
 use Rattle.std.specs.List.{flat_map}
 use Rattle.ft_types.specs.declared.object.Block.{Block}
@@ -56,7 +56,7 @@ entry_next (InBlock cs ns ts ps p) l n e = let same : record {
 } ≡ l = cc in ap (λ (m : Listing). Some (Done (entered m n))) same
 entry_next (Done k) l n e = absurd cc
 
--- a draft that is in no block
+-- a draft that is not in a block
 type_next : (t : tables.Draft) (d : Draft) (l : Listing) (i m : ℕ) → is_block t.place ≡ false → Holds t d → shut d
     ≡ Some l → (next d (lines.Type i m) ≡ Some (InType l.cells l.nodes l.types (fresh_type i m))) × (l.parts ≡ [])
 type_next t (Start cs ns) l i m b h e = let same : record { cells = cs; nodes = ns; types = []; parts = []; entry = 0 }
@@ -174,7 +174,7 @@ closes_block t s (InBlock cs ns ts ps p) h = (
 )
 closes_block t s (Done l) h = absurd (block_done t.place l.entry s h.0)
 
--- a type by its parts
+-- code types with equal parts are equal
 type_is : (w v : CodeType) → places.InType w.ints w.memory ≡ places.InType v.ints v.memory → w.regs ≡ v.regs → w.queue
     ≡ v.queue → w ≡ v
 type_is w v e r q =

@@ -1,4 +1,4 @@
--- Where lines lead shows which outcome a text has, and it has at most one.
+-- The draft that the lines lead to shows which outcome a text has.
 use Rattle.std.proofs.Common.{◌≡◌, ℕ, ◌==◌, Bool, true, false, List, [], ◌∷◌, ◌++◌, map, Some, None, codes, refl, ap}
 use Rattle.std.proofs.Common.{sym, ◌∙◌, subst, append_assoc, append-nil, lit<}
 use Rattle.std.specs.Prelude.{if◌then◌else◌}
@@ -26,7 +26,7 @@ use Rattle.ft_asm.proofs.Texts.{text_says}
 
 -- LISTS
 
--- words of lines after others
+-- what two lists of lines say, one after the other
 pub said_on : (xs ys : List (List ℕ)) → said_in (xs ++ ys) ≡ said_in xs ++ said_in ys
 said_on [] ys = refl
 said_on (x ∷ xs) ys = ap (with_said (words_of x)) (said_on xs ys)
@@ -44,7 +44,7 @@ zip_on [] vs (l ∷ ls) ms h i = absurd h
 zip_on (w ∷ ws) vs [] ms h i = absurd h
 zip_on (w ∷ ws) vs (l ∷ ls) ms h i = (h.0, zip_on ws vs ls ms h.1 i)
 
--- the lines of words and others after them are the lines of those words, and then lines of the others
+-- if words spell lines, then any lines that they spell together with further words begin with those lines
 zip_apart : (ws vs : List (List (List ℕ))) (ls ms : List Line) → AllZip IsForm ws ls → AllZip IsForm (ws ++ vs) ms →
     (ns : List Line) × (ms ≡ ls ++ ns) × AllZip IsForm vs ns
 zip_apart [] vs [] ms h i = (ms, refl, i)
@@ -57,7 +57,7 @@ zip_apart (w ∷ ws) vs (l ∷ ls) (m ∷ ms) h i =
 
 -- TEXTS OF LINES
 
--- no line feed is among these
+-- these bytes contain no line feed
 abbrev pub HasNoFeed : List ℕ → Type 0
 HasNoFeed line = AllByRecursion (λ b. (b == 10) ≡ false) line
 
@@ -230,14 +230,14 @@ module _ (cs : List Cell) (ns : List Node) where
     entry = n;
   })) e _ h (after_block ts ps p (lines.Entry n))
 
--- a line that is one more
+-- an allowed line is added to the lines so far
 told_more : (d e : Draft) (l : Line) → next d l ≡ Some e → lines_so_far e ≡ lines_so_far d ++ l ∷ []
 told_more (Start cs ns) e l h = told_start cs ns l e h
 told_more (InType cs ns ts t) e l h = told_type cs ns ts t l e h
 told_more (InBlock cs ns ts ps p) e l h = told_block cs ns ts ps p l e h
 told_more (Done listing) e l h = absurd cc
 
--- lines that lead somewhere are the lines so far there
+-- allowed lines are added to the lines so far
 told : (ls : List Line) (d e : Draft) → walk d ls ≡ Some e → lines_so_far e ≡ lines_so_far d ++ ls
 told [] d e h = let same : d ≡ e = cc in ap lines_so_far (sym same) ∙ sym (append-nil (lines_so_far d))
 told (l ∷ ls) d e h =
@@ -255,7 +255,7 @@ pub record Lead (texts : List (List ℕ)) (d : Draft) : Type 0 where
 pub lead_none : Lead [] (Start [] [])
 lead_none = record { said = []; forms = tt; leads = refl }
 
--- a line that says nothing leads nowhere else
+-- a line that says nothing does not change the draft
 pub lead_silent : (texts : List (List ℕ)) (d : Draft) (line : List ℕ) → Lead texts d → is_said (words_of line) ≡ false →
     Lead (texts ++ line ∷ []) d
 lead_silent texts d line h e =
@@ -267,7 +267,7 @@ lead_silent texts d line h e =
       leads = h.leads;
     }
 
--- a line that says one more leads to the next
+-- a line that says something leads to the next draft
 pub lead_more : (texts : List (List ℕ)) (d e : Draft) (line : List ℕ) (l : Line) → Lead texts d →
     is_said (words_of line) ≡ true → IsForm (words_of line) l → next d l ≡ Some e → Lead (texts ++ line ∷ []) e
 lead_more texts d e line l h t f n =
@@ -281,7 +281,7 @@ lead_more texts d e line l h t f n =
           ∙ ap (option_and_then (λ f. walk f [])) n;
     }
 
--- lines that would complete the text, and its listing with them
+-- lines that complete the text, and the listing of the completed text
 finish : (d : Draft) → (ls : List Line) × ((l : Listing) × (walk d ls ≡ Some (Done l))) × AllByRecursion FitsLine ls
 finish (Start cs ns) = (
   lines.Entry 0 ∷ [],
@@ -312,7 +312,7 @@ finish (InBlock cs ns ts ps p) = (
 )
 finish (Done l) = ([], (l, refl), tt)
 
--- lines that lead somewhere begin a text
+-- if lines lead to a draft, some text that reads as an object begins with them
 pub lead_begins : (texts : List (List ℕ)) (d : Draft) → HaveNoFeed texts → Lead texts d → Begin texts
 lead_begins texts d free h =
     let end = finish d in
@@ -338,7 +338,7 @@ lead_begins texts d free h =
       so_far = whole;
     }
 
--- a text that is done reads as its listing's object
+-- a complete text reads as the object of its listing
 pub done_reads : (text : List ℕ) (l : Listing) → Lead (lines_of text) (Done l) → Reads text (object_of l)
 done_reads text l h = record {
   listing = l;
@@ -347,7 +347,7 @@ done_reads text l h = record {
   means = refl;
 }
 
--- a text that is not done reads as nothing
+-- an incomplete text reads as no object
 pub open_reads : (text : List ℕ) (d : Draft) → Lead (lines_of text) d → ((l : Listing) → ¬ (d ≡ Done l)) →
     (o : Object) → ¬ (Reads text o)
 open_reads text d h none o r =
@@ -356,7 +356,7 @@ open_reads text d h none o r =
     let both : Some d ≡ Some (Done r.listing) = sym h.leads ∙ ap (walk (Start [] [])) same ∙ walked r.listing in
     none r.listing cc
 
--- a line that leads nowhere begins no text
+-- if a line leads nowhere, no text that reads as an object begins with the lines up to it
 pub stuck : (texts : List (List ℕ)) (d : Draft) (line : List ℕ) (l : Line) → Lead texts d → is_said (words_of line)
     ≡ true → IsForm (words_of line) l → next d l ≡ None → ¬ (Begin (texts ++ line ∷ []))
 stuck texts d line l h t f n b =

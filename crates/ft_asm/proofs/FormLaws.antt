@@ -1,4 +1,4 @@
--- Words are read as the line that they were written for, and no others are.
+-- The words of a line are read as that line, and no other words are.
 use Rattle.std.proofs.Common.{◌≡◌, ℕ, List, [], ◌∷◌, ◌++◌, map, Option, Some, None, decimal, codes, refl, ap, sym, ◌∙◌}
 use Rattle.std.proofs.Common.{subst, append-nil, arith}
 use Rattle.std.specs.Option.{option_map, option_and_then}
@@ -89,7 +89,7 @@ node_sound ws l h e =
 
 -- INSTRUCTIONS
 
--- the rows of an instruction stand apart
+-- the rows of an instruction are kept separately
 abbrev IsApart : Instr → Type 0
 IsApart i = placed 0 0 i ≡ i
 
@@ -129,7 +129,7 @@ instr_fits (JmpB rd s) h = (omega arith, omega arith, h.1.0)
 instr_fits (BzB rz rd s) h = (omega arith, omega arith, h.1.1.0)
 instr_fits i h = assumption
 
--- the words that are left are the rows
+-- the remaining words are the rows
 record AreRows (s : Option Subst) (i : Instr) (ws : List (List ℕ)) (l : Line) : Type 0 where
   rows : List ℕ
   is : code_line i rows ≡ l
@@ -162,7 +162,7 @@ code_sound w ws h l e =
 
 -- LINES
 
--- a line of a row: neither a node nor an instruction
+-- a line that a row of the table reads: neither a node nor an instruction
 abbrev IsPlain : Line → Type 0
 IsPlain (lines.Node n) = ⊥
 IsPlain (lines.Code code) = ⊥
@@ -195,15 +195,15 @@ line_with_sound w ws h =
     (among_sound line_form IsPlain P (λ r. all_in r ws) (all_sound ws h) line_rows lines_right w (code_in w ws)
     (code_sound w ws h))
 
--- words that are read as a line are those of the line
+-- words that are read as a line are the words of that line
 pub line_sound : (words : List (List ℕ)) → AllByRecursion IsAnyWord words → (l : Line) → line_in words ≡ Some l →
     IsForm words l
 line_sound [] h l e = absurd cc
 line_sound (w ∷ ws) h l e = line_with_sound w ws h.1 l e
 
--- BACK AGAIN
+-- READING WRITTEN WORDS
 
--- an operation is none of the other words
+-- the word of an operation is not the first word of another node
 op_shape_is : (op : Op) (ws : List (List ℕ)) → shape_in (op_word op) ws ≡ op_shape_in (op_word op) ws
 op_shape_is Add ws = refl
 op_shape_is op ws = refl
@@ -225,7 +225,7 @@ node_again n h =
     (map operand_word f.operands) (h.0, (first_is_word f.first (shape_begins n.shape), tt)))
     ∙ ap (option_and_then (λ p. ended (node_line n.scope p.0) p.1)) (shape_again n.shape (shape_operands n.shape h.1))
 
--- the first word of an instruction begins no other line
+-- the first word of an instruction is not that of another kind of line
 op_line_is : (op : Op) (ws : List (List ℕ)) → line_with (op_word op) ws ≡ code_in (op_word op) ws
 op_line_is Add ws = refl
 op_line_is op ws = refl
@@ -246,7 +246,7 @@ op_is op ws = refl
 op_again : (op : Op) (ws : List (List ℕ)) → instr_in (op_word op) ws ≡ op_code_in op ws
 op_again op ws = op_is op ws ∙ ap (option_and_then (λ o. op_code_in o ws)) (op_field.complete op tt)
 
--- a colour is no register
+-- the word of a colour is not that of a register
 no_reg_word : (c : Colour) → reg_in (colour_word c) ≡ None
 unfolding reg_in
 no_reg_word Green = refl
@@ -292,7 +292,7 @@ code_again code h =
     ∙ ap (λ j. Some (j, rows)) h.apart)
     ∙ rows_again (subst_of i) i code.rows h.rows
 
--- the words of a line are read as the line
+-- the words of a line are read as that line
 pub line_again : (line : Line) → FitsLine line → line_in (line_words line) ≡ Some line
 line_again (lines.Node n) h = node_again n h
 line_again (lines.Code code) h = code_again code h
@@ -301,11 +301,11 @@ line_again line h =
     ap (option_and_then (λ p. ended p.0 p.1)) (made_again f.operands (row_at line_rows f.first type_row).made []
     (line_operands line h))
 
--- words are those of one line at most
+-- words spell at most one line
 pub one_line : (words : List (List ℕ)) (l m : Line) → IsForm words l → IsForm words m → l ≡ m
 one_line words l m h i = let both : Some l ≡ Some m = sym (line_again l h.0) ∙ ap line_in (sym h.1 ∙ i.1)
     ∙ line_again m i.0 in cc
 
--- words that are read as no line are the words of no line
+-- words that are not read as a line do not spell one
 pub no_line : (words : List (List ℕ)) → line_in words ≡ None → (l : Line) → ¬ (IsForm words l)
 no_line words e l h = let some : None ≡ Some l = sym e ∙ ap line_in h.1 ∙ line_again l h.0 in absurd cc

@@ -17,14 +17,14 @@ refusal_is text errors.TooLong x h a = one_answer text TooLong x h a
 refusal_is text (errors.Object e) x h a = one_answer text (Broken e) x h a
 refusal_is text errors.NoMemory x h a = tt
 
--- an object that was returned is the outcome, and so is a refusal
+-- a returned object is the outcome, and so is a returned refusal
 pub exact : (text : List ℕ) (r : Result objects.Object AsmError) → IfOk r (λ o. Applies text (Is o)) →
     IfErr r (IsRefusal text)
     → (x : Answer) → Applies text x → Gives r x
 exact text (Ok o) h i x a = one_answer text (Is o) x h a
 exact text (Err e) h i x a = refusal_is text e x i a
 
--- bytes that were returned are those of the outcome, and a refusal is the outcome
+-- returned bytes are those of the outcome, and a returned refusal is the outcome
 pub exact_bytes : (text : List ℕ) (r : Result (Vec ℕ Global) AsmError) → IfOk r (λ bytes. IsAssembly text bytes.items)
     → IfErr r (IsRefusal text) → (x : Answer) → Applies text x → GivesBytes r x
 exact_bytes text (Ok bytes) h i x a = record {
@@ -34,7 +34,7 @@ exact_bytes text (Ok bytes) h i x a = record {
 }
 exact_bytes text (Err e) h i x a = refusal_is text e x i a
 
--- the refusal of the tables refuses the text
+-- a refusal that is passed on still applies to the text
 pub passed_on : {X : Type 0} (text : List ℕ) (r : Result X AsmError) (e : AsmError) → IsErrAnd r (λ f. f ≡ e) →
     IsRefusal text e → IfErr r (IsRefusal text)
 passed_on text (Ok o) e is h = absurd is

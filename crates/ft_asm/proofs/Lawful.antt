@@ -1,4 +1,4 @@
--- An object that obeys the rules is what its text says.
+-- An object that obeys the rules is read back from its text.
 use Rattle.std.proofs.Common.{◌≡◌, ℕ, suc, ◌+◌, ◌-◌, ◌≤◌, false, List, [], ◌∷◌, ◌++◌, length, map, drop, refl, ap, sym}
 use Rattle.std.proofs.Common.{◌∙◌, append-nil, arith}
 use Rattle.std.specs.Prelude.{slice_range}
@@ -32,7 +32,7 @@ module _ (is : List Instr) (substs : List ℕ) where
   ends_within least b [] h = (let low = h.1 in omega arith, omega arith)
   ends_within least b (d ∷ ds) h = (let up = h.2.0 in omega arith, let low = h.2.1 in omega arith)
 
-  -- the parts of blocks have all instructions from the first block
+  -- the parts of blocks contain all instructions from the first block on
   parts_have : (least : ℕ) (b : Block) (bs : List Block) → AreBlocks (length is) least (b ∷ bs) →
       flat_map codes_of (parts_of is substs (b ∷ bs)) ≡ map (code_of substs) (drop b.start is)
   parts_have least b [] h = append-nil (map (code_of substs) (slice_range is b.start (length is)))
@@ -42,7 +42,7 @@ module _ (is : List Instr) (substs : List ℕ) where
       ∙ sym (map-append (code_of substs) (slice_range is b.start d.start) (drop d.start is))
       ∙ ap (map (code_of substs)) (sym (drop_split is b.start d.start (ends_within least b (d ∷ ds) h).0))
 
-  -- the parts of blocks make the blocks again
+  -- the parts of blocks give the blocks back
   blocks_back : (least : ℕ) (b : Block) (bs : List Block) → AreBlocks (length is) least (b ∷ bs) →
       blocks_from b.start (parts_of is substs (b ∷ bs)) ≡ b ∷ bs
   blocks_back least b [] h = refl
@@ -74,7 +74,7 @@ module _ (is : List Instr) (substs : List ℕ) where
 
 -- OBJECTS
 
--- the parts of blocks the first of which begins at instruction 0
+-- the parts of all blocks, the first of which begins at instruction 0
 parts_all : (is : List Instr) (substs : List ℕ) (bs : List Block) → BeginAtZero bs → AreBlocks (length is) 0 bs →
     (flat_map codes_of (parts_of is substs bs) ≡ map (code_of substs) is) × (blocks_from 0 (parts_of is substs bs) ≡ bs)
 parts_all is substs [] z h = absurd z
@@ -161,7 +161,7 @@ listing_fits o h =
     (recursion_from_All (HasCodeType types) o.blocks h.block_types))
     (omega arith, tt))))
 
--- the text of a lawful object reads as it
+-- the text of a lawful object reads as that object
 pub text_reads : (o : Object) → IsSpellable o → Reads (text_of o) o
 text_reads o h = record {
   listing = listing_of o;

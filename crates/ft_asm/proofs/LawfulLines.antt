@@ -145,7 +145,7 @@ module _ (types : ℕ) (nodes : List Node) (few_types : types ≤ 4096) (few_nod
   -- INSTRUCTIONS
 
   module _ (cells : ℕ) (few_cells : cells ≤ 1024) (substs : List ℕ) (rows_fit : AllByRecursion Is32 substs) where
-    -- what is shown of one instruction: it fits, it is recovered, and the rows after it are those after its own
+    -- what is proved of one instruction: it fits, it is recovered, and its rows precede those of later instructions
     record OneShown (first : ℕ) (i : Instr) (rest : List Subst) : Type 0 where
       fits : FitsCode (code_of substs i)
       back : instr_at first (code_of substs i) ≡ i
@@ -160,7 +160,7 @@ module _ (types : ℕ) (nodes : List Node) (few_types : types ≤ 4096) (few_nod
         let up = h.rising in
         omega arith
 
-    -- the rows of an instruction, and those after them
+    -- what is proved of an instruction's rows and of those after them
     record RowsShown (first : ℕ) (s : Option Subst) (rest : List Subst) : Type 0 where
       fit : FitsRows (rows_in substs s) s
       rows : rows_in substs s ++ drop (first + length (rows_in substs s)) substs ≡ drop first substs
@@ -237,7 +237,7 @@ module _ (types : ℕ) (nodes : List Node) (few_types : types ≤ 4096) (few_nod
           covers = rows.covers;
         }
 
-    -- what is shown of all instructions
+    -- what is proved of all instructions
     pub record AllShown (first : ℕ) (is : List Instr) : Type 0 where
       pub fits : AllByRecursion (λ i. FitsCode (code_of substs i)) is
       pub back : instrs_from first (map (code_of substs) is) ≡ is

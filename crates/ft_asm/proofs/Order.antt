@@ -1,4 +1,4 @@
--- The lines of a listing lead to that listing, and none of them leads nowhere.
+-- The lines of a listing are in an allowed order, and lead to that listing.
 use Rattle.std.proofs.Common.{◌≡◌, ℕ, List, [], ◌∷◌, ◌++◌, map, Option, Some, None, refl, ap, sym, ◌∙◌, append_assoc}
 use Rattle.std.proofs.Common.{append-nil}
 use Rattle.std.specs.Option.{option_and_then}
@@ -19,7 +19,7 @@ use Rattle.ft_asm.specs.Reads.{Say, Reads}
 use Rattle.ft_asm.specs.Drafts.{Draft, Start, InType, InBlock, Done, fresh_type, fresh_part, next, walk}
 use Rattle.ft_asm.proofs.FormLaws.{one_line}
 
--- A LISTING IS WALKED
+-- WALKING A LISTING
 
 by_next : (xs ys : List Line) (o : Option Draft) →
     ((e : Draft) → walk e (xs ++ ys) ≡ option_and_then (λ f. walk f ys) (walk e xs)) →
@@ -27,7 +27,7 @@ by_next : (xs ys : List Line) (o : Option Draft) →
 by_next xs ys None h = refl
 by_next xs ys (Some e) h = h e
 
--- walks one after the other
+-- walking two lists of lines, one after the other
 pub walk-append : (d : Draft) (xs ys : List Line) → walk d (xs ++ ys) ≡ option_and_then (λ e. walk e ys) (walk d xs)
 walk-append d [] ys = refl
 walk-append d (x ∷ xs) ys = by_next xs ys (next d x) (λ e. walk-append e xs ys)
@@ -45,7 +45,7 @@ nodes_walked cs ns (m ∷ ms) rest = nodes_walked cs (ns ++ m ∷ []) ms rest
     ∙ ap (λ xs. walk (Start cs xs) rest) (append_assoc ns (m ∷ []) ms)
 
 module _ (cs : List Cell) (ns : List Node) where
-  -- a code type of these rows
+  -- a code type with these rows
   abbrev rows_are : CodeType → List RegType → List (ℕ × ℕ) → CodeType
   rows_are t rs qs = record { ints = t.ints; regs = rs; queue = qs; memory = t.memory }
 
@@ -158,12 +158,12 @@ walked l =
     ++ (flat_map part_lines l.parts ++ lines.Entry l.entry ∷ []))
     ∙ types_walked l.cells l.nodes l.types l.parts l.entry
 
--- lines are those of one listing at most
+-- lines are those of at most one listing
 pub one_listing : (l m : Listing) → listing_lines l ≡ listing_lines m → l ≡ m
 one_listing l m e = let both : Some (Done l) ≡ Some (Done m) = sym (walked l) ∙ ap (walk (Start [] [])) e ∙ walked m in
     let same : Done l ≡ Done m = cc in cc
 
--- words are those of one list of lines at most
+-- words spell at most one list of lines
 pub one_list : (words : List (List (List ℕ))) (ls ms : List Line) → AllZip IsForm words ls → AllZip IsForm words ms → ls
     ≡ ms
 one_list [] [] [] h i = refl
@@ -174,7 +174,7 @@ one_list (w ∷ ws) (l ∷ ls) [] h i = absurd i
 one_list (w ∷ ws) (l ∷ ls) (m ∷ ms) h i = ap (λ x. x ∷ ls) (one_line w l m h.0 i.0)
     ∙ ap (λ xs. m ∷ xs) (one_list ws ls ms h.1 i.1)
 
--- a text says one listing at most
+-- a text says at most one listing
 pub one_said : (texts : List (List ℕ)) (l m : Listing) → Say texts l → Say texts m → l ≡ m
 one_said texts l m h i = one_listing l m (one_list (said_in texts) (listing_lines l) (listing_lines m) h i)
 

@@ -41,14 +41,14 @@ flat_of_flat f [] = refl
 flat_of_flat f (x ∷ xs) = flat_map-append line_text (f x) (flat_map f xs)
     ∙ ap (λ l. flat_map line_text (f x) ++ l) (flat_of_flat f xs)
 
--- one value more of a range
+-- a range is its first value followed by the others
 range_step : {A : Type 0} (xs : List A) (i end : ℕ) (x : A) → i < end → slice_get xs i ≡ Some x → slice_range xs i end
     ≡ x ∷ slice_range xs (suc i) end
 range_step xs i end x lt e =
     let some : end - i ≡ suc (end - suc i) = omega arith in
     ap (take (end - i)) (drop_there xs i x e) ∙ ap (λ n. take n (x ∷ drop (suc i) xs)) some
 
--- one piece more of a range was put
+-- after writing one more piece of a range
 pub range_goes : {A : Type 0} (text : A → List ℕ) (xs : List A) (i end : ℕ) (x : A) (old new all : List ℕ) → i < end →
     slice_get xs i ≡ Some x → new ≡ old ++ text x → old ++ flat_map text (slice_range xs i end) ≡ all → new
     ++ flat_map text (slice_range xs (i + 1) end) ≡ all
@@ -59,7 +59,7 @@ range_goes text xs i end x old new all lt is e h =
     ∙ ap (λ k. old ++ (text x ++ flat_map text (slice_range xs k end))) next
     ∙ ap (λ l. old ++ flat_map text l) (sym (range_step xs i end x lt is)) ∙ h
 
--- all of a range was put
+-- after writing all of a range
 pub range_ends : {A : Type 0} (text : A → List ℕ) (xs : List A) (i end : ℕ) (old all : List ℕ) → end ≤ i → old
     ++ flat_map text (slice_range xs i end) ≡ all → old ≡ all
 range_ends text xs i end old all le h =
@@ -68,7 +68,7 @@ range_ends text xs i end old all le h =
 
 -- INSTRUCTIONS
 
--- words and then rows
+-- a word, then rows
 spaced_rows : (w : List ℕ) (rows : List ℕ) → spaced (w ∷ map decimal rows) ≡ w ++ flat_map row_text rows
 spaced_rows w [] = sym (append-nil w)
 spaced_rows w (n ∷ ns) =
@@ -76,7 +76,7 @@ spaced_rows w (n ∷ ns) =
     ∙ append_assoc w (codes " ") (decimal n ++ flat_map row_text ns)
     ∙ ap (λ l. w ++ l) (sym (append_assoc (codes " ") (decimal n) (flat_map row_text ns)))
 
--- several words and then rows
+-- several words, then rows
 words_rows : (w : List ℕ) (ws : List (List ℕ)) (rows : List ℕ) → spaced (w ∷ (ws ++ map decimal rows))
     ≡ spaced (w ∷ ws) ++ flat_map row_text rows
 words_rows w [] rows = spaced_rows w rows
@@ -87,7 +87,7 @@ apart_form : (i : Instr) → instr_form i ≡ instr_form (placed 0 0 i)
 apart_form (instrs.JmpB rd s) = refl
 apart_form i = refl
 
--- the words of an instruction, and then the rows of its substitution
+-- the words of an instruction, then the rows of its substitution
 pub instr_put : (old a b substs : List ℕ) (i : Instr) (s : Option Subst) → s ≡ subst_of i → a ≡ old
     ++ spaced (form_words (instr_form i)) → b ≡ a ++ flat_map row_text (rows_in substs s)
     → b ≡ old ++ spaced (code_words (code_of substs i))
@@ -100,7 +100,7 @@ instr_put old a b substs i s carried p q =
     ∙ ap (λ (g : Form). spaced (form_words g ++ map decimal rows)) (apart_form i)
     ∙ ap (λ t. spaced (form_words (instr_form (placed 0 0 i)) ++ map decimal (rows_in substs t))) carried)
 
--- the rows of a substitution are there
+-- the rows of a substitution exist
 first_covered : (nodes : List Node) (substs : List ℕ) (first : ℕ) (s : Option Subst) (ss : List Subst) →
     Cover nodes (length substs) first (before s ss) → HasRows substs s × ((n : ℕ) × Cover nodes (length substs) n ss)
 first_covered nodes substs first None ss h = (tt, (first, h))
@@ -142,7 +142,7 @@ pub head_at : (o : Object) (t : ℕ) (u : CodeType) (head : TypeHead) → slice_
     option_map type_head_of (slice_get o.types t) ≡ Some head → head ≡ type_head_of u
 head_at o t u head e f = let both : Some (type_head_of u) ≡ Some head = ap (option_map type_head_of) (sym e) ∙ f in cc
 
--- its rows
+-- its register rows and queue rows
 pub regs_at : (o : Object) (t : ℕ) (u : CodeType) → slice_get o.types t ≡ Some u → reg_rows o t ≡ u.regs
 regs_at o t u e = ap (λ x. unwrap_or (option_map regs_of x) []) e
 
@@ -158,7 +158,7 @@ type_pieces u =
     ∙ ap (λ l. flat_map line_text (map lines.Reg u.regs) ++ l) (sym (flat_of_map pend_line u.queue))
     ∙ sym (flat_map-append line_text (map lines.Reg u.regs) (map pend_line u.queue)))
 
--- how many there are
+-- how many rows it has
 pub regs_count : (o : Object) (t : ℕ) (head : TypeHead) → t < length o.types →
     option_map type_head_of (slice_get o.types t) ≡ Some head → head.regs ≡ length (reg_rows o t)
 regs_count o t head lt e =
@@ -171,7 +171,7 @@ queue_count o t head lt e =
     let u = there_below o.types t lt in
     ap (λ (h : TypeHead). h.queue) (head_at o t u.0 head u.1 e) ∙ ap length (sym (queue_at o t u.0 u.1))
 
--- its lines were put
+-- after writing its lines
 pub type_put : (old a b c : List ℕ) (o : Object) (t : ℕ) (head : TypeHead) (u : CodeType) → slice_get o.types t
     ≡ Some u → option_map type_head_of (slice_get o.types t) ≡ Some head → a ≡ old
     ++ line_text (lines.Type head.ints head.memory)
@@ -227,7 +227,7 @@ part_pieces o b bs = ap (λ l. line_text (lines.Block b.code_type)
     codes_text [] = refl
     codes_text (i ∷ is) = ap (λ l. instr_text o.substs i ++ l) (codes_text is)
 
--- its lines were put
+-- after writing its lines
 pub part_put : (old a c : List ℕ) (o : Object) (b : ℕ) (y x : Block) (end : ℕ) → slice_get o.blocks b ≡ Some x →
     slice_get o.blocks b ≡ Some y → end ≡ begins_at (length o.instrs) (drop (b + 1) o.blocks) → a ≡ old
     ++ line_text (lines.Block y.code_type)
@@ -246,7 +246,7 @@ part_put old a c o b y x end is e at p q =
     rest ∙ ap (λ l. l ++ codes_are) first ∙ append_assoc old own codes_are
     ∙ ap (λ l. old ++ l) (part_pieces o x (drop (b + 1) o.blocks))
 
--- one more block was put
+-- after writing one more block
 pub part_goes : (o : Object) (b : ℕ) (x : Block) (old new all : List ℕ) → slice_get o.blocks b ≡ Some x → new ≡ old
     ++ part_text (part_of o x (drop (b + 1) o.blocks))
     → old ++ flat_map part_text (parts_of o.instrs o.substs (drop b o.blocks)) ≡ all → new
@@ -259,7 +259,7 @@ part_goes o b x old new all is e h =
     ap (λ l. l ++ rest) e ∙ append_assoc old (part_text (part_of o x (drop (b + 1) o.blocks))) rest
     ∙ ap (λ bs. old ++ flat_map part_text (parts_of o.instrs o.substs bs)) (sym first) ∙ h
 
--- all blocks were put
+-- after writing all blocks
 pub part_ends : (o : Object) (b : ℕ) (old all : List ℕ) → length o.blocks ≤ b → old
     ++ flat_map part_text (parts_of o.instrs o.substs (drop b o.blocks)) ≡ all → old ≡ all
 part_ends o b old all le h = sym (append-nil old) ∙ ap (λ bs. old ++ flat_map part_text (parts_of o.instrs o.substs bs))
@@ -308,7 +308,7 @@ text_pieces o =
     ∙ ap (λ l. flat_map cell_text o.cells ++ l) n
     ∙ c
 
--- five pieces
+-- five pieces, written one after the other
 pub five : (a b c d e all p q r s t : List ℕ) → a ≡ [] ++ p → b ≡ a ++ q → c ≡ b ++ r → d ≡ c ++ s → e ≡ d ++ t → p
     ++ (q ++ (r ++ (s ++ t))) ≡ all → e ≡ all
 five a b c d e all p q r s t pa pb pc pd pe h =

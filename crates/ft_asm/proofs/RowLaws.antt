@@ -1,4 +1,4 @@
--- What a row of a table reads is what has its form, and the words of a form are read by its row.
+-- A row of a table reads exactly the words that have its form.
 use Rattle.std.proofs.Common.{◌≡◌, ℕ, ◌^◌, List, [], ◌∷◌, ◌++◌, map, Option, Some, refl, ap, sym, ◌∙◌, subst, arith}
 use Rattle.std.specs.Prelude.{if◌then◌else◌}
 use Rattle.std.specs.Str.{bytes_eq}
@@ -16,7 +16,7 @@ use Rattle.ft_asm.proofs.Texts.{AreWords}
 
 -- OPERANDS
 
--- the operand of a value of a kind, and the kind and the value of an operand
+-- the operand of a value, by its kind, and the kind and value of an operand
 abbrev pub operand_of : (k : Kind) → Value k → Operand
 operand_of OneReg r = AReg r
 operand_of OneColour c = AColour c
@@ -63,7 +63,7 @@ value_again (AWord n) h = (number_field (2 ^ 64) (omega arith)).complete n h
 value_again (ABasic basic) h = basic_field.complete basic h
 value_again (AName name) h = refl
 
--- a value of each kind, what they make, and the operands that they are
+-- a value of each kind, the function applied to these values, and their operands
 abbrev pub Values : List Kind → Type 0
 Values [] = Unit {0}
 Values (k ∷ ks) = Value k × Values ks
@@ -109,14 +109,14 @@ made_sound {A} (k ∷ ks) made (w ∷ ws) a rest h e =
       words = ap (λ x. x ∷ ws) own.1 ∙ ap (λ xs. operand_word (operand_of k read.0) ∷ xs) others.words;
     })
 
--- the word of an operand is taken
+-- the word of an operand is read as its value
 pub taken_again : {A : Type 0} (o : Operand) → FitsOperand o → (next : Value (kind_of o) × List (List ℕ) → Option A)
     (ws : List (List ℕ)) → option_and_then next (taken (value_in (kind_of o)) (operand_word o ∷ ws))
     ≡ next (value_of o, ws)
 taken_again o h next ws = ap (λ (v : Option (Value (kind_of o))). option_and_then next (option_map (λ u. (u, ws)) v))
     (value_again o h)
 
--- what operands make is made of their words
+-- a function applied to the values of operands
 abbrev pub applied : {A : Type 0} (os : List Operand) → Taking (map kind_of os) A → A
 applied [] made = made
 applied (o ∷ os) made = applied os (made (value_of o))
@@ -130,18 +130,18 @@ made_again (o ∷ os) made rest h = taken_again o h.0 _ (map operand_word os ++ 
 
 -- ROWS
 
--- the row of a table with this first word, or another
+-- the row of a table with this first word, or `other` if there is none
 abbrev pub row_at : {A : Type 0} → List (Row A) → List ℕ → Row A → Row A
 row_at [] w other = other
 row_at (r ∷ rs) w other = if bytes_eq w r.first then r else row_at rs w other
 
 module _ {A : Type 0} (form_of : A → Form) (Also : A → Type 0) where
-  -- what a row makes is written with its first word and its operands, and this holds of it
+  -- what a row makes has the form of its first word and its operands, and `Also` holds of it
   abbrev pub IsRight : Row A → Type 0
   IsRight r = (vs : Values r.kinds) → (form_of (with_values r.kinds r.made vs) ≡ form r.first (operands_of r.kinds vs))
       × Also (with_values r.kinds r.made vs)
 
-  -- these words begin with its form
+  -- these words begin with the form of `a`
   pub record Begins (w : List ℕ) (ws : List (List ℕ)) (a : A) (rest : List (List ℕ)) : Type 0 where
     pub fit : FitsOperands (form_of a)
     pub words : w ∷ ws ≡ form_words (form_of a) ++ rest
@@ -159,7 +159,7 @@ module _ {A : Type 0} (form_of : A → Form) (Also : A → Type 0) where
         also = subst Also made.is own.1;
       }
 
-  -- what holds of everything that a row reads and of the other result holds of what the rows give
+  -- if P holds of whatever a row reads, and of the other result, it holds of whatever the table reads
   pub among_sound : {B : Type 0} (P : List ℕ → B → Type 0) (read : Row A → Option B) →
       ((r : Row A) → IsRight r → (b : B) → read r ≡ Some b → P r.first b) → (rs : List (Row A)) →
       AllByRecursion IsRight rs → (w : List ℕ) (other : Option B) → ((b : B) → other ≡ Some b → P w b) →

@@ -15,7 +15,7 @@ use Rattle.ft_asm.specs.Reads.{rule_broken, Applies}
 use Rattle.ft_asm.proofs.Order.{one_reading}
 use Rattle.ft_asm.proofs.Faults.{said_on}
 
--- two places in a list of lines are one, or one is before the other
+-- two places in a list of lines are the same, or one is before the other
 data Apart (xs ys : List (List ℕ)) (a b : List ℕ) : Type 0 where
   same : xs ≡ ys → a ≡ b → Apart xs ys a b
   first : (zs : List (List ℕ)) → ys ≡ xs ++ a ∷ zs → Apart xs ys a b
@@ -46,11 +46,11 @@ begin_front xs ys b = record {
   so_far = b.so_far ∙ append_assoc xs ys b.rest;
 }
 
--- the same, with the prefix given by an equation
+-- likewise, with the prefix given by an equation
 begin_prefix : (texts xs ys : List (List ℕ)) → texts ≡ xs ++ ys → Begin texts → Begin xs
 begin_prefix texts xs ys e b = begin_front xs ys (subst Begin e b)
 
--- the first line with which the lines begin no text
+-- the first line such that no text that reads as an object begins with the lines up to it
 record First (text : List ℕ) (number : ℕ) : Type 0 where
   before : List (List ℕ)
   line : List ℕ
@@ -67,7 +67,7 @@ zip_at [] w vs (m ∷ ms) h = (m, h.0)
 zip_at (u ∷ ws) w vs [] h = absurd h
 zip_at (u ∷ ws) w vs (m ∷ ms) h = zip_at ws w vs ms h.1
 
--- a line of no form begins no text
+-- no text that reads as an object begins with lines of which the last has none of the forms
 formless : (texts : List (List ℕ)) (line : List ℕ) → is_said (words_of line) ≡ true →
     ((l : Line) → ¬ (IsForm (words_of line) l)) → ¬ (Begin (texts ++ line ∷ []))
 formless texts line t none b =
@@ -100,7 +100,7 @@ of_order text n h = record {
   none = h.none;
 }
 
--- there is one first line at fault
+-- there is at most one first line at fault
 one_first : (text : List ℕ) (n m : ℕ) (f : First text n) (g : First text m) → (f.before ≡ g.before) × (f.line ≡ g.line)
 one_first text n m f g = elim (apart f.before g.before f.after g.after f.line g.line (sym f.split ∙ g.split)) [
   | same e i ↦ (e, i)
@@ -113,7 +113,7 @@ one_first text n m f g = elim (apart f.before g.before f.after g.after f.line g.
 one_number : (text : List ℕ) (n m : ℕ) → First text n → First text m → n ≡ m
 one_number text n m f g = f.here ∙ ap (λ ls. suc (length ls)) (one_first text n m f g).0 ∙ sym g.here
 
--- there is no first line at fault if all lines begin a text
+-- if all lines begin a text, none is the first at fault
 no_first : (text : List ℕ) (n : ℕ) → First text n → ¬ (Begin (lines_of text))
 no_first text n f b = f.none (begin_prefix (lines_of text) (f.before ++ f.line ∷ []) f.after (f.split
     ∙ sym (append_assoc f.before (f.line ∷ []) f.after)) b)
@@ -134,7 +134,7 @@ text_or_order text n m h i =
     let lines_are = (one_first text n m (of_text text n h) (of_order text m i)).1 in
     h.none i.form (subst (λ (l : List ℕ). IsForm (words_of l) i.form) (sym lines_are) i.is_form)
 
--- a text that reads as an object has no line at fault and lacks nothing
+-- a text that reads as an object has no line at fault and is complete
 no_text : (text : List ℕ) (o : Object) (n : ℕ) → Reads text o → IsTextFault text n → ⊥
 no_text text o n r fault = no_first text n (of_text text n fault) (reading_begins text o r)
 
@@ -142,7 +142,7 @@ no_order : (text : List ℕ) (o : Object) (n : ℕ) → Reads text o → IsOrder
 no_order text o n r (inl fault) = no_first text n (of_order text n fault) (reading_begins text o r)
 no_order text o n r (inr lacks) = lacks.none o r
 
--- the first line at fault is of one kind, and has one number
+-- the first line at fault has one kind of fault, and one number
 text_not_order : (text : List ℕ) (n m : ℕ) → IsTextFault text n → IsOrderFault text m ⊎ Lacks text m → ⊥
 text_not_order text n m h (inl fault) = text_or_order text n m h fault
 text_not_order text n m h (inr lacks) = no_first text n (of_text text n h) lacks.begin
@@ -153,7 +153,7 @@ one_order text n m (inl fault) (inr lacks) = absurd (no_first text n (of_order t
 one_order text n m (inr lacks) (inl other) = absurd (no_first text m (of_order text m other) lacks.begin)
 one_order text n m (inr lacks) (inr too) = lacks.here ∙ sym too.here
 
--- rules of the one object that a text reads as
+-- any two objects that a text reads as break the same first rule
 one_judged : (text : List ℕ) (o p : Object) (a b : Option ObjectError) → Reads text o → Reads text p → rule_broken o
     ≡ a → rule_broken p ≡ b → a ≡ b
 one_judged text o p a b r s e f = sym e ∙ ap rule_broken (one_reading text o p r s) ∙ f

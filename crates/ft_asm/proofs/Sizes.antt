@@ -1,5 +1,5 @@
--- A text has at least as many bytes as its tables have rows and its names have bytes. So what it says can be counted,
--- and its numbers fit.
+-- A text has at least as many bytes as its tables have rows and its names have bytes. So its counts are bounded, and
+-- its numbers fit.
 use Rattle.std.proofs.Common.{◌≡◌, ℕ, suc, ◌+◌, ◌^◌, ◌<◌, ◌≤◌, ◌==◌, Bool, true, false, List, [], ◌∷◌, ◌++◌, length}
 use Rattle.std.proofs.Common.{map, decimal, refl, ap, sym, ◌∙◌, subst, arith}
 use Rattle.std.specs.Prelude.{if◌then◌else◌}
@@ -35,7 +35,7 @@ use Rattle.ft_asm.proofs.Texts.{first_is_word, instr_begins, code_rows}
 
 -- BYTES OF WORDS
 
--- how many bytes there are in all
+-- how many bytes words have in all
 abbrev bytes_in : List (List ℕ) → ℕ
 bytes_in [] = 0
 bytes_in (w ∷ ws) = length w + bytes_in ws
@@ -119,7 +119,7 @@ zip_weights (ws ∷ wss) (l ∷ ls) h =
     let rest = zip_weights wss ls h.1 in
     omega arith
 
--- what a text says weighs no more than its bytes
+-- what a text says weighs at most as much as the text has bytes
 text_weight : (text : List ℕ) (l : Listing) → AllZip IsForm (said_in (lines_of text)) (listing_lines l) →
     all_weights (listing_lines l) ≤ length text
 text_weight text l h =
@@ -326,7 +326,7 @@ listing_fits l n few a h =
       entry = parts.1.0;
     }
 
--- what a text of so few bytes reads as fits
+-- the object that a text of at most 134,217,728 bytes reads as fits
 pub reading_fits : (text : List ℕ) (o : Object) → length text ≤ 134217728 → Reads text o → Fits o
 reading_fits text o few r =
     let weight = text_weight text r.listing r.said in

@@ -1,4 +1,4 @@
--- What is written is read again as what it was written for.
+-- Written lines are read back as the lines that they were written for.
 use Rattle.std.proofs.Common.{◌≡◌, ℕ, zero, suc, ◌+◌, ◌%◌, ◌^◌, ◌<◌, ◌≤◌, ◌==◌, Bool, true, false, ◌||◌, not, List, []}
 use Rattle.std.proofs.Common.{◌∷◌, ◌++◌, length, map, decimal, codes, refl, ap, sym, ◌∙◌, subst, append_assoc, arith}
 use Rattle.std.specs.Prelude.{if◌then◌else◌, ◌&&◌, nat_lt, Option, Some, None}
@@ -117,7 +117,7 @@ rows_are_words (n ∷ ns) h = (short n h.0, rows_are_words ns h.1)
 
 -- FIRST WORDS
 
--- whether bytes make a word that begins no comment
+-- whether bytes form a word that does not begin a comment
 abbrev begins : List ℕ → Bool
 begins w = (nat_lt 0 (length w) && list_all is_part w) && not (is_comment w)
 
@@ -215,7 +215,7 @@ pub kept_word : (w : List ℕ) (ws : List (List ℕ)) → 0 < length w → with_
 kept_word [] ws h = absurd (omega arith)
 kept_word (b ∷ bs) ws h = refl
 
--- words with a space between them are the words of that line
+-- words joined by spaces make a line with those words
 pub words_again : (ws : List (List ℕ)) → AreWords ws → words_of (spaced ws) ≡ ws
 words_again [] h = refl
 words_again (w ∷ []) h = ap with_bytes (one_piece w h.0.1) ∙ kept_word w [] h.0.0
@@ -227,7 +227,7 @@ words_again (w ∷ v ∷ ws) h =
 
 -- LINES OF A TEXT
 
--- no line feed is among these
+-- these bytes contain no line feed
 abbrev HasNoFeed : List ℕ → Type 0
 HasNoFeed text = AllByRecursion (λ b. (b == 10) ≡ false) text
 
@@ -251,11 +251,11 @@ first_line (b ∷ bs) rest h =
     ap (λ t. if t then [] ∷ lines_of (bs ++ 10 ∷ rest) else with_byte b (lines_of (bs ++ 10 ∷ rest))) h.0
     ∙ ap (with_byte b) (first_line bs rest h.1)
 
--- the line of a text without its line feed
+-- the text of a line without its line feed
 abbrev pub bare : Line → List ℕ
 bare line = spaced (line_words line)
 
--- the lines of written lines are those lines
+-- splitting written lines gives those lines
 pub lines_again : (ls : List Line) → AllByRecursion FitsLine ls → lines_of (flat_map line_text ls) ≡ map bare ls
 lines_again [] h = refl
 lines_again (l ∷ ls) h =
@@ -268,14 +268,14 @@ lines_again (l ∷ ls) h =
 first_said : (w : List ℕ) (ws : List (List ℕ)) → begins w ≡ true → is_said (w ∷ ws) ≡ true
 first_said w ws e = (and_parts (nat_lt 0 (length w) && list_all is_part w) (not (is_comment w)) e).1
 
--- no line begins a comment
+-- no written line is a comment
 pub line_said : (line : Line) → is_said (line_words line) ≡ true
 line_said (lines.Code code) =
     let f = instr_form code.instr in
     first_said f.first (map operand_word f.operands ++ map decimal code.rows) (instr_begins code.instr)
 line_said line = refl
 
--- written lines say themselves
+-- what written lines say is their words
 pub said_again : (ls : List Line) → AllByRecursion FitsLine ls → said_in (map bare ls) ≡ map line_words ls
 said_again [] h = refl
 said_again (l ∷ ls) h =

@@ -1,4 +1,4 @@
--- What a line makes of the lines before it, and what is said of the text at the end.
+-- How each line changes the draft, and what the final draft says about the text.
 use Rattle.std.proofs.Common.{◌≡◌, inl, inr, ℕ, suc, ◌==◌, Bool, true, false, not, List, [], ◌∷◌, ◌++◌, length, Some}
 use Rattle.std.proofs.Common.{None, refl, ap, sym, ◌∙◌, subst, append-nil, arith}
 use Rattle.std.specs.Prelude.{if◌then◌else◌}
@@ -78,7 +78,7 @@ module _ (text : List ℕ) (number : ℕ) (before after : List (List ℕ)) (line
       let form = line_sound (words_of line) (words_are line (free_line text before after line split).1) l e in
       record { stop = stops; form = l; is_form = form; none = stuck before d line l lead said form n }
 
--- one line more
+-- one more line
 pub lead_on : (text : List ℕ) (before after : List (List ℕ)) (line : List ℕ) (d e : Draft) → lines_of text ≡ before
     ++ line ∷ after → Lead before d → Leads d line e → Lead (before ++ line ∷ []) e
 lead_on text before after line d e split lead (inl silent) =
@@ -87,7 +87,7 @@ lead_on text before after line d e split lead (inr more) =
     lead_more before d e line more.0 lead more.1 (line_sound (words_of line)
     (words_are line (free_line text before after line split).1) more.0 more.2) more.3
 
--- at the end
+-- after the last line
 pub ends_reads : (text : List ℕ) (o : Object) (d : Draft) → Lead (lines_of text) d → Ends (Some o) d → Reads text o
 ends_reads text o (Start cs ns) h e = absurd e
 ends_reads text o (InType cs ns ts t) h e = absurd e

@@ -26,7 +26,7 @@ skip_step true b bs p h same = let next : 1 + p ≡ suc p = omega arith in
     sym same ∙ h ∙ ap (λ n. words_of (drop n (b ∷ bs))) (sym next)
 skip_step false b bs p h same = refl
 
--- blanks before a word are passed
+-- blanks before a word are skipped
 pub skip : (text : List ℕ) → words_of text ≡ words_of (drop (position_or_len is_part text) text)
 skip [] = refl
 skip (b ∷ bs) = skip_step (is_blank b) b bs (position_or_len is_part bs) (skip bs) refl
@@ -66,13 +66,13 @@ no_word text e =
     (missing (nat_lt (position_or_len is_part text) (length text)) (position_or_len is_part text) e) in
     skip text ∙ ap words_of (drop_all (position_or_len is_part text) text past)
 
--- the words from the first byte of a word
+-- starting at the first byte of a word keeps the words
 pub from_word : (text : List ℕ) (start : ℕ) → position is_part text ≡ Some start → words_of text
     ≡ words_of (drop start text)
 from_word text start e = skip text ∙ ap (λ n. words_of (drop n text))
     (cond_some (nat_lt (position_or_len is_part text) (length text)) (position_or_len is_part text) start e).1
 
--- which is there
+-- that byte exists, and is not a blank
 pub begins_word : (text : List ℕ) (start : ℕ) → position is_part text ≡ Some start → (x : ℕ) × (xs : List ℕ)
     × (drop start text ≡ x ∷ xs) × (is_blank x ≡ false)
 begins_word text start e =
@@ -87,7 +87,7 @@ some_step : (t : Bool) (p : ℕ) → t ≡ false → 0 < cond (not t) (1 + p) 0
 some_step true p e = absurd cc
 some_step false p e = omega arith
 
--- a word up to a blank
+-- a word that ends at a blank
 pub word_ends : (text : List ℕ) (x : ℕ) (xs : List ℕ) (at : ℕ) → text ≡ x ∷ xs → is_blank x ≡ false →
     position is_blank text ≡ Some at → words_of text
     ≡ take at text ∷ words_of (take (length text - (at + 1)) (drop (at + 1) text))
@@ -104,7 +104,7 @@ word_ends text x xs at e f g =
     ∙ kept_word (take at text) (words_of (drop (at + 1) text)) (omega arith)
     ∙ ap (λ l. take at text ∷ words_of l) (sym (take_rest text (at + 1)))
 
--- a word up to the end
+-- a word that ends with the text
 pub word_only : (text : List ℕ) (x : ℕ) (xs : List ℕ) → text ≡ x ∷ xs → position is_blank text ≡ None → words_of text
     ≡ text ∷ words_of []
 word_only text x xs e g =

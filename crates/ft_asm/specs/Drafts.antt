@@ -11,13 +11,13 @@ use Rattle.ft_asm.specs.declared.line.Line.{Line}
 use Rattle.ft_asm.specs.declared.line.Line.TheVariants as lines
 use Rattle.ft_asm.specs.Listings.{Part, Listing, type_lines, part_lines, listing_lines}
 
--- what the lines so far say, by the part of the text that they end in
+-- what the lines so far say, by the part of the text in which they end
 pub data Draft : Type 0 where
   -- before the first code type: cells and nodes
   Start : List Cell → List Node → Draft
-  -- in a code type, after others
+  -- in a code type, which may follow others
   InType : List Cell → List Node → List CodeType → CodeType → Draft
-  -- in a block, after others
+  -- in a block, which may follow others
   InBlock : List Cell → List Node → List CodeType → List Part → Part → Draft
   -- after the entry block
   Done : Listing → Draft
@@ -33,24 +33,24 @@ with_reg t r = record { ints = t.ints; regs = t.regs ++ r ∷ []; queue = t.queu
 abbrev pub with_pend : CodeType → ℕ × ℕ → CodeType
 with_pend t q = record { ints = t.ints; regs = t.regs; queue = t.queue ++ q ∷ []; memory = t.memory }
 
--- a block without instructions, and one with one more
+-- a block without instructions, and a block with one more instruction
 abbrev pub fresh_part : ℕ → Part
 fresh_part t = record { code_type = t; codes = [] }
 
 abbrev pub with_code : Part → Code → Part
 with_code p c = record { code_type = p.code_type; codes = p.codes ++ c ∷ [] }
 
--- one more cell, if there is no node yet
+-- adding a cell, which is allowed only before the first node
 abbrev pub more_cells : List Cell → List Node → Cell → Option Draft
 more_cells cs [] c = Some (Start (cs ++ c ∷ []) [])
 more_cells cs (n ∷ ns) c = None
 
--- one more register row, if the code type has no queue row yet
+-- adding a register row, which is allowed only before the code type's first queue row
 abbrev pub more_regs : List Cell → List Node → List CodeType → CodeType → List (ℕ × ℕ) → RegType → Option Draft
 more_regs cs ns ts t [] r = Some (InType cs ns ts (with_reg t r))
 more_regs cs ns ts t (q ∷ qs) r = None
 
--- one more line
+-- adding a line
 abbrev pub next : Draft → Line → Option Draft
 next (Start cs ns) (lines.Cell c) = more_cells cs ns c
 next (Start cs ns) (lines.Node n) = Some (Start cs (ns ++ n ∷ []))
@@ -78,7 +78,7 @@ next (InBlock cs ns ts ps p) (lines.Code c) = Some (InBlock cs ns ts ps (with_co
 next (InBlock cs ns ts ps p) (lines.Entry b) = Some (Done (record { cells = cs; nodes = ns; types = ts; parts = ps ++ p ∷ []; entry = b }))
 next (Done l) line = None
 
--- some more lines
+-- adding several lines
 abbrev pub walk : Draft → List Line → Option Draft
 walk d [] = Some d
 walk d (line ∷ ls) = option_and_then (λ e. walk e ls) (next d line)

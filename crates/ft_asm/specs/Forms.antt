@@ -1,4 +1,4 @@
--- What words stand for, and what a first word and the kinds of the words after it make: private to the reader of lines.
+-- How words are read as values, and lines by rows (a first word, and the kinds of its operands): private to the reader.
 use Rattle.std.specs.Prelude.{ℕ, zero, suc, ◌^◌, ◌<◌, List, [], ◌∷◌, take, drop, Option, Some, None, option_map, option_and_then, nat_lt, ◌==◌, if◌then◌else◌, codes}
 use Rattle.std.specs.List.{AllByRecursion}
 use Rattle.std.specs.Str.{bytes_eq}
@@ -30,12 +30,12 @@ if_below limit n = if nat_lt n limit then Some n else None
 unfoldable pub below : ℕ → List ℕ → Option ℕ
 below limit word = option_and_then (if_below limit) (number_of word)
 
--- the register of a word
+-- the register that a word names
 unfoldable pub reg_in : List ℕ → Option Reg
 reg_in [] = None
 reg_in (byte ∷ bytes) = if byte == 114 then option_and_then reg_of (number_of bytes) else None
 
--- the colour of a word
+-- the colour that a word names
 unfoldable pub colour_in : List ℕ → Option Colour
 colour_in word = if bytes_eq word (codes "G") then Some Green else (if bytes_eq word (codes "B") then Some Blue else None)
 
@@ -43,22 +43,22 @@ colour_in word = if bytes_eq word (codes "G") then Some Green else (if bytes_eq 
 abbrev pub plain_basic : Base → Basic
 plain_basic base = record { refs = 0; base = base }
 
--- the base of a word
+-- the base that a word spells
 abbrev pub base_in : List ℕ → Option Base
 base_in word = if bytes_eq word (codes "int") then Some Int else (if bytes_eq (take 5 word) (codes "code:") then option_map bases.Code (below (2 ^ 16) (drop 5 word)) else None)
 
--- one more ref
+-- a basic type with one more ref
 abbrev pub one_more_ref : Basic → Basic
 one_more_ref basic = record { refs = suc basic.refs; base = basic.base }
 
--- the basic type of a word, with at most this many refs
+-- the basic type that a word spells, with at most this many refs
 unfoldable pub basic_in : ℕ → List ℕ → Option Basic
 basic_in zero word = option_map plain_basic (base_in word)
 basic_in (suc n) word = if bytes_eq (take 4 word) (codes "ref:") then option_map one_more_ref (basic_in n (drop 4 word)) else option_map plain_basic (base_in word)
 
 -- LISTS OF WORDS
 
--- a field of the first word, and the words after it
+-- the value of the first word, and the words after it
 abbrev pub taken : {A : Type 0} → (List ℕ → Option A) → List (List ℕ) → Option (A × List (List ℕ))
 taken read [] = None
 taken read (word ∷ words) = option_map (λ a. (a, words)) (read word)
@@ -68,7 +68,7 @@ abbrev pub ended : Line → List (List ℕ) → Option Line
 ended line [] = Some line
 ended line (word ∷ words) = None
 
--- the numbers of these words, each of 32 bits
+-- the 32-bit numbers that these words spell
 abbrev pub rows_in : List (List ℕ) → Option (List ℕ)
 rows_in [] = Some []
 rows_in (word ∷ words) = option_and_then (λ n. option_map (λ ns. n ∷ ns) (rows_in words)) (below (2 ^ 32) word)
@@ -94,7 +94,7 @@ Value OneWord = ℕ
 Value OneBasic = Basic
 Value OneName = List ℕ
 
--- the value of a word
+-- the value that a word spells, by its kind
 abbrev pub value_in : (k : Kind) → List ℕ → Option (Value k)
 value_in OneReg word = reg_in word
 value_in OneColour word = colour_in word
@@ -104,7 +104,7 @@ value_in OneWord word = below (2 ^ 64) word
 value_in OneBasic word = basic_in 255 word
 value_in OneName word = Some word
 
--- the number of an operand fits, and its name is a word
+-- an operand fits: a number is in range, a name is a word
 abbrev pub FitsOperand : Operand → Type 0
 FitsOperand (AByte n) = n < 2 ^ 8
 FitsOperand (AnIndex n) = n < 2 ^ 32
@@ -116,17 +116,17 @@ FitsOperand o = Unit {0}
 abbrev pub FitsOperands : Form → Type 0
 FitsOperands f = AllByRecursion FitsOperand f.operands
 
--- a function of a value of each of these kinds
+-- a function that takes a value of each of these kinds
 abbrev pub Taking : List Kind → Type 0 → Type 0
 Taking [] A = A
 Taking (k ∷ ks) A = Value k → Taking ks A
 
--- what the first words make, and the words after them
+-- the function applied to the values of the first words, and the words after them
 abbrev pub made_in : {A : Type 0} → (ks : List Kind) → Taking ks A → List (List ℕ) → Option (A × List (List ℕ))
 made_in [] made words = Some (made, words)
 made_in (k ∷ ks) made words = option_and_then (λ p. made_in ks (made p.0) p.1) (taken (value_in k) words)
 
--- a first word, the kinds of the operands after it, and what they make
+-- a first word, the kinds of the operands after it, and the function that combines their values
 pub record Row (A : Type 0) : Type 0 where
   pub first : List ℕ
   pub kinds : List Kind

@@ -21,7 +21,7 @@ is_block (places.InType ints memory) = false
 is_block places.InBlock = true
 is_block (places.Done b) = false
 
--- the tables are these
+-- the tables have these contents
 pub record IsTables (t : tables.Draft) (cs : List Cell) (ns : List Node) (ts : List CodeType) (ps : List Part) : Type 0 where
   pub cells : t.cells.items ≡ cs
   pub nodes : t.nodes.items ≡ ns
@@ -35,7 +35,7 @@ pub record AreRows (t : tables.Draft) (u : CodeType) : Type 0 where
   pub regs : t.regs.items ≡ u.regs
   pub queue : t.queue.items ≡ u.queue
 
--- no rows wait for their code type
+-- no rows are waiting for their code type
 pub record HasNoRows (t : tables.Draft) : Type 0 where
   pub regs : t.regs.items ≡ []
   pub queue : t.queue.items ≡ []
@@ -47,19 +47,19 @@ Holds t (InType cs ns ts u) = (t.place ≡ places.InType u.ints u.memory) × Are
 Holds t (InBlock cs ns ts ps p) = (t.place ≡ places.InBlock) × HasNoRows t × IsTables t cs ns ts (ps ++ p ∷ [])
 Holds t (Done l) = (t.place ≡ places.Done l.entry) × HasNoRows t × IsTables t l.cells l.nodes l.types l.parts
 
--- the tables hold what the lines say after one more, or that line is not allowed there
+-- the tables hold what the lines say with one more line, or that line is not allowed there
 abbrev pub Adds : Bool → tables.Draft → Draft → Line → Type 0
 Adds true t d line = (e : Draft) × (next d line ≡ Some e) × Holds t e
 Adds false t d line = next d line ≡ None
 
--- the listing that ends here, except for its entry block
+-- the listing if it ends here, without its entry block
 abbrev pub shut : Draft → Option Listing
 shut (Start cs ns) = Some (record { cells = cs; nodes = ns; types = []; parts = []; entry = 0 })
 shut (InType cs ns ts u) = Some (record { cells = cs; nodes = ns; types = ts ++ u ∷ []; parts = []; entry = 0 })
 shut (InBlock cs ns ts ps p) = Some (record { cells = cs; nodes = ns; types = ts; parts = ps ++ p ∷ []; entry = 0 })
 shut (Done l) = None
 
--- the tables are those of the listing that ends here, or the draft is done
+-- the tables are those of the listing if it ends here, or the draft is done
 abbrev pub Closes : Bool → tables.Draft → Draft → Type 0
 Closes true t d = (l : Listing) × (shut d ≡ Some l) × HasNoRows t × IsTables t l.cells l.nodes l.types l.parts
 Closes false t d = shut d ≡ None

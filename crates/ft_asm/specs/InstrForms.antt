@@ -1,4 +1,4 @@
--- The forms of instructions: how each is written, and, private to the reader of lines, the row by which it is read.
+-- The forms of instructions: how each is written, and by which row it is read. Rows are private to the line reader.
 use Rattle.std.specs.Prelude.{ℕ, List, [], ◌∷◌, codes, Option, Some, None, option_map, option_and_then}
 use Rattle.ft_isa.specs.Operations.{op_word, op_in}
 use Rattle.ft_isa.specs.declared.colour.Colour.{Colour}
@@ -40,7 +40,7 @@ instr_form (Idx rd rs first m) = form (codes "idx") (AReg rd ∷ AReg rs ∷ AnI
 
 -- THE READER'S ROWS
 
--- a substitution whose rows stand apart
+-- a substitution whose rows are kept separately
 abbrev pub no_rows : ℕ → Subst
 no_rows memory = record { first = 0; past = 0; memory = memory }
 
@@ -89,7 +89,7 @@ abbrev pub or_else : {A : Type 0} → Option A → Option A → Option A
 or_else None other = other
 or_else (Some a) other = Some a
 
--- an operation whose second operand is a register, or a word of a colour
+-- an operation whose second operand is a register or a coloured word
 abbrev pub op_code_in : Op → List (List ℕ) → Option (Instr × List (List ℕ))
 op_code_in op words = or_else (row_in (op_reg_row op) words) (row_in (op_word_row op) words)
 
@@ -104,7 +104,7 @@ transfer_in word words = among transfer_rows (λ r. row_in r words) word (op_lin
 abbrev pub instr_in : List ℕ → List (List ℕ) → Option (Instr × List (List ℕ))
 instr_in word words = among going_rows (λ r. row_in r words) word (transfer_in word words)
 
--- an instruction and its rows, which are the words that are left
+-- an instruction and its rows, which are the remaining words
 abbrev pub code_line : Instr → List ℕ → Line
 code_line i rows = lines.Code (record { instr = i; rows = rows })
 

@@ -41,24 +41,24 @@ line_words line = form_words (line_form line)
 
 -- WHAT FITS
 
--- an instruction whose substitution, where it carries one, has the rows between these places
+-- the instruction, with rows `first` up to `past` as those of its substitution, if it carries one
 abbrev pub placed : ℕ → ℕ → Instr → Instr
 placed first past (JmpB rd s) = JmpB rd (record { first = first; past = past; memory = s.memory })
 placed first past (BzB rz rd s) = BzB rz rd (record { first = first; past = past; memory = s.memory })
 placed first past i = i
 
--- the rows fit, and there are none where there is no substitution
+-- the rows fit; without a substitution there are none
 abbrev pub FitsRows : List ℕ → Option Subst → Type 0
 FitsRows rows None = rows ≡ []
 FitsRows rows (Some s) = AllByRecursion Is32 rows
 
--- the numbers of an instruction and of its rows fit; its own substitution has no rows, since they stand apart
+-- the numbers of an instruction and of its rows fit; its own substitution has no rows, since they are kept separately
 pub record FitsCode (code : Code) : Type 0 where
   pub instr : FitsInstr code.instr
   pub apart : placed 0 0 code.instr ≡ code.instr
   pub rows : FitsRows code.rows (subst_of code.instr)
 
--- the numbers of a line fit, and its name is a word
+-- the numbers of a line fit, and a cell's name is a word
 abbrev pub FitsLine : Line → Type 0
 FitsLine (lines.Cell c) = IsAnyWord c.name × FitsCell c
 FitsLine (lines.Node n) = FitsNode n
@@ -69,6 +69,6 @@ FitsLine (lines.Block t) = Is32 t
 FitsLine (lines.Code code) = FitsCode code
 FitsLine (lines.Entry b) = Is32 b
 
--- these words are those of the line
+-- the line fits, and these are its words
 abbrev pub IsForm : List (List ℕ) → Line → Type 0
 IsForm words line = FitsLine line × (words ≡ line_words line)

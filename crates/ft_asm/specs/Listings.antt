@@ -1,4 +1,4 @@
--- What a whole text says, in its order, and the object that it stands for.
+-- What a whole text says, in order, and the object that it denotes.
 use Rattle.std.specs.Prelude.{ℕ, ◌+◌, List, [], ◌∷◌, ◌++◌, length, map, slice_range, Option, Some, None}
 use Rattle.std.specs.List.{flat_map}
 use Rattle.ft_isa.specs.declared.instr.Instr.{Instr}
@@ -83,7 +83,7 @@ object_of l = record {
 
 -- THE LISTING OF AN OBJECT
 
--- the rows of a substitution, where there is one
+-- the rows of a substitution, if there is one
 abbrev pub rows_in : List ℕ → Option Subst → List ℕ
 rows_in substs None = []
 rows_in substs (Some s) = slice_range substs s.first s.past

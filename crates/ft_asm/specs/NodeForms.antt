@@ -1,4 +1,4 @@
--- The forms of nodes: how each is written, and, private to the reader of lines, the row by which it is read.
+-- The forms of nodes: how each is written, and by which row it is read. Rows are private to the line reader.
 use Rattle.std.specs.Prelude.{ℕ, List, [], ◌∷◌, codes, Option, option_and_then}
 use Rattle.ft_isa.specs.Operations.{op_word, op_in}
 use Rattle.ft_isa.specs.declared.op.Op.{Op}

@@ -35,7 +35,7 @@ basic_word basic = refs_word basic.refs basic.base
 
 -- WORDS OF A LINE
 
--- what a word stands for: a register, a colour, a number of 8, of 32 or of 64 bits, a basic type, or itself
+-- what a word denotes: a register, a colour, an 8-, 32- or 64-bit number, a basic type, or itself
 pub data Operand : Type 0 where
   AReg : Reg → Operand
   AColour : Colour → Operand
@@ -55,7 +55,7 @@ operand_word (AWord n) = decimal n
 operand_word (ABasic basic) = basic_word basic
 operand_word (AName name) = name
 
--- how a line is written: its first word, and its operands in their order
+-- how a line is written: its first word, and its operands in order
 pub record Form : Type 0 where
   pub first : List ℕ
   pub operands : List Operand

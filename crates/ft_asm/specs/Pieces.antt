@@ -1,4 +1,4 @@
--- The pieces of an object's text, as they are written one after the other: private to the disassembler.
+-- The pieces of an object's text, in the order in which they are written: private to the disassembler.
 use Rattle.std.specs.Prelude.{ℕ, ◌≤◌, List, ◌++◌, map, decimal, codes, length, slice_range, Option, Some, None}
 use Rattle.std.specs.List.{flat_map}
 use Rattle.ft_isa.specs.declared.instr.Instr.{Instr}
@@ -43,7 +43,7 @@ instr_text substs i = code_text (code_of substs i)
 abbrev pub row_text : ℕ → List ℕ
 row_text n = codes " " ++ decimal n
 
--- a block before others, with its instructions
+-- a block with its instructions, given the blocks after it
 abbrev pub part_of : Object → Block → List Block → Part
 part_of o b bs = record { code_type = b.code_type; codes = map (code_of o.substs) (slice_range o.instrs b.start (begins_at (length o.instrs) bs)) }
 

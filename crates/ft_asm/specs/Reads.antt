@@ -21,7 +21,7 @@ use Rattle.ft_asm.specs.Listings.{Listing, listing_lines, object_of, listing_of}
 abbrev pub Say : List (List ℕ) → Listing → Type 0
 Say texts listing = AllZip IsForm (said_in texts) (listing_lines listing)
 
--- the lines of the text, in the prescribed order, mean the tables of the object
+-- the lines of the text, in the prescribed order, denote the tables of the object
 pub record Reads (text : List ℕ) (object : Object) : Type 0 where
   pub listing : Listing
   pub said : Say (lines_of text) listing
@@ -80,8 +80,8 @@ pub record IsOrderFault (text : List ℕ) (number : ℕ) : Type 0 where
   pub is_form : IsForm (words_of stop.line) form
   pub none : ¬ (Begin (stop.before ++ stop.line ∷ []))
 
--- some text that reads as an object begins with all lines, but they do not form one: line `number`, after the last, is
--- missing
+-- some text that reads as an object begins with all lines of this text, which is itself incomplete: line `number`,
+-- after the last, is missing
 pub record Lacks (text : List ℕ) (number : ℕ) : Type 0 where
   pub here : number ≡ suc (length (lines_of text))
   pub begin : Begin (lines_of text)

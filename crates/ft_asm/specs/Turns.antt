@@ -9,7 +9,7 @@ use Rattle.ft_asm.specs.LineForms.{line_in}
 use Rattle.ft_asm.specs.Drafts.{Draft, next}
 use Rattle.ft_asm.specs.Held.{Holds}
 
--- the draft after a line: the same if the line says nothing, else the next one
+-- the draft after a line: unchanged if the line says nothing, else the next one
 abbrev pub Leads : Draft → List ℕ → Draft → Type 0
 Leads d line e = ((is_said (words_of line) ≡ false) × (d ≡ e)) ⊎ ((l : Line) × (is_said (words_of line) ≡ true) × (line_in (words_of line) ≡ Some l) × (next d l ≡ Some e))
 

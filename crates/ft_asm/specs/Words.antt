@@ -7,7 +7,7 @@ use Rattle.ft_text.specs.Lines.{with_byte}
 abbrev pub is_blank : ℕ → Bool
 is_blank byte = (byte == 32) || (byte == 9)
 
--- whether bytes make a word: there are some, and none of them is a blank or a line feed
+-- whether bytes form a word: there is at least one, and none is a blank or a line feed
 abbrev pub is_part : ℕ → Bool
 is_part byte = not (is_blank byte) && not (byte == 10)
 
@@ -22,12 +22,12 @@ abbrev pub pieces_of : List ℕ → List (List ℕ)
 pieces_of [] = [] ∷ []
 pieces_of (byte ∷ bytes) = if is_blank byte then [] ∷ pieces_of bytes else with_byte byte (pieces_of bytes)
 
--- a word and those after it; it is left out if it has no byte
+-- a word before others; it is left out if it is empty
 abbrev pub with_word : List ℕ → List (List ℕ) → List (List ℕ)
 with_word [] words = words
 with_word (byte ∷ bytes) words = (byte ∷ bytes) ∷ words
 
--- the pieces that have a byte
+-- the pieces that are not empty
 abbrev pub with_bytes : List (List ℕ) → List (List ℕ)
 with_bytes [] = []
 with_bytes (piece ∷ pieces) = with_word piece (with_bytes pieces)
@@ -46,7 +46,7 @@ abbrev pub is_said : List (List ℕ) → Bool
 is_said [] = false
 is_said (word ∷ words) = not (is_comment word)
 
--- the words of a line and of those after it; they are left out if they say nothing
+-- the words of a line before those of later lines; they are left out if they say nothing
 abbrev pub with_said : List (List ℕ) → List (List (List ℕ)) → List (List (List ℕ))
 with_said words lines = if is_said words then words ∷ lines else lines
 

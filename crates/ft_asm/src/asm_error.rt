@@ -9,7 +9,7 @@ pub enum AsmError {
     #[error("asm 1 {line}")]
     Text { line: u32 },
     /// The first line at fault has one of the forms, but no text that reads as an object begins with the lines up to
-    /// it. Or no line is at fault, and this one, after the last, is missing.
+    /// it. Or no line is at fault, but the text is incomplete: this line, after the last, is missing.
     #[error("asm 2 {line}")]
     Order { line: u32 },
     /// The text has more than 134,217,728 bytes.

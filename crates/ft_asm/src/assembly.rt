@@ -1,4 +1,4 @@
-//! Texts, read as objects.
+//! Reads texts as objects.
 ghost use Rattle.std.specs.Prelude.{◌≡◌, ◌≤◌, length, IfOk, IfErr};
 ghost use Rattle.ft_types.specs.Spellable.{IsSpellable};
 ghost use Rattle.ft_format.specs.declared.version.Version.TheVariants.{Second};
@@ -22,7 +22,7 @@ use std::alloc::Global;
 /// The maximum size of a text in bytes.
 const LIMIT: usize = 134_217_728;
 
-/// What a line does to the lines so far.
+/// How a line relates to the lines so far.
 enum Turn {
     /// It continues them.
     On,
@@ -32,7 +32,7 @@ enum Turn {
     Stuck,
 }
 
-/// Adds one more line.
+/// Adds a line to the draft.
 fn take_line(draft: &mut Draft, alloc: Global, line: &[u8]) -> Result<Turn, NoMemory>
     ensures { (d : drafts.Draft) → Holds draft.old d → IfOk result (λ turn. Turns turn draft.new d line.now) }
 {
@@ -49,7 +49,7 @@ fn take_line(draft: &mut Draft, alloc: Global, line: &[u8]) -> Result<Turn, NoMe
     }
 }
 
-/// The object whose tables a text means, whether or not they obey the rules of the format.
+/// The object whose tables a text denotes, whether or not they obey the rules of the format.
 fn read_tables(alloc: Global, text: &[u8]) -> Result<Object, AsmError>
     ensures few { IfOk result (λ object. length text.now ≤ 134217728) }
     ensures reads { IfOk result (Reads text.now) }
@@ -103,16 +103,16 @@ fn assemble_whole(alloc: Global, text: &[u8]) -> Result<Assembled, AsmError>
     }
 }
 
-/// The object that a text reads as; or the first line at fault; or the first rule of the format that the spelling of
-/// its tables breaks, with its place; or out of memory. The text is read in one pass, and the memory grows with its
-/// tables.
+/// Returns the object that a text reads as, or why the text is refused: its length, the first line at fault or missing,
+/// or the first rule of the format that the spelling of its tables breaks, with its place. It also fails if memory runs
+/// out. It makes one pass over the text, and its memory use grows with the text's tables.
 pub fn assemble(alloc: Global, text: &[u8]) -> Result<Object, AsmError>
     // The result is the object that the text reads as, and it obeys the rules.
     ensures reads { IfOk result (λ object. Applies text.now (Is object)) }
     ensures lawful { IfOk result IsSpellable }
     // A refusal is returned only if it applies to the text.
     ensures refused { IfErr result (IsRefusal text.now) }
-    // Whatever outcome the text has, it is returned, unless memory runs out.
+    // The outcome of the text is returned, unless memory runs out.
     ensures exact { (answer : Answer) → Applies text.now answer → Gives result answer }
 {
     match assemble_whole(alloc, text) {
@@ -121,14 +121,14 @@ pub fn assemble(alloc: Global, text: &[u8]) -> Result<Object, AsmError>
     }
 }
 
-/// The bytes of the object that a text reads as, in version 2 of the format; or why `assemble` refuses the text. The
-/// object is spelled once, and judged by this spelling.
+/// Returns the bytes, in version 2 of the format, of the object that a text reads as, or why `assemble` refuses the
+/// text. The object is spelled only once: the bytes that are judged are the bytes returned.
 pub fn assemble_bytes(alloc: Global, text: &[u8]) -> Result<Vec<u8>, AsmError>
-    // The result is the bytes of the object that the text reads as.
+    // The result is the spelling of the object that the text reads as.
     ensures reads { IfOk result (λ bytes. IsAssembly text.now bytes.items) }
     // A refusal is returned only if it applies to the text.
     ensures refused { IfErr result (IsRefusal text.now) }
-    // Whatever outcome the text has, it is returned, unless memory runs out.
+    // The outcome of the text is returned, unless memory runs out.
     ensures exact { (answer : Answer) → Applies text.now answer → GivesBytes result answer }
 {
     match assemble_whole(alloc, text) {

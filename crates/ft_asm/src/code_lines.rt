@@ -1,4 +1,4 @@
-//! The lines of instructions: an instruction's words, and then the rows of the substitution that it carries.
+//! The lines of instructions: an instruction's words, then the rows of the substitution that it carries.
 ghost use Rattle.std.specs.Prelude.{◌≡◌, ◌≤◌, ◌++◌, length, slice_range, option_map, OnOk, IfOk};
 ghost use Rattle.std.specs.List.{flat_map};
 ghost use Rattle.ft_types.specs.Spellable.{subst_of};
@@ -30,7 +30,7 @@ fn carried(instr: Instr) -> Option<Subst>
     }
 }
 
-/// The rows of a substitution; `None` if a word is not one.
+/// Reads the rows of a substitution; `None` if some word is not a row.
 fn rows_of(alloc: Global, text: &[u8]) -> Result<Option<Vec<u32>>, NoMemory>
     ensures { IfOk result (λ o. rows_in (words_of text.now) ≡ option_map (λ rows. rows.items) o) }
 {
@@ -46,7 +46,7 @@ fn rows_of(alloc: Global, text: &[u8]) -> Result<Option<Vec<u32>>, NoMemory>
     Ok(Some(rows))
 }
 
-/// An instruction by its first word.
+/// Reads the line of an instruction, given its first word.
 pub(crate) fn code_of(alloc: Global, word: &[u8], text: &[u8]) -> Result<Option<Line>, NoMemory>
     ensures { IfOk result (λ line. line ≡ code_in word.now (words_of text.now)) }
 {
@@ -95,7 +95,7 @@ fn put_words<P: Program>(out: &mut Vec<u8>, program: &P, instr: Instr) -> Result
     Ok(())
 }
 
-/// The line of an instruction.
+/// Appends the line of an instruction.
 pub(crate) fn put_code<P: Program>(
     out: &mut Vec<u8>,
     program: &P,

@@ -1,4 +1,4 @@
-//! Objects, written as texts.
+//! Writes objects as texts.
 ghost use Rattle.std.specs.Prelude.{◌≡◌, ◌≤◌, ◌<◌, ◌+◌, ◌++◌, ℕ, length, drop, map, slice_get, slice_range, Some, IfOk, OnOk};
 ghost use Rattle.std.specs.List.{flat_map};
 ghost use Rattle.ft_types.specs.Objects.{reg_rows, queue_rows};
@@ -152,11 +152,11 @@ fn put_parts<P: Program>(out: &mut Vec<u8>, program: &P) -> Result<(), NoMemory>
     Ok(())
 }
 
-/// The text of an object.
+/// Writes the text of an object.
 pub fn disassemble<P: Program>(alloc: Global, program: &P) -> Result<Vec<u8>, NoMemory>
     requires { IsSpellable (P.object program.now) }
     ensures text { IfOk result (λ text. text.items ≡ text_of (P.object program.now)) }
-    // It reads as this object and no other.
+    // The text reads as this object and no other.
     ensures reads { IfOk result (λ text. Reads text.items (P.object program.now)) }
     ensures only { IfOk result (λ text. (other : Object) → Reads text.items other → other ≡ P.object program.now) }
 {

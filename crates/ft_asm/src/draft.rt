@@ -1,4 +1,4 @@
-//! What the lines so far say, as tables.
+//! The tables built from the lines so far.
 ghost use Rattle.std.specs.Prelude.{◌≡◌, IfOk};
 ghost use Rattle.ft_asm.specs.Drafts as drafts;
 ghost use Rattle.std.specs.Prelude.{[]};
@@ -13,7 +13,7 @@ use ft_types::{Block, Cell, CodeType, Object, RegType, Table};
 use std::alloc::Global;
 use std::mem;
 
-/// Where the lines so far stopped.
+/// The part of the text in which the lines so far end.
 #[derive(Clone, Copy)]
 pub(crate) enum Place {
     /// Before the first code type.
@@ -26,7 +26,7 @@ pub(crate) enum Place {
     Done(u32),
 }
 
-/// What the lines so far say.
+/// The tables built from the lines so far.
 #[derive(Drop)]
 pub(crate) struct Draft {
     place: Place,
@@ -40,7 +40,7 @@ pub(crate) struct Draft {
     substs: Vec<u32>,
 }
 
-/// An instruction whose substitution, where it carries one, has the rows between these places.
+/// The instruction, with rows `first` up to `past` as those of its substitution, if it carries one.
 fn with_places(instr: Instr, first: u32, past: u32) -> Instr
     ensures { result ≡ placed first past instr }
 {
@@ -66,7 +66,7 @@ fn with_places(instr: Instr, first: u32, past: u32) -> Instr
 }
 
 impl Draft {
-    /// No line yet.
+    /// A draft before the first line.
     pub(crate) fn new(alloc: Global) -> Draft
         ensures { Holds result (drafts.Start [] []) }
     {
@@ -83,7 +83,7 @@ impl Draft {
         }
     }
 
-    /// One more cell; `false` if none is allowed here.
+    /// Adds a cell; `false` if none is allowed here.
     fn add_cell(&mut self, cell: Cell) -> Result<bool, NoMemory>
         ensures { (d : drafts.Draft) → Holds self.old d → IfOk result (λ taken. Adds taken self.new d (lines.Cell cell)) }
     {
@@ -97,7 +97,7 @@ impl Draft {
         Ok(true)
     }
 
-    /// One more node; `false` if none is allowed here.
+    /// Adds a node; `false` if none is allowed here.
     fn add_node(&mut self, node: Node) -> Result<bool, NoMemory>
         ensures { (d : drafts.Draft) → Holds self.old d → IfOk result (λ taken. Adds taken self.new d (lines.Node node)) }
     {
@@ -138,7 +138,7 @@ impl Draft {
         matches!(self.place, Place::InBlock)
     }
 
-    /// One more code type; `false` if none is allowed here.
+    /// Adds a code type; `false` if none is allowed here.
     fn add_type(&mut self, alloc: Global, ints: u8, memory: u32) -> Result<bool, NoMemory>
         ensures { (d : drafts.Draft) → Holds self.old d → IfOk result (λ taken. Adds taken self.new d (lines.Type ints memory)) }
     {
@@ -152,7 +152,7 @@ impl Draft {
         Ok(true)
     }
 
-    /// One more register row; `false` if none is allowed here.
+    /// Adds a register row; `false` if none is allowed here.
     fn add_reg(&mut self, row: RegType) -> Result<bool, NoMemory>
         ensures { (d : drafts.Draft) → Holds self.old d → IfOk result (λ taken. Adds taken self.new d (lines.Reg row)) }
     {
@@ -166,7 +166,7 @@ impl Draft {
         Ok(true)
     }
 
-    /// One more queue row; `false` if none is allowed here.
+    /// Adds a queue row; `false` if none is allowed here.
     fn add_pend(&mut self, address: u32, value: u32) -> Result<bool, NoMemory>
         ensures { (d : drafts.Draft) → Holds self.old d → IfOk result (λ taken. Adds taken self.new d (lines.Pend address value)) }
     {
@@ -177,7 +177,7 @@ impl Draft {
         Ok(true)
     }
 
-    /// One more block; `false` if none is allowed here.
+    /// Adds a block; `false` if none is allowed here.
     fn add_block(&mut self, alloc: Global, code_type: u32) -> Result<bool, NoMemory>
         ensures { (d : drafts.Draft) → Holds self.old d → IfOk result (λ taken. Adds taken self.new d (lines.Block code_type)) }
     {
@@ -193,7 +193,7 @@ impl Draft {
         Ok(true)
     }
 
-    /// The entry block; `false` if it is not allowed here.
+    /// Sets the entry block; `false` if it is not allowed here.
     fn add_entry(&mut self, alloc: Global, block: u32) -> Result<bool, NoMemory>
         ensures { (d : drafts.Draft) → Holds self.old d → IfOk result (λ taken. Adds taken self.new d (lines.Entry block)) }
     {
@@ -204,7 +204,7 @@ impl Draft {
         Ok(true)
     }
 
-    /// Appends the rows of a line's instruction, and returns the instruction with their places.
+    /// Appends the rows of an instruction's line, and returns the instruction with their bounds.
     fn placed(&mut self, code: Code) -> Result<Instr, NoMemory>
         ensures { IfOk result (PutsCode self.old self.new code) }
     {
@@ -218,7 +218,7 @@ impl Draft {
         Ok(with_places(code.instr, first, past))
     }
 
-    /// One more instruction; `false` if none is allowed here.
+    /// Adds an instruction; `false` if none is allowed here.
     fn add_code(&mut self, code: Code) -> Result<bool, NoMemory>
         ensures { (d : drafts.Draft) → Holds self.old d → IfOk result (λ taken. Adds taken self.new d (lines.Code code)) }
     {
@@ -230,7 +230,7 @@ impl Draft {
         Ok(true)
     }
 
-    /// One more line; `false` if it is not allowed here.
+    /// Adds a line; `false` if it is not allowed here.
     pub(crate) fn add(&mut self, alloc: Global, line: Line) -> Result<bool, NoMemory>
         ensures { (d : drafts.Draft) → Holds self.old d → IfOk result (λ taken. Adds taken self.new d line) }
     {

@@ -1,4 +1,4 @@
-//! Fields: words that are read as a value.
+//! Fields: words, each read as a value.
 ghost use Rattle.std.specs.Prelude.{◌≡◌, ◌≤◌, ◌^◌, option_map, IfSome};
 ghost use Rattle.std.specs.Str.{bytes_eq};
 ghost use Rattle.ft_asm.specs.Words.{words_of};
@@ -68,7 +68,7 @@ fn word_of(word: &[u8]) -> Option<u64>
     number_of(word)
 }
 
-/// The register of a word.
+/// The register that a word names.
 #[tactic(auto, unfolding(crate::specs::Forms::reg_in))]
 pub(crate) fn reg_of(word: &[u8]) -> Option<Reg>
     ensures { result ≡ reg_in word.now }
@@ -93,7 +93,7 @@ pub(crate) fn is_same(a: &[u8], b: &[u8]) -> bool
     a == b
 }
 
-/// The colour of a word.
+/// The colour that a word names.
 #[tactic(auto, unfolding(crate::specs::Forms::colour_in))]
 pub(crate) fn colour_of(word: &[u8]) -> Option<Colour>
     ensures { result ≡ colour_in word.now }
@@ -107,7 +107,7 @@ pub(crate) fn colour_of(word: &[u8]) -> Option<Colour>
     None
 }
 
-/// The base of a word.
+/// The base that a word spells.
 fn base_of(word: &[u8]) -> Option<Base>
     ensures { result ≡ base_in word.now }
 {
@@ -123,7 +123,7 @@ fn base_of(word: &[u8]) -> Option<Base>
     Some(Base::Code(code_type))
 }
 
-/// A register, and the text after its word.
+/// Reads a register; returns it and the text after its word.
 pub(crate) fn take_reg(text: &[u8]) -> Option<(Reg, &[u8])>
     ensures { taken reg_in (words_of text.now) ≡ option_map (λ p. (p.0, words_of p.1.now)) result }
 {
@@ -136,7 +136,7 @@ pub(crate) fn take_reg(text: &[u8]) -> Option<(Reg, &[u8])>
     Some((reg, rest))
 }
 
-/// A colour, and the text after its word.
+/// Reads a colour; returns it and the text after its word.
 pub(crate) fn take_colour(text: &[u8]) -> Option<(Colour, &[u8])>
     ensures { taken colour_in (words_of text.now) ≡ option_map (λ p. (p.0, words_of p.1.now)) result }
 {
@@ -149,7 +149,7 @@ pub(crate) fn take_colour(text: &[u8]) -> Option<(Colour, &[u8])>
     Some((colour, rest))
 }
 
-/// A number of 32 bits, and the text after its word.
+/// Reads a 32-bit number; returns it and the text after its word.
 pub(crate) fn take_index(text: &[u8]) -> Option<(u32, &[u8])>
     ensures { taken (below (2 ^ 32)) (words_of text.now) ≡ option_map (λ p. (p.0, words_of p.1.now)) result }
 {
@@ -162,7 +162,7 @@ pub(crate) fn take_index(text: &[u8]) -> Option<(u32, &[u8])>
     Some((index, rest))
 }
 
-/// The basic type of a word, with at most this many refs.
+/// The basic type that a word spells, with at most this many refs.
 #[tactic(auto, unfolding(crate::specs::Forms::basic_in))]
 fn basic_within(room: u8, word: &[u8]) -> Option<Basic>
     ensures basic { result ≡ basic_in room word.now }
@@ -189,7 +189,7 @@ fn basic_within(room: u8, word: &[u8]) -> Option<Basic>
     })
 }
 
-/// A number of 8 bits, and the text after its word.
+/// Reads an 8-bit number; returns it and the text after its word.
 pub(crate) fn take_byte(text: &[u8]) -> Option<(u8, &[u8])>
     ensures { taken (below (2 ^ 8)) (words_of text.now) ≡ option_map (λ p. (p.0, words_of p.1.now)) result }
 {
@@ -202,7 +202,7 @@ pub(crate) fn take_byte(text: &[u8]) -> Option<(u8, &[u8])>
     Some((value, rest))
 }
 
-/// A number of 64 bits, and the text after its word.
+/// Reads a 64-bit number; returns it and the text after its word.
 pub(crate) fn take_word(text: &[u8]) -> Option<(u64, &[u8])>
     ensures { taken (below (2 ^ 64)) (words_of text.now) ≡ option_map (λ p. (p.0, words_of p.1.now)) result }
 {
@@ -215,7 +215,7 @@ pub(crate) fn take_word(text: &[u8]) -> Option<(u64, &[u8])>
     Some((value, rest))
 }
 
-/// A basic type, and the text after its word.
+/// Reads a basic type; returns it and the text after its word.
 pub(crate) fn take_basic(text: &[u8]) -> Option<(Basic, &[u8])>
     ensures { taken (basic_in 255) (words_of text.now) ≡ option_map (λ p. (p.0, words_of p.1.now)) result }
 {

@@ -1,4 +1,4 @@
-//! Lines by their first words.
+//! Reads lines by their first words.
 ghost use Rattle.std.specs.Prelude.{◌≡◌, IfOk};
 ghost use Rattle.ft_asm.specs.Words.{words_of};
 ghost use Rattle.ft_asm.specs.LineForms.{all_in, cell_row, type_row, reg_row, pend_row, block_row, entry_row, line_with};
@@ -15,7 +15,7 @@ use ft_isa::NoMemory;
 use ft_types::{Cell, RegType, Table};
 use std::alloc::Global;
 
-/// A cell.
+/// Reads a cell.
 fn cell_of(alloc: Global, text: &[u8]) -> Result<Option<Line>, NoMemory>
     ensures { IfOk result (λ line. line ≡ all_in cell_row (words_of text.now)) }
 {
@@ -34,7 +34,7 @@ fn cell_of(alloc: Global, text: &[u8]) -> Result<Option<Line>, NoMemory>
     Ok(end(text, Line::Cell(Cell { name, basic, init })))
 }
 
-/// A code type.
+/// Reads a code type.
 fn type_of(text: &[u8]) -> Option<Line>
     ensures { result ≡ all_in type_row (words_of text.now) }
 {
@@ -43,7 +43,7 @@ fn type_of(text: &[u8]) -> Option<Line>
     end(text, Line::Type { ints, memory })
 }
 
-/// A register row.
+/// Reads a register row.
 fn reg_row_of(text: &[u8]) -> Option<Line>
     ensures { result ≡ all_in reg_row (words_of text.now) }
 {
@@ -62,7 +62,7 @@ fn reg_row_of(text: &[u8]) -> Option<Line>
     )
 }
 
-/// A queue row.
+/// Reads a queue row.
 fn pend_of(text: &[u8]) -> Option<Line>
     ensures { result ≡ all_in pend_row (words_of text.now) }
 {
@@ -71,7 +71,7 @@ fn pend_of(text: &[u8]) -> Option<Line>
     end(text, Line::Pend { address, value })
 }
 
-/// A block.
+/// Reads a block.
 fn block_of(text: &[u8]) -> Option<Line>
     ensures { result ≡ all_in block_row (words_of text.now) }
 {
@@ -79,7 +79,7 @@ fn block_of(text: &[u8]) -> Option<Line>
     end(text, Line::Block(code_type))
 }
 
-/// The entry block.
+/// Reads the entry block.
 fn entry_of(text: &[u8]) -> Option<Line>
     ensures { result ≡ all_in entry_row (words_of text.now) }
 {
@@ -87,7 +87,7 @@ fn entry_of(text: &[u8]) -> Option<Line>
     end(text, Line::Entry(block))
 }
 
-/// A line by its first word.
+/// Reads a line, given its first word.
 fn line_of(alloc: Global, word: &[u8], text: &[u8]) -> Result<Option<Line>, NoMemory>
     ensures { IfOk result (λ line. line ≡ line_with word.now (words_of text.now)) }
 {
@@ -125,7 +125,7 @@ pub(crate) enum Said {
     Bad,
 }
 
-/// What a line says.
+/// Reads what a line says.
 pub(crate) fn read_form(alloc: Global, line: &[u8]) -> Result<Said, NoMemory>
     ensures { IfOk result (Says (words_of line.now)) }
 {

@@ -1,4 +1,4 @@
-//! The forms of instructions: read after their first word, and written.
+//! Reads instructions after their first word, and writes them.
 ghost use Rattle.std.specs.Prelude.{◌≡◌, ◌++◌, ◌∷◌, [], decimal, option_map, OnOk};
 ghost use Rattle.ft_isa.specs.declared.instr.Instr.TheVariants as instrs;
 ghost use Rattle.ft_asm.specs.Words.{words_of};
@@ -11,7 +11,7 @@ use crate::fields::{is_same, take_basic, take_colour, take_index, take_reg, take
 use crate::writing::{put, put_basic, put_colour, put_number, put_op, put_reg};
 use ft_isa::{Basic, Colour, Coloured, Instr, NoMemory, Op, Reg, Subst};
 
-/// An operation on two registers, and the text after its words.
+/// Reads an operation on two registers; returns it and the text after its words.
 fn op_reg_of(op: Op, text: &[u8]) -> Option<(Instr, &[u8])>
     ensures { row_in (op_reg_row op) (words_of text.now) ≡ option_map (λ p. (p.0, words_of p.1.now)) result }
 {
@@ -21,7 +21,7 @@ fn op_reg_of(op: Op, text: &[u8]) -> Option<(Instr, &[u8])>
     Some((Instr::OpReg { op, rd, rs, rt }, text))
 }
 
-/// An operation with a word.
+/// Reads an operation on a register and a word.
 fn op_word_of(op: Op, text: &[u8]) -> Option<(Instr, &[u8])>
     ensures { row_in (op_word_row op) (words_of text.now) ≡ option_map (λ p. (p.0, words_of p.1.now)) result }
 {
@@ -33,7 +33,7 @@ fn op_word_of(op: Op, text: &[u8]) -> Option<(Instr, &[u8])>
     Some((Instr::OpWord { op, rd, rs, value }, text))
 }
 
-/// An operation.
+/// Reads an operation.
 fn op_code_of(op: Op, text: &[u8]) -> Option<(Instr, &[u8])>
     ensures { op_code_in op (words_of text.now) ≡ option_map (λ p. (p.0, words_of p.1.now)) result }
 {
@@ -43,7 +43,7 @@ fn op_code_of(op: Op, text: &[u8]) -> Option<(Instr, &[u8])>
     }
 }
 
-/// An operation by its first word.
+/// Reads an operation, given its first word.
 fn op_line_of<'t>(word: &[u8], text: &'t [u8]) -> Option<(Instr, &'t [u8])>
     ensures { op_line_in word.now (words_of text.now) ≡ option_map (λ p. (p.0, words_of p.1.now)) result }
 {
@@ -53,7 +53,7 @@ fn op_line_of<'t>(word: &[u8], text: &'t [u8]) -> Option<(Instr, &'t [u8])>
     op_code_of(op, text)
 }
 
-/// A `mov`.
+/// Reads a `mov`.
 fn mov_of(text: &[u8]) -> Option<(Instr, &[u8])>
     ensures { row_in mov_row (words_of text.now) ≡ option_map (λ p. (p.0, words_of p.1.now)) result }
 {
@@ -65,7 +65,7 @@ fn mov_of(text: &[u8]) -> Option<(Instr, &[u8])>
     Some((Instr::Mov { rd, value, basic }, text))
 }
 
-/// An `idx`.
+/// Reads an `idx`.
 fn idx_of(text: &[u8]) -> Option<(Instr, &[u8])>
     ensures { row_in idx_row (words_of text.now) ≡ option_map (λ p. (p.0, words_of p.1.now)) result }
 {
@@ -82,7 +82,7 @@ fn idx_of(text: &[u8]) -> Option<(Instr, &[u8])>
     Some((instr, text))
 }
 
-/// A load.
+/// Reads a load.
 fn ld_of(colour: Colour, text: &[u8]) -> Option<(Instr, &[u8])>
     ensures { row_in (ld_row colour) (words_of text.now) ≡ option_map (λ p. (p.0, words_of p.1.now)) result }
 {
@@ -91,7 +91,7 @@ fn ld_of(colour: Colour, text: &[u8]) -> Option<(Instr, &[u8])>
     Some((Instr::Ld { colour, rd, rs }, text))
 }
 
-/// A store.
+/// Reads a store.
 fn st_of(colour: Colour, text: &[u8]) -> Option<(Instr, &[u8])>
     ensures { row_in (st_row colour) (words_of text.now) ≡ option_map (λ p. (p.0, words_of p.1.now)) result }
 {
@@ -100,7 +100,7 @@ fn st_of(colour: Colour, text: &[u8]) -> Option<(Instr, &[u8])>
     Some((Instr::St { colour, rd, rs }, text))
 }
 
-/// A green jump.
+/// Reads a green jump.
 fn jmp_green_of(text: &[u8]) -> Option<(Instr, &[u8])>
     ensures { row_in jmp_green_row (words_of text.now) ≡ option_map (λ p. (p.0, words_of p.1.now)) result }
 {
@@ -108,7 +108,7 @@ fn jmp_green_of(text: &[u8]) -> Option<(Instr, &[u8])>
     Some((Instr::JmpG { rd }, text))
 }
 
-/// A blue jump, before its rows.
+/// Reads a blue jump without its rows.
 fn jmp_blue_of(text: &[u8]) -> Option<(Instr, &[u8])>
     ensures { row_in jmp_blue_row (words_of text.now) ≡ option_map (λ p. (p.0, words_of p.1.now)) result }
 {
@@ -122,7 +122,7 @@ fn jmp_blue_of(text: &[u8]) -> Option<(Instr, &[u8])>
     Some((Instr::JmpB { rd, subst }, text))
 }
 
-/// A green branch.
+/// Reads a green branch.
 fn bz_green_of(text: &[u8]) -> Option<(Instr, &[u8])>
     ensures { row_in bz_green_row (words_of text.now) ≡ option_map (λ p. (p.0, words_of p.1.now)) result }
 {
@@ -131,7 +131,7 @@ fn bz_green_of(text: &[u8]) -> Option<(Instr, &[u8])>
     Some((Instr::BzG { rz, rd }, text))
 }
 
-/// A blue branch, before its rows.
+/// Reads a blue branch without its rows.
 fn bz_blue_of(text: &[u8]) -> Option<(Instr, &[u8])>
     ensures { row_in bz_blue_row (words_of text.now) ≡ option_map (λ p. (p.0, words_of p.1.now)) result }
 {
@@ -146,7 +146,7 @@ fn bz_blue_of(text: &[u8]) -> Option<(Instr, &[u8])>
     Some((Instr::BzB { rz, rd, subst }, text))
 }
 
-/// A jump, a branch, `halt` or an operation, by its first word.
+/// Reads a jump, a branch, `halt` or an operation, given its first word.
 fn transfer_of<'t>(word: &[u8], text: &'t [u8]) -> Option<(Instr, &'t [u8])>
     ensures { transfer_in word.now (words_of text.now) ≡ option_map (λ p. (p.0, words_of p.1.now)) result }
 {
@@ -168,7 +168,7 @@ fn transfer_of<'t>(word: &[u8], text: &'t [u8]) -> Option<(Instr, &'t [u8])>
     op_line_of(word, text)
 }
 
-/// An instruction by its first word, and the text after its operands.
+/// Reads an instruction, given its first word; returns it and the text after its operands.
 pub(crate) fn instr_of<'t>(word: &[u8], text: &'t [u8]) -> Option<(Instr, &'t [u8])>
     ensures { instr_in word.now (words_of text.now) ≡ option_map (λ p. (p.0, words_of p.1.now)) result }
 {

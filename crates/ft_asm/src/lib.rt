@@ -1,10 +1,9 @@
 //! Assembly text: objects as lines of words.
 //!
-//! The crate promises that `assemble` returns the one object that a text spells, or refuses the text
-//! exactly, and that `disassemble` writes the text of an object, which spells that object and no other.
-//! `specs/Words.antt`, `specs/Lines.antt` and `specs/Listings.antt` say what lines mean, `NodeForms` and
-//! `InstrForms` those of nodes and instructions, `specs/Reads.antt` which text spells which object and why a
-//! text is refused.
+//! The crate promises that `assemble` returns the one object that a text spells, or the exact reason why the text is
+//! refused, and that `disassemble` writes a text that spells the given object and no other. `specs/Words.antt`,
+//! `specs/Lines.antt` and `specs/Listings.antt` say what lines mean; `NodeForms` and `InstrForms` say it for the lines
+//! of nodes and instructions. `specs/Reads.antt` says which text spells which object and why a text is refused.
 #![tactic(auto)]
 
 mod asm_error;

@@ -3,8 +3,8 @@ use ft_isa::Instr;
 use ft_static::Node;
 use ft_types::{Cell, RegType, Table};
 
-/// An instruction as a line says it. The rows of its substitution are nodes, kept beside it, so `first`
-/// and `past` of its own substitution are 0.
+/// An instruction as its line gives it. The rows of its substitution are nodes, kept in `rows`, so `first` and `past`
+/// in `instr` are 0.
 #[derive(Drop)]
 pub struct Code {
     pub instr: Instr,
@@ -24,7 +24,7 @@ pub enum Line {
     Reg(RegType),
     /// A queue row of the last type: the nodes of an address and of a value.
     Pend { address: u32, value: u32 },
-    /// A block of a code type, which begins here.
+    /// The start of a block of this code type.
     Block(u32),
     /// An instruction.
     Code(Code),

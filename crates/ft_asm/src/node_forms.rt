@@ -1,4 +1,4 @@
-//! The lines of nodes: read after their first word, and written.
+//! Reads the lines of nodes after their first word, and writes them.
 ghost use Rattle.std.specs.Prelude.{◌≡◌, [], ◌∷◌, ◌++◌, decimal, option_map, OnOk};
 ghost use Rattle.ft_asm.specs.Words.{words_of};
 ghost use Rattle.ft_asm.specs.Operands.{form_words};
@@ -14,7 +14,7 @@ use crate::writing::{put, put_number, put_op};
 use ft_isa::{NoMemory, Op};
 use ft_static::{Node, Shape};
 
-/// A word node, and the text after its words.
+/// Reads a word node; returns it and the text after its words.
 fn word_shape(text: &[u8]) -> Option<(Shape, &[u8])>
     ensures { row_in word_row (words_of text.now) ≡ option_map (λ p. (p.0, words_of p.1.now)) result }
 {
@@ -22,7 +22,7 @@ fn word_shape(text: &[u8]) -> Option<(Shape, &[u8])>
     Some((Shape::Word(word), text))
 }
 
-/// A variable node.
+/// Reads a variable node.
 fn var_shape(text: &[u8]) -> Option<(Shape, &[u8])>
     ensures { row_in var_row (words_of text.now) ≡ option_map (λ p. (p.0, words_of p.1.now)) result }
 {
@@ -30,7 +30,7 @@ fn var_shape(text: &[u8]) -> Option<(Shape, &[u8])>
     Some((Shape::Var(i), text))
 }
 
-/// A node that is this operation.
+/// Reads a node of this operation.
 fn op_shape_of(op: Op, text: &[u8]) -> Option<(Shape, &[u8])>
     ensures { row_in (op_shape_row op) (words_of text.now) ≡ option_map (λ p. (p.0, words_of p.1.now)) result }
 {
@@ -39,7 +39,7 @@ fn op_shape_of(op: Op, text: &[u8]) -> Option<(Shape, &[u8])>
     Some((Shape::Op { op, a, b }, text))
 }
 
-/// A node that is an operation, by its word.
+/// Reads an operation node, given its word.
 fn op_shape<'t>(word: &[u8], text: &'t [u8]) -> Option<(Shape, &'t [u8])>
     ensures { op_shape_in word.now (words_of text.now) ≡ option_map (λ p. (p.0, words_of p.1.now)) result }
 {
@@ -49,7 +49,7 @@ fn op_shape<'t>(word: &[u8], text: &'t [u8]) -> Option<(Shape, &'t [u8])>
     op_shape_of(op, text)
 }
 
-/// A `sel` node.
+/// Reads a `sel` node.
 fn sel_shape(text: &[u8]) -> Option<(Shape, &[u8])>
     ensures { row_in sel_row (words_of text.now) ≡ option_map (λ p. (p.0, words_of p.1.now)) result }
 {
@@ -58,7 +58,7 @@ fn sel_shape(text: &[u8]) -> Option<(Shape, &[u8])>
     Some((Shape::Sel { memory, at }, text))
 }
 
-/// An `upd` node.
+/// Reads an `upd` node.
 fn upd_shape(text: &[u8]) -> Option<(Shape, &[u8])>
     ensures { row_in upd_row (words_of text.now) ≡ option_map (λ p. (p.0, words_of p.1.now)) result }
 {
@@ -68,7 +68,7 @@ fn upd_shape(text: &[u8]) -> Option<(Shape, &[u8])>
     Some((Shape::Upd { memory, at, value }, text))
 }
 
-/// A `rem` node.
+/// Reads a `rem` node.
 fn rem_shape(text: &[u8]) -> Option<(Shape, &[u8])>
     ensures { row_in rem_row (words_of text.now) ≡ option_map (λ p. (p.0, words_of p.1.now)) result }
 {
@@ -77,7 +77,7 @@ fn rem_shape(text: &[u8]) -> Option<(Shape, &[u8])>
     Some((Shape::Rem { a, length }, text))
 }
 
-/// A node by the word after its scope.
+/// Reads a node, given the word after its scope.
 fn shape_of<'t>(word: &[u8], text: &'t [u8]) -> Option<(Shape, &'t [u8])>
     ensures { shape_in word.now (words_of text.now) ≡ option_map (λ p. (p.0, words_of p.1.now)) result }
 {
@@ -102,7 +102,7 @@ fn shape_of<'t>(word: &[u8], text: &'t [u8]) -> Option<(Shape, &'t [u8])>
     op_shape(word, text)
 }
 
-/// A node.
+/// Reads a node.
 pub(crate) fn node_of(text: &[u8]) -> Option<Line>
     ensures { result ≡ node_in (words_of text.now) }
 {
@@ -157,7 +157,7 @@ fn put_shape(out: &mut Vec<u8>, shape: Shape) -> Result<(), NoMemory>
     }
 }
 
-/// The line of a node.
+/// Appends the line of a node.
 pub(crate) fn put_node(out: &mut Vec<u8>, node: Node) -> Result<(), NoMemory>
     ensures { OnOk result (out.new.items ≡ out.old.items ++ line_text (lines.Node node)) }
 {

@@ -1,4 +1,4 @@
-//! Lines, written: all but those of nodes and instructions.
+//! Writes lines, except those of nodes and instructions.
 ghost use Rattle.std.specs.Prelude.{◌≡◌, ◌++◌, decimal, OnOk};
 ghost use Rattle.ft_isa.specs.Operations.{op_word};
 ghost use Rattle.ft_asm.specs.Operands.{reg_word, colour_word, basic_word, base_word};
@@ -73,7 +73,7 @@ pub(crate) fn put_basic(out: &mut Vec<u8>, basic: Basic) -> Result<(), NoMemory>
     put_base(out, basic.base)
 }
 
-/// The line of a cell.
+/// Appends the line of a cell.
 pub(crate) fn put_cell(
     out: &mut Vec<u8>,
     name: &[u8],
@@ -91,7 +91,7 @@ pub(crate) fn put_cell(
     put(out, b"\n")
 }
 
-/// The line of a code type.
+/// Appends the line of a code type.
 pub(crate) fn put_type(out: &mut Vec<u8>, ints: u8, memory: u32) -> Result<(), NoMemory>
     ensures { OnOk result (out.new.items ≡ out.old.items ++ line_text (lines.Type ints memory)) }
 {
@@ -102,7 +102,7 @@ pub(crate) fn put_type(out: &mut Vec<u8>, ints: u8, memory: u32) -> Result<(), N
     put(out, b"\n")
 }
 
-/// The first words of a register row.
+/// Appends the first words of a register row.
 fn put_reg_head(out: &mut Vec<u8>, reg: Reg, colour: Colour) -> Result<(), NoMemory>
     ensures { OnOk result (out.new.items ≡ out.old.items ++ reg_head reg colour) }
 {
@@ -113,7 +113,7 @@ fn put_reg_head(out: &mut Vec<u8>, reg: Reg, colour: Colour) -> Result<(), NoMem
     put(out, b" ")
 }
 
-/// The line of a register row.
+/// Appends the line of a register row.
 pub(crate) fn put_reg_row(out: &mut Vec<u8>, row: RegType) -> Result<(), NoMemory>
     ensures { OnOk result (out.new.items ≡ out.old.items ++ line_text (lines.Reg row)) }
 {
@@ -124,7 +124,7 @@ pub(crate) fn put_reg_row(out: &mut Vec<u8>, row: RegType) -> Result<(), NoMemor
     put(out, b"\n")
 }
 
-/// The line of a queue row.
+/// Appends the line of a queue row.
 pub(crate) fn put_pend(out: &mut Vec<u8>, address: u32, value: u32) -> Result<(), NoMemory>
     ensures { OnOk result (out.new.items ≡ out.old.items ++ line_text (lines.Pend address value)) }
 {
@@ -135,7 +135,7 @@ pub(crate) fn put_pend(out: &mut Vec<u8>, address: u32, value: u32) -> Result<()
     put(out, b"\n")
 }
 
-/// The line of a block.
+/// Appends the line of a block.
 pub(crate) fn put_block(out: &mut Vec<u8>, code_type: u32) -> Result<(), NoMemory>
     ensures { OnOk result (out.new.items ≡ out.old.items ++ line_text (lines.Block code_type)) }
 {
@@ -144,7 +144,7 @@ pub(crate) fn put_block(out: &mut Vec<u8>, code_type: u32) -> Result<(), NoMemor
     put(out, b"\n")
 }
 
-/// The line of the entry block.
+/// Appends the line of the entry block.
 pub(crate) fn put_entry(out: &mut Vec<u8>, block: u32) -> Result<(), NoMemory>
     ensures { OnOk result (out.new.items ≡ out.old.items ++ line_text (lines.Entry block)) }
 {

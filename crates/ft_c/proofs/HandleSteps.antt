@@ -69,7 +69,7 @@ module _ {M : Type 1} {𝓤 : Ura M} {𝓛 : Logic 𝓤} {K : Type 0} {Γ : List
       fpack t (Valss (u64 ∷ RawPtr ∷ [])) (within (shape handle.the_type) (1, (block_ptr b o, tt)) (v ∷ []))
       (vint w64 1 ∷ [], (vptr b o ∷ [], tt)) $ fjoin t $ s)
 
-  -- an empty one
+  -- an empty handle
   pub handle_none : K → Step K 𝓛 (‵ (handle.the_row.own_val (record { there = 0; at = null_ptr; task = None })
       (word 0 (vint w64 0) ∷ [])) ∷ Γ) G Γ G
   handle_none t = step (λ s. let v : Val = word 0 (vint w64 0) in

@@ -7,7 +7,7 @@ use Rattle.ft_semantics.specs.Run.{state_after}
 use Rattle.ft_embed.specs.declared.filling.CellOutput.{CellOutput}
 use Rattle.ft_embed.specs.Tasks.{TaskRun, WentOn, begun}
 
--- the run that a handle held continued, and the handle holds it
+-- the run in a handle continued, and the handle still holds it
 pub record GoesOnIn (old new : Option TaskRun) (status steps taken count : ℕ) (out : List CellOutput) : Type 0 where
   pub before : TaskRun
   pub after : TaskRun
@@ -15,7 +15,8 @@ pub record GoesOnIn (old new : Option TaskRun) (status steps taken count : ℕ) 
   pub holds : new ≡ Some after
   pub went : WentOn before after status steps taken count out
 
--- the run that a handle held had no strike, and the text's site existed: it is struck before the next step
+-- the run in a handle had neither been struck nor stopped, and the site that the text names existed: the run is struck
+-- before its next step
 pub record IsStruckIn (old new : Option TaskRun) (text : List ℕ) (value : ℕ) : Type 0 where
   pub before : TaskRun
   pub site : Site
@@ -25,7 +26,7 @@ pub record IsStruckIn (old new : Option TaskRun) (text : List ℕ) (value : ℕ)
   pub there : is_there (state_after before.object None [] before.taken) site ≡ true
   pub holds : new ≡ Some (record { object = before.object; strike = Some (record { step = before.taken; site = site; value = value }); taken = before.taken })
 
--- the run that a handle held was struck before, or the text's site did not exist
+-- the run in a handle had been struck or had stopped, or the site that the text names did not exist
 pub record IsNotStruckIn (old : Option TaskRun) (text : List ℕ) : Type 0 where
   pub before : TaskRun
   pub site : Site
@@ -33,7 +34,7 @@ pub record IsNotStruckIn (old : Option TaskRun) (text : List ℕ) : Type 0 where
   pub says : IsSiteText text site
   pub missed : before.strike ≡ None → is_there (state_after before.object None [] before.taken) site ≡ false
 
--- a run is started again, and the handle holds it
+-- the run in a handle was restarted
 pub record BeginsAgain (old new : Option TaskRun) : Type 0 where
   pub before : TaskRun
   pub held : old ≡ Some before

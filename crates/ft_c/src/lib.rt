@@ -1,6 +1,6 @@
 //! The exports of the C library: the calls of `ft_embed`, with plain C types.
 //!
-//! Each export restates the clauses of its counterpart, over the same definitions. A `Handle` is C's
+//! Each export restates the clauses of its counterpart, with the same definitions. A `Handle` is C's
 //! reference to a run that continues across calls: a pointer to a `Task`, or none (`specs/Held.antt`,
 //! `specs/Handles.antt`). No C function is declared here.
 #![tactic(auto)]

@@ -12,7 +12,7 @@ use ft_embed::{CellOutput, Ran, Refused, Task, Verdict, unrefused};
 use ft_isa::read_site;
 use std::alloc::Global;
 
-/// Puts a new run into an empty handle.
+/// Begins a run and puts it into an empty handle.
 fn open_into(alloc: Global, bytes: &[u8], machine: &mut Handle) -> Verdict
     requires { machine.old.task ≡ None }
     ensures opened { result.status ≡ 0 → IsOpened bytes.now machine.new.task }
@@ -42,9 +42,9 @@ fn tell(verdict: Verdict, why: &mut Refused) -> u32
     verdict.status
 }
 
-/// Checks the object that bytes spell, and makes its run before the first step, which the handle holds until
-/// `talft_close`. Returns 0; 7 or 8 for bytes that are refused; 5, out of memory; or 17 for a handle that already holds
-/// a run. Unless it returns 0, the handle is unchanged.
+/// Checks the object that bytes spell, and begins its run, which the handle holds until `talft_close`. Returns 0 on
+/// success; 7 or 8 for bytes that are refused; 5 if memory runs out; or 17 for a handle that already holds a run.
+/// Unless it returns 0, the handle is unchanged.
 #[unsafe(no_mangle)]
 pub extern "C" fn talft_open(
     alloc: Global,
@@ -68,9 +68,9 @@ pub extern "C" fn talft_open(
     }
 }
 
-/// Takes at most `steps` steps of the run that a handle holds, and fewer if it is done or detected, or the array is
-/// full. Its outputs in these steps go into the array. Returns 0 for a run that is done; 1 for one that is detected; 9
-/// if all steps were taken; 14 if the array is full; or 17 for an empty handle.
+/// Takes at most `steps` steps of the run that a handle holds, and fewer if the run is done or detected, or the array
+/// is full. The outputs of these steps go into the array. Returns 0 for a run that is done; 1 for one that is detected;
+/// 9 if all steps were taken, or 2^64 - 1 in all; 14 if the array is full; or 17 for an empty handle.
 #[unsafe(no_mangle)]
 pub extern "C" fn talft_advance(
     alloc: Global,
@@ -95,9 +95,9 @@ pub extern "C" fn talft_advance(
 }
 
 /// Strikes a site of the run that a handle holds before its next step, for tests: the text names the site, such as
-/// `r1`, `d`, `pcg` or `qv0`, and the word there becomes `value`. Returns 0; 2 for a text that names no site; 18 if the
-/// run was struck before, has stopped, or has no such place in its queue; or 17 for an empty handle. Unless it returns
-/// 0, the handle is unchanged.
+/// `r1`, `d`, `pcg` or `qv0`, and the word there becomes `value`. Returns 0 on success; 2 for a text that names no
+/// site; 18 if the run was struck before, has stopped, or has no such place in its queue; or 17 for an empty handle.
+/// Unless it returns 0, the handle is unchanged.
 #[unsafe(no_mangle)]
 pub extern "C" fn talft_strike(alloc: Global, machine: &mut Handle, site: &[u8], value: u64) -> u32
     ensures struck { result ≡ 0 → IsStruckIn machine.old.task machine.new.task site.now value }
@@ -118,8 +118,8 @@ pub extern "C" fn talft_strike(alloc: Global, machine: &mut Handle, site: &[u8],
     if struck { 0 } else { 18 }
 }
 
-/// Restarts the run that a handle holds, without a strike. Returns 0; 5, out of memory; or 17 for an empty handle.
-/// Unless it returns 0, the handle is unchanged.
+/// Restarts the run that a handle holds, without a strike. Returns 0 on success; 5 if memory runs out; or 17 for an
+/// empty handle. Unless it returns 0, the handle is unchanged.
 #[unsafe(no_mangle)]
 pub extern "C" fn talft_restart(alloc: Global, machine: &mut Handle) -> u32
     ensures again { result ≡ 0 → BeginsAgain machine.old.task machine.new.task }

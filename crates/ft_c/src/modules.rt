@@ -1,4 +1,4 @@
-//! Modules that are linked.
+//! Links modules.
 ghost use Rattle.std.specs.Prelude.{◌≡◌, ◌≢◌, ◌⊎◌};
 ghost use Rattle.ft_embed.specs.Links.{IsLinkedOf, IsUnlinked};
 ghost use Rattle.ft_embed.specs.Texts.{Given};
@@ -7,10 +7,10 @@ ghost use Rattle.ft_embed.specs.Verdicts.{nothing};
 use ft_embed::{Module, Refused, link_into};
 use std::alloc::Global;
 
-/// Writes the object that a link map makes of modules, in version 2 of the format. The map names the file of each
-/// module, and the first module of the array with this name is taken. Returns 0; 15 if the bytes do not fit; 13 for a
-/// map or modules that are refused; 7 or 8 for a module whose bytes are refused; 20 if the map gives a name that no
-/// module has; or 5, out of memory.
+/// Links modules as a link map says, and writes the object in version 2 of the format. The map names the file of each
+/// module, and the first module in the array with that name is used. Returns 0 on success; 15 if the bytes do not fit;
+/// 13 if the map is refused or the modules cannot be linked; 7 or 8 if the bytes of a module are refused; 20 if the map
+/// gives a name that no module has; or 5 if memory runs out.
 #[unsafe(no_mangle)]
 pub extern "C" fn talft_link(
     alloc: Global,

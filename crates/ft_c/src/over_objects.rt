@@ -1,4 +1,4 @@
-//! Calls over the bytes of an object.
+//! Calls on the bytes of an object.
 ghost use Rattle.std.specs.Prelude.{◌≡◌, ◌≢◌, ◌⊎◌, List, Option};
 ghost use Rattle.ft_isa.specs.declared.plan.Strike.{Strike as Fault};
 ghost use Rattle.ft_isa.specs.declared.plan.Wild.{Wild as Answer};
@@ -14,8 +14,8 @@ use ft_embed::{
 };
 use std::alloc::Global;
 
-/// Checks the object that bytes spell. Returns 0 for an object that is accepted; 7 for bytes that spell none, with the
-/// first rule that they break; 8 for an object that is refused, with its refusal; or 5, out of memory.
+/// Checks the object that bytes spell. Returns 0 for an accepted object; 7 for bytes that spell no object, with the
+/// first rule that they break; 8 for an object that is not accepted, with its refusal; or 5 if memory runs out.
 #[unsafe(no_mangle)]
 pub extern "C" fn talft_check(alloc: Global, bytes: &[u8], why: &mut Refused) -> u32
     ensures verdict { result ≢ 5 → Tells result why.new (verdict_on bytes.now) }
@@ -31,7 +31,7 @@ pub extern "C" fn talft_check(alloc: Global, bytes: &[u8], why: &mut Refused) ->
 /// `fault` spells, such as `4:r1:6`, and with the answers to wild loads that `wild` spells, such as `5,stop`. An empty
 /// text means none. The outputs go into the array. Returns 0 for a run that is done; 1 for one that is detected; 9 for
 /// one that is still running after the steps; 14 if the array is full; 2 if a text is invalid; 7 or 8 for bytes that
-/// are refused; or 5, out of memory.
+/// are refused; or 5 if memory runs out.
 #[unsafe(no_mangle)]
 pub extern "C" fn talft_run(
     alloc: Global,
@@ -58,9 +58,9 @@ pub extern "C" fn talft_run(
     answer.status
 }
 
-/// Checks the object that bytes spell, and runs it as `talft_run` does. If the fault is detected, it is run again
-/// without the fault, and its outputs replace the first ones. So the outputs and the end are those of the run without a
-/// fault. Returns 0, 9, 14, 2, 7, 8 or 5, as `talft_run` does.
+/// Checks the object that bytes spell, and runs it as `talft_run` does. If a fault is detected, it runs the object
+/// again without the fault, and the new outputs replace the first ones. So the outputs and the end are those of the run
+/// without a fault. Returns 0, 9, 14, 2, 7, 8 or 5, as `talft_run` does.
 #[unsafe(no_mangle)]
 pub extern "C" fn talft_recover(
     alloc: Global,
@@ -86,8 +86,8 @@ pub extern "C" fn talft_recover(
     answer.status
 }
 
-/// Writes, in version 2 of the format, the object that bytes spell. Returns 0; 15 if they do not fit; 7 for bytes
-/// that spell no object; or 5, out of memory.
+/// Writes the object that bytes spell, in version 2 of the format. Returns 0 on success; 15 if the object does not fit;
+/// 7 for bytes that spell no object; or 5 if memory runs out.
 #[unsafe(no_mangle)]
 pub extern "C" fn talft_upgrade(
     alloc: Global,
@@ -108,8 +108,8 @@ pub extern "C" fn talft_upgrade(
     written.status
 }
 
-/// Writes the schedule of the object that bytes spell, in version 2 of the format. Returns 0; 15 if its bytes do not
-/// fit; 7 or 8 for bytes that are refused; or 5, out of memory.
+/// Writes the schedule of the object that bytes spell, in version 2 of the format. Returns 0 on success; 15 if the
+/// schedule does not fit; 7 or 8 for bytes that are refused; or 5 if memory runs out.
 #[unsafe(no_mangle)]
 pub extern "C" fn talft_schedule(
     alloc: Global,
@@ -131,8 +131,8 @@ pub extern "C" fn talft_schedule(
     written.status
 }
 
-/// Writes the name of a cell of the object that bytes spell. Returns 0; 15 if it does not fit; 7 for bytes that spell
-/// no object; or 16 if there is no such cell.
+/// Writes the name of a cell of the object that bytes spell. Returns 0 on success; 15 if the name does not fit; 7 for
+/// bytes that spell no object; or 16 if there is no such cell.
 #[unsafe(no_mangle)]
 pub extern "C" fn talft_name(
     bytes: &[u8],

@@ -1,4 +1,4 @@
-//! Calls over texts.
+//! Calls on sources and assembly texts.
 ghost use Rattle.std.specs.Prelude.{◌≡◌, ◌≢◌};
 ghost use Rattle.ft_asm.specs.Refusals.{IsAssembly};
 ghost use Rattle.ft_embed.specs.Texts.{Given, IsAsmBroken, IsAsmRefused, IsCompiled, IsMalformed, IsSourceRefused, IsText};
@@ -7,8 +7,8 @@ ghost use Rattle.ft_embed.specs.Verdicts.{nothing};
 use ft_embed::{Refused, assemble_into, compile_into, disassemble_into};
 use std::alloc::Global;
 
-/// Compiles a source, and writes the bytes of its object in version 2 of the format. Returns 0; 15 if they do not fit,
-/// with the number needed in `made`; 6 for a source that is refused; or 5, out of memory.
+/// Compiles a source, and writes the bytes of its object in version 2 of the format. Returns 0 on success; 15 if they
+/// do not fit, with the number needed in `made`; 6 for a source that is refused; or 5 if memory runs out.
 #[unsafe(no_mangle)]
 pub extern "C" fn talft_compile(
     alloc: Global,
@@ -29,9 +29,9 @@ pub extern "C" fn talft_compile(
     written.status
 }
 
-/// Writes the bytes of the object that an assembly text reads as, in version 2 of the format. Returns 0; 15 if they do
-/// not fit; 12 for a text that is refused; 7 if the tables that it means break a rule of the format; or 5, out of
-/// memory.
+/// Assembles a text, and writes the bytes of its object in version 2 of the format. Returns 0 on success; 15 if they do
+/// not fit; 12 for a text that is refused; 7 if the tables that the text describes break a rule of the format; or 5 if
+/// memory runs out.
 #[unsafe(no_mangle)]
 pub extern "C" fn talft_assemble(
     alloc: Global,
@@ -53,8 +53,8 @@ pub extern "C" fn talft_assemble(
     written.status
 }
 
-/// Writes the assembly text of the object that bytes spell. Returns 0; 15 if it does not fit; 7 for bytes that spell no
-/// object; or 5, out of memory.
+/// Writes the assembly text of the object that bytes spell. Returns 0 on success; 15 if the text does not fit; 7 for
+/// bytes that spell no object; or 5 if memory runs out.
 #[unsafe(no_mangle)]
 pub extern "C" fn talft_disassemble(
     alloc: Global,

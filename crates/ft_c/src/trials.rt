@@ -1,4 +1,4 @@
-//! Faults that are tried on an object.
+//! Tries faults on an object.
 ghost use Rattle.std.specs.Prelude.{◌≡◌, ◌≢◌, ◌≤◌, ◌⊎◌, List};
 ghost use Rattle.ft_isa.specs.declared.plan.Wild.{Wild as Answer};
 ghost use Rattle.ft_embed.specs.Plans.{AreAnswers};
@@ -8,11 +8,11 @@ ghost use Rattle.ft_embed.specs.Verdicts.{IsAcceptedFile, Tells, nothing, verdic
 use ft_embed::{FaultTotals, FaultVerdict, Refused, campaign};
 use std::alloc::Global;
 
-/// Checks the object that bytes spell, and runs it without a fault and under each fault of a list, each for at most
-/// `steps` steps, which are at most 1,000,000, and with the answers to wild loads that a text spells. The list is a
-/// text of lines such as `4:r1:6`. The verdicts go into the array, in the list's order. Returns 0; 15 if they do not
-/// fit; 11 for a list that is refused; 2 for a text that spells no answers, or too many steps; 7 or 8 for bytes that
-/// are refused; or 5, out of memory.
+/// Checks the object that bytes spell, and runs it without a fault and under each fault of a list, each time for at
+/// most `steps` steps and with the answers to wild loads that a text spells. `steps` may be at most 1,000,000. The list
+/// is a text of lines such as `4:r1:6`. The verdicts go into the array, in the list's order. Returns 0 on success; 15
+/// if they do not fit; 11 for a list that is refused; 2 for a text that spells no answers, or for too many steps; 7 or
+/// 8 for bytes that are refused; or 5 if memory runs out.
 #[unsafe(no_mangle)]
 pub extern "C" fn talft_campaign(
     alloc: Global,

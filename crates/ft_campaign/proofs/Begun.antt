@@ -46,7 +46,7 @@ struck_running o x w n h =
     (is_site x.site (length (state_after o (Some x) w x.step).queue))
     (and_parts (nat_lt x.step n) (is_there (state_after o (Some x) w x.step) x.site) h).1).0
 
--- the byte of a step shows what is struck
+-- the queue length kept for a step shows whether a fault strikes something
 pub struck_by_byte : (o : Object) (x : Strike) (w : List Wild) (n : ℕ) (c : KeptRun) (b : ℕ) → IsClean o w n c →
     slice_get c.lengths.items x.step ≡ Some b → is_site x.site b ≡ is_struck o (Some x) w n
 struck_by_byte o x w n c b h e =
@@ -87,7 +87,7 @@ struck_by_none o x w n c h e =
       | inr p ↦ p.0
     ]
 
--- the snapshot of a strike that strikes is there
+-- if a fault strikes something, the snapshot before it exists
 pub snapshot_there : (o : Object) (x : Strike) (w : List Wild) (n : ℕ) (c : KeptRun) → IsClean o w n c →
     is_struck o (Some x) w n ≡ true → x.step / 1024 < length c.snapshots.items
 snapshot_there o x w n c h struck =
@@ -102,7 +102,7 @@ snapshot_there o x w n c h struck =
 whole_step : (k : ℕ) → 1024 * (k / 1024) + k % 1024 ≡ k
 whole_step k = omega arith
 
--- from the snapshot up to the strike
+-- a struck run from the snapshot up to the strike
 module _ (o : Object) (x : Strike) (w : List Wild) (n : ℕ) (k : Snapshot)
     (h : IsSnapshot o w (1024 * (x.step / 1024)) k) (struck : is_struck o (Some x) w n ≡ true) where
   abbrev j : ℕ

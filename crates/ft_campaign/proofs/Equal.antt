@@ -1,4 +1,4 @@
--- What the tests of two outcomes say.
+-- What the tests of two outputs, statuses or lists of outputs mean.
 use Rattle.std.proofs.Common.{◌≡◌, ℕ, Bool, false, ◌&&◌, List, length, take, drop, Decides, refl, ap, sym, ◌∙◌, eqb}
 use Rattle.std.specs.Prelude.{not}
 use Rattle.std.proofs.lemmas.Bool.Decides.{Decides-eqb, Decides-and, Decides-like}
@@ -11,7 +11,7 @@ use Rattle.ft_semantics.specs.declared.status.Status.{Status}
 use Rattle.ft_semantics.specs.declared.status.Status.TheVariants.{Running, Done, Detected}
 use Rattle.ft_semantics.specs.Agrees.{IsPrefix}
 
--- two outputs are equal
+-- whether two outputs are equal
 abbrev pub same_output : Output → Output → Bool
 same_output a b = eqb a.addr b.addr && eqb a.value b.value
 
@@ -34,7 +34,7 @@ same_status Detected Running h = cc
 same_status Detected Done h = cc
 same_status Detected Detected h = refl
 
--- outputs that begin others
+-- the test for a prefix decides whether outputs are a prefix of others
 pub prefix_decides : (all front : List Output) (r : Bool) → r ≡ pointwise same_output front (take (length front) all) →
     Decides r (IsPrefix front all)
 prefix_decides all front r e =

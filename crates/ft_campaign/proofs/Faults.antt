@@ -1,4 +1,4 @@
--- A text is one fault list, or it has one refusal.
+-- A text is at most one fault list, has at most one refusal, and is never both a list and refused.
 use Rattle.std.proofs.Common.{◌≡◌, ◌≢◌, ◌⊎◌, ℕ, ◌+◌, ◌<◌, ◌≤◌, List, [], ◌∷◌, ◌++◌, length, drop, get_or, Some, Vec}
 use Rattle.std.proofs.Common.{Global, Result, Ok, Err, inl, inr, refl, ap, sym, ◌∙◌, subst, ⊎_elim, arith, append_assoc}
 use Rattle.std.specs.Prelude.{IfOk, IfErr, MatchResult}
@@ -15,7 +15,7 @@ use Rattle.ft_campaign.specs.FaultList.{AreStrikeTexts, IsFaultList, GoesOn, IsF
 
 -- WHAT WAS READ
 
--- one more line is the text of a strike
+-- if the next line is the text of a strike, it is added to what was read
 pub read_more : (lines done rest : List (List ℕ)) (faults : List Strike) (line : List ℕ) (more : List (List ℕ))
     (x : Strike) → lines ≡ done ++ rest → rest ≡ line ∷ more → AreStrikeTexts done faults → IsStrikeText line x
     → (before : List (List ℕ)) × (lines ≡ before ++ more) × AreStrikeTexts before (faults ++ x ∷ [])
@@ -25,7 +25,7 @@ read_more lines done rest faults line more x e f texts h = (
   all_zipped_more IsStrikeText done faults line x texts h,
 )
 
--- another line follows those that were read
+-- a line follows those that were read
 pub goes_on : (lines done rest : List (List ℕ)) (faults : List Strike) (line : List ℕ) (more : List (List ℕ)) → lines
     ≡ done ++ rest → rest ≡ line ∷ more → AreStrikeTexts done faults → GoesOn lines done line
 goes_on lines done rest faults line more e f texts = record {
@@ -51,13 +51,13 @@ same_faults (l ∷ ls) (x ∷ xs) [] h i = absurd i
 same_faults (l ∷ ls) (x ∷ xs) (y ∷ ys) h i = ap (λ z. z ∷ xs) (same_strike l x y h.0 i.0)
     ∙ ap (λ zs. y ∷ zs) (same_faults ls xs ys h.1 i.1)
 
--- a text is one fault list
+-- a text is at most one fault list
 pub one_list : (text : List ℕ) (xs ys : List Strike) → IsFaultList text xs → IsFaultList text ys → xs ≡ ys
 one_list text xs ys h i = same_faults (lines_of text) xs ys h.lines i.lines
 
 -- ONE REFUSAL
 
--- a line that is not a strike is not among the first, which are
+-- if the first lines are strikes, a line that is not a strike is not among them
 not_before : (bs cs : List (List ℕ)) (l m : List ℕ) (ps qs : List (List ℕ)) (ys : List Strike) → bs ++ l ∷ ps ≡ cs
     ++ m ∷ qs → AreStrikeTexts cs ys → ((x : Strike) → ¬ (IsStrikeText l x)) → ¬ (length bs < length cs)
 not_before [] [] l m ps qs ys e h bad lt = absurd (omega arith)
@@ -69,7 +69,7 @@ not_before (b ∷ bs) (c ∷ cs) l m ps qs [] e h bad lt = absurd h
 not_before (b ∷ bs) (c ∷ cs) l m ps qs (y ∷ ys) e h bad lt =
     not_before bs cs l m ps qs ys (ap (drop 1) e) h.1 bad (omega arith)
 
--- some line is not a strike, so the lines are not strikes
+-- if one line is not a strike, the lines do not spell strikes
 no_texts : (bs : List (List ℕ)) (l : List ℕ) (ps : List (List ℕ)) (ys : List Strike) →
     AreStrikeTexts (bs ++ l ∷ ps) ys → ((x : Strike) → ¬ (IsStrikeText l x)) → ⊥
 no_texts [] l ps [] h bad = absurd h
@@ -121,7 +121,7 @@ not_long text number h i =
     (λ (more : (length text ≤ 4194304) × IsLong (lines_of text)). early_line (lines_of text) number h.1 more.1)
     i
 
--- a text has one refusal
+-- a text has at most one refusal
 pub one_error : (text : List ℕ) (e f : ListError) → e ≢ NoMemory → f ≢ NoMemory → IsListError text e →
     IsListError text f → e ≡ f
 one_error text (Line n) (Line m) ne nf h i = ap Line (same_line (lines_of text) n m h.1 i.1)
@@ -134,7 +134,7 @@ one_error text NoMemory f ne nf h i = absurd (ne refl)
 
 -- EXACT ANSWERS
 
--- a fault list is read as its faults, or there is no memory
+-- a fault list is read as its faults, unless memory runs out
 pub exact_list : (text : List ℕ) (r : Result (Vec Strike Global) ListError) → IfOk r (λ v. IsFaultList text v.items) →
     IfErr r (IsListError text) → (xs : List Strike) → IsFaultList text xs →
     MatchResult r (λ v. v.items ≡ xs) (λ e. e ≡ NoMemory)
@@ -143,7 +143,7 @@ exact_list text (Err (Line n)) ok err xs h = absurd (no_error text xs (Line n) (
 exact_list text (Err TooMany) ok err xs h = absurd (no_error text xs TooMany (λ e. cc) h err)
 exact_list text (Err NoMemory) ok err xs h = refl
 
--- a text that is refused has its refusal as the result, or there is no memory
+-- reading a text that is refused returns its refusal, unless memory runs out
 pub exact_error : (text : List ℕ) (r : Result (Vec Strike Global) ListError) → IfOk r (λ v. IsFaultList text v.items) →
     IfErr r (IsListError text) → (e : ListError) → e ≢ NoMemory → IsListError text e →
     MatchResult r (λ v. ⊥) (λ f. (f ≡ e) ⊎ (f ≡ NoMemory))

@@ -33,7 +33,7 @@ apart_more whole a b xs more h k p = k (subst (λ t.
 pub not_running : (v : Status) → HasStopped v → v ≡ Running → ⊥
 not_running v h e = subst HasStopped e h
 
--- what an outlet that compares makes of one more output
+-- one more output at an outlet that compares
 pub heeds_next : (r : Bool) (whole : List Output) (first old new : ℕ) (before : List Output) (x : Output) →
     Heeds true whole first old before → Heeds r whole old new (x ∷ []) → Heeds r whole first new (before ++ x ∷ [])
 heeds_next true whole first old new before x h k = continues_more whole first old new before (x ∷ []) h k
@@ -101,7 +101,7 @@ module _ {T : Type 0} (outlet : Ghosts T) (o : Object) (s s' : State) (w w' : Li
       (sym a.status_is ∙ span_running o n (most - n) s w (ap (λ k. (span o k s w).state.status) (rest_of n most few)
       ∙ running))
 
-  -- an outlet that always goes on hears all steps of a run that still runs after them
+  -- an outlet that always goes on hears all steps of a run that is still running after them
   pub runs_to_end : (pause : Pause) → Goes outlet o s w t s' w' t' n pause → goes_on pause ≡ true → n ≤ most →
       (span o most s w).state.status ≡ Running → (pause ≡ pauses.Running → n ≡ most) → n ≡ most
   runs_to_end pauses.Running a is few running all = all refl

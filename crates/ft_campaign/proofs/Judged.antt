@@ -1,4 +1,4 @@
--- Verdicts: there is one, and on accepted objects it is never corrupt.
+-- A fault has at most one verdict, and on an accepted object it is never corrupt.
 use Rattle.std.proofs.Common.{◌≡◌, ℕ, ◌+◌, ◌<◌, true, false, List, [], ◌∷◌, ◌++◌, length, take, get_or, Some, refl, ap}
 use Rattle.std.proofs.Common.{sym, ◌∙◌, subst, arith}
 use Rattle.std.specs.Prelude.{count_by}
@@ -35,7 +35,7 @@ pub never_corrupt : (o : Object) (x : Strike) (w : List Wild) (n : ℕ) → IsSp
     ¬ (IsVerdict o x w n verdicts.Corrupt)
 never_corrupt o x w n spelled acc h = neither _ _ _ _ (tolerant o (Some x) w n spelled acc) h.1 h.2
 
--- a run is detected at one step
+-- a run is detected at no more than one step
 one_place : (o : Object) (x : Strike) (w : List Wild) (k j : ℕ) → IsDetectedAt o x w k → IsDetectedAt o x w j → k ≡ j
 one_place o x w k j h i =
     let a = run_goes_on o (Some x) w k (j + 1) (subst HasStopped h.0) (subst HasStopped (sym i.1) tt) in
@@ -45,7 +45,7 @@ one_place o x w k j h i =
 true_false : {A : Type 0} {b : _} → b ≡ true → b ≡ false → A
 true_false t f = (let e : true ≡ false = sym t ∙ f in cc)
 
--- a fault has one verdict
+-- a fault has at most one verdict
 pub one_verdict : (o : Object) (x : Strike) (w : List Wild) (n : ℕ) (u v : Verdict) → IsVerdict o x w n u →
     IsVerdict o x w n v → u ≡ v
 one_verdict o x w n verdicts.Idle verdicts.Idle h i = refl
@@ -66,7 +66,7 @@ one_verdict o x w n verdicts.Corrupt verdicts.Masked h i = absurd (h.1 i.1)
 one_verdict o x w n verdicts.Corrupt (verdicts.Detected at) h i = absurd (h.2 i.2)
 one_verdict o x w n verdicts.Corrupt verdicts.Corrupt h i = refl
 
--- none of the verdicts of an accepted object's faults is corrupt
+-- no verdict on a fault of an accepted object is corrupt
 pub none_corrupt : (o : Object) (xs : List Strike) (w : List Wild) (n : ℕ) (vs : List Verdict) → IsSpellable o →
     IsAccepted o → AreVerdicts o xs w n vs → count_by is_corrupt vs ≡ 0
 none_corrupt o [] w n [] spelled acc h = refl
@@ -89,7 +89,7 @@ uncorrupted (TooMuch product) o xs w n old new spelled acc h = tt
 uncorrupted WriteFault o xs w n old new spelled acc h = tt
 uncorrupted NoMemory o xs w n old new spelled acc h = tt
 
--- one more verdict was found
+-- the verdict of one more fault was found
 pub more_verdicts : (o : Object) (xs : List Strike) (w : List Wild) (n : ℕ) (vs : List Verdict) (i : ℕ) (x : Strike)
     (v : Verdict) → i < length xs → x ≡ get_or xs i x → IsVerdict o x w n v → AreVerdicts o (take i xs) w n vs →
     AreVerdicts o (take (i + 1) xs) w n (vs ++ v ∷ [])

@@ -1,4 +1,4 @@
--- Verdicts by what is kept: at the last step, and at a meeting.
+-- Verdicts derived from what is kept: at the last step, and at a meeting.
 use Rattle.std.proofs.Common.{◌≡◌, ℕ, ◌+◌, ◌<◌, ◌≤◌, List, [], ◌++◌, length, take, drop, Some, None, Bool, true, false}
 use Rattle.std.proofs.Common.{ap, sym, subst, ◌∙◌, ⊎_elim, append_assoc, arith, Decides}
 use Rattle.std.proofs.lemmas.List.{append-nil, take_all, length-append, length-take-le, take-append-drop}
@@ -23,7 +23,7 @@ use Rattle.ft_campaign.proofs.Meetings.{has_met}
 pub refuted : {F : Type 0} (b : Bool) → Decides b F → b ≡ false → ¬ F
 refuted b d e f = (let t : b ≡ true = d.1 f in let bad : true ≡ false = sym t ∙ e in cc)
 
--- n outputs
+-- the outputs so far are `at` in number
 begun_long : (ys xs : List Output) (at : ℕ) → Begins ys at xs → length xs ≡ at
 begun_long ys xs at h = let few = h.few in ap length h.front ∙ length-take-le at ys few
 
@@ -33,7 +33,7 @@ begins_all ys xs at h e = h.front ∙ take_all at ys (omega (arith, e))
 begins_prefix : (ys xs : List Output) (at : ℕ) → Begins ys at xs → IsPrefix xs ys
 begins_prefix ys xs at h = (drop at ys, ap (λ zs. zs ++ drop at ys) h.front ∙ take-append-drop at ys)
 
--- at the last step
+-- the verdict at the last step
 module _ (o : Object) (x : Strike) (w : List Wild) (n at : ℕ) (status : Status) (last : ℕ) (c : KeptRun)
     (clean : IsClean o w n c) (h : HasEnded o x w n at status last) where
   many : length c.outputs.items ≡ length (outputs_after o None w n)
@@ -75,7 +75,7 @@ module _ (o : Object) (x : Strike) (w : List Wild) (n at : ℕ) (status : Status
 cut_front : (xs zs ys : List Output) → xs ++ zs ≡ ys → zs ≡ drop (length xs) ys
 cut_front xs zs ys e = sym (drop-append_seam xs zs) ∙ ap (drop (length xs)) e
 
--- a front and what comes after it are a prefix of the whole if the later part is a prefix of the rest
+-- a front followed by a list is a prefix of the whole if that list is a prefix of the rest
 prefix_both : (ys zs : List Output) (at : ℕ) → IsPrefix zs (drop at ys) → IsPrefix (take at ys ++ zs) ys
 prefix_both ys zs at h = (
   h.0,
@@ -92,7 +92,7 @@ prefix_rest ys zs at le h = (
       ∙ ap (drop at) (sym (append_assoc (take at ys) zs h.0) ∙ h.1),
 )
 
--- at a meeting
+-- the verdict at a meeting
 module _ (o : Object) (x : Strike) (w : List Wild) (n at m count : ℕ) (c : KeptRun) (clean : IsClean o w n c)
     (h : IsAtMeeting o x w n at m count) where
   abbrev ys : List Output
@@ -124,7 +124,8 @@ module _ (o : Object) (x : Strike) (w : List Wild) (n at m count : ℕ) (c : Kep
       let g = h.count_is in
       apart (omega (arith, a, b, e, f, g))
 
-  -- the stop of the run without a fault comes after the meeting, so it is the other's stop
+  -- if the run without a fault is detected, this comes after the meeting, so the struck run is detected at the same
+  -- step
   later : status_after o None w (c.last + 1) ≡ Detected → m ≤ c.last
   later d =
       ⊎_elim
@@ -169,7 +170,7 @@ module _ (o : Object) (x : Strike) (w : List Wild) (n at m count : ℕ) (c : Kep
         ),
   )
 
--- outputs that are not a prefix of the others
+-- if a struck run's outputs are not a prefix of the other's, its verdict is corrupt
 pub apart_corrupt : (o : Object) (x : Strike) (w : List Wild) (n : ℕ) → is_struck o (Some x) w n ≡ true →
     ¬ (IsPrefix (outputs_after o (Some x) w n) (outputs_after o None w n)) → IsVerdict o x w n verdicts.Corrupt
 apart_corrupt o x w n struck apart = (

@@ -1,4 +1,4 @@
--- What the run without a fault keeps.
+-- What is kept of the run without a fault.
 use Rattle.std.proofs.Common.{◌≡◌, ◌⊎◌, ℕ, zero, suc, ◌+◌, ◌*◌, ◌/◌, ◌<◌, ◌≤◌, List, [], ◌∷◌, ◌++◌, length, take}
 use Rattle.std.proofs.Common.{Option, Some, None, Bool, true, false, slice_get, refl, ap, sym, subst, ◌∙◌, ⊎_elim, inl}
 use Rattle.std.proofs.Common.{inr, append_assoc, add-zero, arith}
@@ -69,7 +69,7 @@ kept_by : (o : Object) (w : List Wild) (k : ℕ) (ls : List ℕ) (xs : List Snap
     AreSnapshots o w k xs → Kept o w k ls xs
 kept_by o w k ls xs a b = record { long = a.long; queues = a.queues; row = b.row; snapshots_are = b.snapshots_are }
 
--- a run that stopped at step k
+-- what is kept of a run that stopped at step k
 pub clean_stopped : (o : Object) (w : List Wild) (k n : ℕ) (c : KeptRun) → k < n →
     HasStopped (status_after o None w (k + 1)) → c.outputs.items ≡ outputs_after o None w (k + 1) → c.status
     ≡ status_after o None w (k + 1) → c.last ≡ k
@@ -89,7 +89,7 @@ clean_stopped o w k n c lt stop outputs status last running a b =
           (sym (ap (λ (x : Ran). x.state.status) (run_stays o None w (k + 1) i le stop)) ∙ e);
     }
 
--- the run after the step that a machine in its state takes
+-- the run after a step of a machine that is in the run's state
 pub run_more : (o : Object) (w : List Wild) (k : ℕ) (s : State) (v : List Wild) → s ≡ state_after o None w k → v
     ≡ wild_after o None w k → run o None w (k + 1) ≡ extended (outputs_after o None w k) (step o s v)
 run_more o w k s v es ev =
@@ -97,7 +97,7 @@ run_more o w k s v es ev =
     ∙ ap (λ x. extended (outputs_after o None w k) (step o x (wild_after o None w k))) (sym es)
     ∙ ap (λ x. extended (outputs_after o None w k) (step o s x)) (sym ev)
 
--- the run after the steps that a machine in its state takes
+-- the run after m steps of a machine that is in the run's state
 pub run_span : (o : Object) (w : List Wild) (k m : ℕ) (s : State) (v : List Wild) → s ≡ state_after o None w k → v
     ≡ wild_after o None w k
     → run o None w (k + m) ≡ joined (outputs_after o None w k) (span o m s v)
@@ -122,7 +122,7 @@ at_status o status.Running s w nothing = ap (λ i. (advance o i s w).state.queue
 at_status o status.Done s w nothing = refl
 at_status o status.Detected s w nothing = refl
 
--- a fetch leaves the queue as it is
+-- a fetch does not change the queue
 pub fetch_keeps_queue : (o : Object) (s : State) (w : List Wild) → s.fetched ≡ None → (span o 1 s w).state.queue
     ≡ s.queue
 fetch_keeps_queue o s w nothing = ap (λ (r : Ran). r.state.queue) (span_one o s w) ∙ at_status o s.status s w nothing
@@ -133,7 +133,7 @@ one_or_two (suc zero) some most = inl refl
 one_or_two (suc (suc zero)) some most = inr refl
 one_or_two (suc (suc (suc m))) some most = absurd (omega (arith, most))
 
--- the lengths before one or two steps; a second one follows a fetch
+-- the queue lengths before one or two more steps; if there are two, the first is a fetch
 pub lengths_on : (o : Object) (w : List Wild) (k m : ℕ) (s : State) (v : List Wild) (xs : List ℕ) (b : ℕ) → s
     ≡ state_after o None w k → v ≡ wild_after o None w k
     → AreLengths o w k xs → b ≡ length s.queue → 0 < m → m ≤ 2 → (1 < m → s.fetched ≡ None) →
@@ -162,7 +162,7 @@ lengths_on o w k m s v xs b es ev h is some most both running =
         subst (λ j. AreLengths o w j (xs ++ b ∷ b ∷ [])) (omega arith)
         (subst (λ ys. AreLengths o w (k + 1 + 1) ys) (append_assoc xs (b ∷ []) (b ∷ [])) more)
 
--- the snapshots of more steps, as long as none is due
+-- the snapshots after more steps, as long as none is due
 pub snapshots_on : (o : Object) (w : List Wild) (k m : ℕ) (xs : List Snapshot) → AreSnapshots o w k xs →
     m ≤ 1024 * length xs → AreSnapshots o w m xs
 snapshots_on o w k m xs h row = record { row = row; snapshots_are = h.snapshots_are }

@@ -1,4 +1,4 @@
--- Runs from some step, and runs that meet.
+-- Runs from some step on, and runs that meet.
 use Rattle.std.proofs.Common.{◌≡◌, ℕ, zero, suc, ◌+◌, ◌-◌, ◌<◌, ◌≤◌, List, [], Some, None, refl, ap, sym, subst, ◌∙◌}
 use Rattle.std.proofs.Common.{arith, add-zero}
 use Rattle.std.proofs.lemmas.List.{append-nil}
@@ -13,7 +13,7 @@ use Rattle.ft_semantics.proofs.Struck.{spared}
 use Rattle.ft_machine.proofs.Spanned.{joined, run_on, run_second}
 use Rattle.ft_campaign.specs.Snapshots.{Meets, HasMet}
 
--- a run with no strike goes as a span from any of its states
+-- a run without a strike continues from each of its states as a span
 pub run_free : (o : Object) (w : List Wild) (m j : ℕ) → run o None w (m + j)
     ≡ joined (outputs_after o None w m) (span o j (state_after o None w m) (wild_after o None w m))
 run_free o w m zero =
@@ -23,11 +23,11 @@ run_free o w m zero =
     ∙ ap (joined (outputs_after o None w m)) (sym (span-zero o (state_after o None w m) (wild_after o None w m)))
 run_free o w m (suc j) = run_on o None w m j (λ i above s. refl)
 
--- a strike at another step leaves the state
+-- a strike does not change the state before a later step
 pub spares : (x : Strike) (s : ℕ) (q : State) → x.step < s → struck_before (Some x) s q ≡ q
 spares x s q above = spared x s (λ e. omega arith) q
 
--- after a meeting both runs take the same steps
+-- after a meeting, both runs take the same steps
 pub past_meeting : (o : Object) (x : Strike) (w : List Wild) (m j : ℕ) → Meets o x w m → 0 < j
     → run o (Some x) w (m + j) ≡ joined (outputs_after o (Some x) w m)
     (span o j (state_after o None w m) (wild_after o None w m))
@@ -54,7 +54,7 @@ met_by o x w m (suc j) h =
       state = ap (λ (r : Ran). r.state) p ∙ sym (ap (λ (r : Ran). r.state) q);
     }
 
--- the law of meetings: states agree from there, and so does the rest of the outputs
+-- the law of meetings: from there on, the states agree, and so do the remaining outputs
 pub has_met : (o : Object) (x : Strike) (w : List Wild) (m n : ℕ) → Meets o x w m → m ≤ n → HasMet o x w m n
 has_met o x w m n h le = subst (HasMet o x w m) (there m n le) (met_by o x w m (n - m) h)
   where

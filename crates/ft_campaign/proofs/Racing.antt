@@ -28,7 +28,7 @@ use Rattle.ft_campaign.specs.Snapshots.{IsRacing, IsMeeting}
 use Rattle.ft_campaign.proofs.Meetings.{spares}
 use Rattle.ft_campaign.proofs.Judgements.{apart_corrupt}
 
--- no end comes before step m, if the run is running just before it
+-- there is no end before step m, if the run is running just before it
 pub end_far : (o : Object) (x : Strike) (w : List Wild) (n i m : ℕ) → status_after o (Some x) w i ≡ Running →
     m ≤ i + 1 → m ≤ n → ((e : ℕ) → Meets o x w e → e < n → m ≤ e) → (e : ℕ) → IsEnd o x w n e → m ≤ e
 end_far o x w n i m running near within unmet e (last is) = omega (arith, within, is)
@@ -38,7 +38,7 @@ end_far o x w n i m running near within unmet e (stopped h) = let lt =
 end_far o x w n i m running near within unmet e (met h) =
     ⊎_elim (λ (below : e < n). unmet e h below) (λ (past : n ≤ e). omega (arith, past, within)) (cases_lt e n)
 
--- where a run is compared next, no meeting comes before
+-- no meeting comes before the place where the run is compared next
 pub unmet_next : (o : Object) (x : Strike) (w : List Wild) (n s next : ℕ) →
     ((j : ℕ) → s < 1024 * j → 1024 * j ≤ n → next ≤ 1024 * j) → ((e : ℕ) → Meets o x w e → e < n → s < e) → (e : ℕ) →
     Meets o x w e → e < n → next ≤ e
@@ -47,7 +47,7 @@ unmet_next o x w n s next first unmet e m lt =
     subst (λ k. next ≤ k) (sym is) (first m.kept.0 (subst (λ k. s < k) is (unmet e m lt)) (let le : e ≤ n =
     omega (arith, lt) in subst (λ k. k ≤ n) is le))
 
--- there is no meeting there either, if it is tested
+-- if a test finds that the runs do not meet there, the next meeting comes later
 pub unmet_there : (o : Object) (x : Strike) (w : List Wild) (n m : ℕ) → ((e : ℕ) → Meets o x w e → e < n → m ≤ e) →
     (m < n → ¬ (Meets o x w m)) → (e : ℕ) → Meets o x w e → e < n → m < e
 unmet_there o x w n m unmet apart e h lt =
@@ -59,7 +59,7 @@ unmet_there o x w n m unmet apart e h lt =
     above : (m e : ℕ) → m ≤ e → (m ≡ e → ⊥) → m < e
     above m e le ne = omega arith
 
--- outputs only grow
+-- outputs only grow in number
 pub count_fits : (o : Object) (w : List Wild) (m n : ℕ) → m ≤ n →
     length (outputs_after o None w m) ≤ length (outputs_after o None w n)
 count_fits o w m n le =
@@ -69,7 +69,7 @@ count_fits o w m n le =
 
 module _ (o : Object) (x : Strike) (w : List Wild) (n s : ℕ) (q : State) (l : List Wild) (at : ℕ)
     (h : IsRacing o x w n s q l at) where
-  -- the run that many steps later
+  -- the run t steps later
   pub reached : (t : ℕ) → 0 < t → run o (Some x) w (s + t) ≡ joined (outputs_after o (Some x) w s) (span o t q l)
   reached t some =
       let from = h.from in
@@ -106,7 +106,7 @@ module _ (o : Object) (x : Strike) (w : List Wild) (n s : ℕ) (q : State) (l : 
       fits : s + t.done ≤ n
       fits = let a = f.few in let b = h.within in omega (arith, a, b, room)
 
-      -- just before the last step the run was running
+      -- just before the last step, the run was still running
       last_running : 0 < t.done → status_after o (Some x) w (s + t.done - 1) ≡ Running
       last_running some = from_before (t.done - 1) (let e : t.done - 1 < t.done = omega (arith, some) in
           e) (omega (arith, some))
@@ -118,7 +118,7 @@ module _ (o : Object) (x : Strike) (w : List Wild) (n s : ℕ) (q : State) (l : 
               ap (status_after o (Some x) w) e ∙ ap (λ (r : Ran). r.state.status) (reached (suc j) (omega arith))
               ∙ f.running (suc j) lt
 
-      -- a stop
+      -- a run that stops has ended
       pub has_ended : is_struck o (Some x) w n ≡ true → 0 < t.done →
           Continues whole at new (span o t.done q l).outputs → ¬ ((span o t.done q l).state.status ≡ Running)
           → HasEnded o x w n new q'.status (s + t.done - 1)
@@ -142,7 +142,7 @@ module _ (o : Object) (x : Strike) (w : List Wild) (n s : ℕ) (q : State) (l : 
           back : (s d : ℕ) → 0 < d → s + d - 1 + 1 ≡ s + d
           back s d some = omega arith
 
-      -- an output that is not the other's
+      -- a run with an output that is not the other's is corrupt
       pub went_apart : is_struck o (Some x) w n ≡ true → 0 < t.done →
           ¬ (IsPrefix (take at whole ++ (span o t.done q l).outputs) whole) → IsVerdict o x w n verdicts.Corrupt
       went_apart struck some bad = apart_corrupt o x w n struck (λ p.
@@ -157,7 +157,7 @@ module _ (o : Object) (x : Strike) (w : List Wild) (n s : ℕ) (q : State) (l : 
                 ∙ ap (λ xs. (xs ++ grown.0) ++ p.0) (sym front) ∙ ap (λ xs. xs ++ p.0) grown.1 ∙ p.1 ∙ sym whole_is,
           ))
 
-      -- the steps that were taken come before each end
+      -- no end comes before the last step taken
       pub ends_later : 0 < t.done → ((e : ℕ) → Meets o x w e → e < n → s + t.done ≤ e) → (e : ℕ) → IsEnd o x w n e →
           s + t.done ≤ e
       ends_later some unmet = end_far o x w n (s + t.done - 1) (s + t.done) (last_running some) (omega (arith, some))
@@ -242,11 +242,11 @@ module _ (o : Object) (x : Strike) (w : List Wild) (n s : ℕ) (q : State) (l : 
           count_is = g.count_is;
         }
 
-        -- no end comes before this place, and if the runs don't meet there, no meeting comes up to it
+        -- no end comes before this place, and if the runs do not meet there, the next meeting comes later
         pub steps_on : ((e : ℕ) → Meets o x w e → e < n → m ≤ e) → (e : ℕ) → IsEnd o x w n e → m ≤ e
         steps_on unmet = end_far o x w n m m on_running (omega arith) on_within unmet
 
-  -- at the last step
+  -- a run that is still running after its last step has ended
   pub ended_running : (b : ℕ) → n ≤ s → is_struck o (Some x) w n ≡ true → HasEnded o x w n at Running b
   ended_running b past struck =
       let e : s ≡ n = (let le = h.within in omega (arith, past, le)) in
@@ -266,7 +266,7 @@ module _ (o : Object) (x : Strike) (w : List Wild) (n s : ℕ) (q : State) (l : 
   ends_at_last past = end_far o x w n s s h.running (omega arith) h.within (λ e m below. let lt = h.unmet e m below in
       omega (arith, lt))
 
--- a snapshot at which the struck run is
+-- the runs meet at a snapshot whose state is the struck run's
 pub meeting_there : (o : Object) (x : Strike) (w : List Wild) (s j : ℕ) (q : State) (l : List Wild) (k : Snapshot) → s
     ≡ 1024 * j → IsSnapshot o w (1024 * j) k → q ≡ state_after o (Some x) w s → l ≡ wild_after o (Some x) w s → q
     ≡ k.machine → l ≡ k.wild

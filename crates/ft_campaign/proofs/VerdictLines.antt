@@ -1,4 +1,4 @@
--- The lines of verdicts, one after the other.
+-- The lines of verdicts, one after another.
 use Rattle.std.proofs.Common.{◌≡◌, ℕ, suc, ◌+◌, ◌<◌, ◌≤◌, List, [], ◌∷◌, ◌++◌, length, take, drop, get_or, ap, sym, ◌∙◌}
 use Rattle.std.proofs.Common.{arith}
 use Rattle.std.specs.List.{zip}
@@ -9,7 +9,7 @@ use Rattle.ft_isa.specs.declared.plan.Strike.{Strike}
 use Rattle.ft_campaign.specs.declared.verdict.Verdict.{Verdict}
 use Rattle.ft_campaign.specs.Texts.{verdict_line, verdict_lines}
 
--- the line of fault number i
+-- the line of fault i
 line_is : (xs : List Strike) (vs : List Verdict) (i : ℕ) (x : Strike) (v d : Verdict) → i < length xs → length vs
     ≡ length xs → x ≡ get_or xs i x → v ≡ get_or vs i d → get_or (verdict_lines xs vs) i (verdict_line x v)
     ≡ verdict_line x v
@@ -23,7 +23,7 @@ pub lines_long : (xs : List Strike) (vs : List Verdict) → length vs ≡ length
     ≡ length xs
 lines_long xs vs e = length-map (zip xs vs) (λ p. verdict_line p.0 p.1) ∙ length-zip xs vs ∙ (omega arith)
 
--- the line of fault number i is between those before it and those after it
+-- the line of fault i comes between those before it and those after it
 pub line_there : (xs : List Strike) (vs : List Verdict) (i : ℕ) (x : Strike) (v d : Verdict) → i < length xs → length vs
     ≡ length xs → x ≡ get_or xs i x → v ≡ get_or vs i d
     → verdict_lines xs vs ≡ take i (verdict_lines xs vs) ++ verdict_line x v ∷ drop (suc i) (verdict_lines xs vs)

@@ -12,7 +12,7 @@ use Rattle.ft_campaign.specs.declared.verdict.Verdict.{Verdict}
 use Rattle.ft_campaign.specs.Verdicts.{AreVerdicts}
 use Rattle.ft_campaign.specs.Texts.{totals_of, campaign_lines}
 
--- a campaign came to its end: each fault has its verdict, the totals count them, and all lines were put
+-- a campaign finished: each fault has its verdict, the totals count the verdicts, and all lines were put
 pub record Finishes (totals : Totals) (o : Object) (faults : List Strike) (w : List Wild) (n : ℕ) (old new : SinkLog) : Type 0 where
   pub found : List Verdict
   pub verdicts : AreVerdicts o faults w n found

@@ -7,7 +7,7 @@ use Rattle.ft_text.specs.Lines.{lines_of}
 use Rattle.ft_campaign.specs.declared.fault_list.ListError.{ListError}
 use Rattle.ft_campaign.specs.declared.fault_list.ListError.TheVariants.{Line, TooMany, NoMemory}
 
--- the lines spell these strikes, in turn
+-- the lines spell these strikes, in order
 abbrev pub AreStrikeTexts : List (List ℕ) → List Strike → Type 0
 AreStrikeTexts lines faults = AllZip IsStrikeText lines faults
 
@@ -17,7 +17,7 @@ pub record IsFaultList (text : List ℕ) (faults : List Strike) : Type 0 where
   pub lines : AreStrikeTexts (lines_of text) faults
   pub few : length faults ≤ 65536
 
--- some lines spell strikes, and another line follows
+-- these lines spell strikes, and another line follows
 pub record GoesOn (lines before : List (List ℕ)) (line : List ℕ) : Type 0 where
   pub faults : List Strike
   pub texts : AreStrikeTexts before faults
@@ -40,7 +40,7 @@ pub record IsLong (lines : List (List ℕ)) : Type 0 where
   pub goes_on : GoesOn lines before line
   pub counted : length before ≡ 65536
 
--- a refusal, in the order in which they apply; running out of memory claims nothing
+-- this is a refusal of the text: besides `NoMemory`, which claims nothing, at most one applies
 abbrev pub IsListError : List ℕ → ListError → Type 0
 IsListError text (Line number) = (length text ≤ 4194304) × IsFirstBad (lines_of text) number
 IsListError text TooMany = (4194304 < length text) ⊎ ((length text ≤ 4194304) × IsLong (lines_of text))

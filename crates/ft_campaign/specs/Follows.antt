@@ -15,7 +15,7 @@ use Rattle.ft_campaign.specs.declared.follow.How.{How}
 use Rattle.ft_campaign.specs.declared.follow.How.TheVariants.{On, Stopped, Apart}
 use Rattle.ft_campaign.specs.declared.follow.Followed.{Followed}
 
--- these outputs follow the first `old` of the whole, up to the first `new`
+-- these outputs are those of the whole after the first `old`, up to the first `new`
 pub record Continues (whole : List Output) (old new : ℕ) (more : List Output) : Type 0 where
   pub front : take new whole ≡ take old whole ++ more
   pub few : new ≤ length whole
@@ -31,7 +31,7 @@ WentSo On o s w whole old new number done = (done ≡ number) × Continues whole
 WentSo Stopped o s w whole old new number done = (0 < done) × Continues whole old new (span o done s w).outputs × (¬ ((span o done s w).state.status ≡ Running))
 WentSo Apart o s w whole old new number done = (0 < done) × (¬ (IsPrefix (take old whole ++ (span o done s w).outputs) whole))
 
--- some steps were taken and compared with the outputs of another run, of which the first `old` had been passed
+-- some steps were taken and compared with the outputs of another run, the first `old` of which had already been passed
 pub record Follows (o : Object) (s : State) (w : List Wild) (s' : State) (w' : List Wild) (whole : List Output) (old new number : ℕ) (t : Followed) : Type 0 where
   pub few : t.done ≤ number
   pub state_is : s' ≡ (span o t.done s w).state
@@ -39,13 +39,13 @@ pub record Follows (o : Object) (s : State) (w : List Wild) (s' : State) (w' : L
   pub running : (j : ℕ) → j < t.done → (span o j s w).state.status ≡ Running
   pub went : WentSo t.how o s w whole old new number t.done
 
--- how steps went, by how they ended
+-- how steps went, given how they ended
 abbrev pub how_of : Pause → How
 how_of pause.Running = On
 how_of pause.Done = Stopped
 how_of pause.Detected = Stopped
 how_of pause.Refused = Apart
 
--- no output
+-- no outputs
 pub heeds_none : (whole : List Output) (at : ℕ) → at ≤ length whole → Heeds true whole at at []
 heeds_none whole at within = record { front = sym (append-nil (take at whole)); few = within }

@@ -1,4 +1,5 @@
--- What a campaign keeps of the run without a fault, and what one fault may cost: private except for the cost.
+-- What a campaign keeps of the run without a fault, and what one fault may cost: private to the crate, except for the
+-- cost.
 use Rattle.std.specs.Prelude.{◌≡◌, ℕ, ◌+◌, ◌-◌, ◌*◌, ◌/◌, ◌<◌, ◌≤◌, List, ◌++◌, length, slice_get, take, None, Some, false, true}
 use Rattle.ft_isa.specs.declared.plan.Strike.{Strike}
 use Rattle.ft_isa.specs.declared.plan.Wild.{Wild}
@@ -12,15 +13,16 @@ use Rattle.ft_semantics.specs.State.{State}
 use Rattle.ft_semantics.specs.Strike.{struck_before}
 use Rattle.ft_semantics.specs.Run.{state_after, wild_after, outputs_after, status_after, is_struck}
 
--- the two runs meet after m steps: a snapshot is kept there, after the strike, and states and wild answers left are
--- equal
+-- the two runs meet after m steps: a snapshot is kept there, after the strike, and the states and the remaining wild
+-- answers are equal
 pub record Meets (o : Object) (x : Strike) (w : List Wild) (m : ℕ) : Type 0 where
   pub kept : (j : ℕ) × (m ≡ 1024 * j)
   pub above : x.step < m
   pub state : state_after o (Some x) w m ≡ state_after o None w m
   pub wild : wild_after o (Some x) w m ≡ wild_after o None w m
 
--- the struck run need not be followed beyond step e: the last step is reached, or it has stopped, or it meets the other
+-- the struck run need not be followed beyond its first e steps: these are all n, it has stopped, or it meets the other
+-- run
 pub data IsEnd (o : Object) (x : Strike) (w : List Wild) (n e : ℕ) : Type 0 where
   last : e ≡ n → IsEnd o x w n e
   stopped : ¬ (status_after o (Some x) w e ≡ Running) → IsEnd o x w n e
@@ -30,8 +32,8 @@ pub data IsEnd (o : Object) (x : Strike) (w : List Wild) (n e : ℕ) : Type 0 wh
 abbrev pub first : Strike → ℕ
 first x = 1024 * (x.step / 1024)
 
--- a bound on what a fault costs in steps: any number if it strikes nothing; else the steps from its snapshot to any
--- end, so also to the first
+-- a bound on what a fault costs in steps: any number if it strikes nothing; otherwise the steps from its snapshot to
+-- any end, and therefore to the first
 pub data IsCost (o : Object) (w : List Wild) (n : ℕ) (x : Strike) (c : ℕ) : Type 0 where
   idle : is_struck o (Some x) w n ≡ false → IsCost o w n x c
   upto : (e : ℕ) → IsEnd o x w n e → c ≡ e - first x → IsCost o w n x c
@@ -56,7 +58,7 @@ pub record Kept (o : Object) (w : List Wild) (k : ℕ) (lengths : List ℕ) (sna
   pub row : k ≤ 1024 * length snapshots
   pub snapshots_are : (j : ℕ) (s : Snapshot) → slice_get snapshots j ≡ Some s → IsSnapshot o w (1024 * j) s
 
--- the run without a fault, as it is kept
+-- what is kept agrees with the run without a fault
 pub record IsClean (o : Object) (w : List Wild) (n : ℕ) (c : KeptRun) : Type 0 where
   pub outputs : c.outputs.items ≡ outputs_after o None w n
   pub status : c.status ≡ status_after o None w n
@@ -67,7 +69,7 @@ pub record IsClean (o : Object) (w : List Wild) (n : ℕ) (c : KeptRun) : Type 0
   pub within : upto ≤ n
   pub past : (i : ℕ) → upto ≤ i → i < n → ¬ (status_after o None w i ≡ Running)
 
--- what was put so far is a prefix of all outputs
+-- the outputs so far are the first `at` of all outputs
 pub record Begins (whole : List Output) (at : ℕ) (so_far : List Output) : Type 0 where
   pub front : so_far ≡ take at whole
   pub few : at ≤ length whole
@@ -89,8 +91,8 @@ pub record IsAtMeeting (o : Object) (x : Strike) (w : List Wild) (n at m count :
   pub running : status_after o None w m ≡ Running
   pub count_is : count ≡ length (outputs_after o None w m)
 
--- a machine is in the struck run's state after s steps, past the strike, with outputs that are a prefix of the other's,
--- and the runs have not met up to there
+-- a machine is in the struck run's state after s steps, past the strike; its outputs are a prefix of the other run's,
+-- and the runs have not met so far
 pub record IsRacing (o : Object) (x : Strike) (w : List Wild) (n s : ℕ) (machine : State) (left : List Wild) (at : ℕ) : Type 0 where
   pub state : machine ≡ struck_before (Some x) s (state_after o (Some x) w s)
   pub wild : left ≡ wild_after o (Some x) w s

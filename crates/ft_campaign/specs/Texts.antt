@@ -7,7 +7,7 @@ use Rattle.ft_campaign.specs.declared.totals.Totals.{Totals}
 use Rattle.ft_campaign.specs.declared.verdict.Verdict.{Verdict}
 use Rattle.ft_campaign.specs.declared.verdict.Verdict.TheVariants.{Idle, Masked, Detected, Corrupt}
 
--- whether a verdict is the named one
+-- whether a verdict is masked; likewise for detected, idle and corrupt
 abbrev pub is_masked : Verdict → Bool
 is_masked Masked = true
 is_masked _ = false

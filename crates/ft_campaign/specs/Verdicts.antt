@@ -18,7 +18,7 @@ IsSame o x w n = (outputs_after o (Some x) w n ≡ outputs_after o None w n) × 
 abbrev pub IsNoticed : Object → Strike → List Wild → ℕ → Type 0
 IsNoticed o x w n = (status_after o (Some x) w n ≡ Detected) × IsPrefix (outputs_after o (Some x) w n) (outputs_after o None w n)
 
--- the struck run is detected by step k: it is running after k steps, and detected after k + 1
+-- step k detects the struck run's fault: the run is running after k steps and detected after k + 1
 abbrev pub IsDetectedAt : Object → Strike → List Wild → ℕ → Type 0
 IsDetectedAt o x w k = (status_after o (Some x) w k ≡ Running) × (status_after o (Some x) w (k + 1) ≡ Detected)
 
@@ -29,6 +29,6 @@ IsVerdict o x w n verdicts.Masked = (is_struck o (Some x) w n ≡ true) × IsSam
 IsVerdict o x w n (verdicts.Detected at) = (is_struck o (Some x) w n ≡ true) × (¬ (IsSame o x w n)) × IsNoticed o x w n × IsDetectedAt o x w at
 IsVerdict o x w n verdicts.Corrupt = (is_struck o (Some x) w n ≡ true) × (¬ (IsSame o x w n)) × (¬ (IsNoticed o x w n))
 
--- the verdicts of faults, in their order
+-- the verdicts of faults, in the order of the faults
 abbrev pub AreVerdicts : Object → List Strike → List Wild → ℕ → List Verdict → Type 0
 AreVerdicts o faults w n vs = AllZip (λ x v. IsVerdict o x w n v) faults vs

@@ -20,11 +20,11 @@ use std::sync::ledger::Ledger;
 /// The maximum of the number of faults times the number of steps.
 const PRODUCT_LIMIT: u64 = 1_000_000_000;
 
-/// Takes the run of a program without a fault and its run under each fault, each for at most `n` steps and with the
-/// same answers to wild loads. Writes a line for the verdict of each fault, in the list's order, and then a line of the
-/// totals. `steps` counts the machine's steps. `TooMuch` is returned exactly if the number of faults times `n` is above
-/// 1,000,000,000; with it and with `NoMemory` nothing was put. `WriteFault` is returned only if a put failed, and
-/// nothing is put after it.
+/// Runs a program without a fault and under each fault, each time for at most `n` steps and with the same answers to
+/// wild loads. Writes a line for the verdict of each fault, in the list's order, and then a line of totals. `steps`
+/// counts the machine's steps. Returns `TooMuch` exactly if the number of faults times `n` is above 1,000,000,000; if
+/// it returns this or `NoMemory`, nothing was put. Returns `WriteFault` only if a put failed; nothing is put after
+/// that.
 pub fn survey<P: Program, K: Sink, L: Ledger>(
     alloc: Global,
     program: &P,
@@ -57,7 +57,7 @@ pub fn survey<P: Program, K: Sink, L: Ledger>(
     }
 }
 
-/// Like `survey`, on an accepted program: no verdict is `Corrupt`, and the run without a fault is never detected.
+/// Like `survey`, but on an accepted program: no verdict is `Corrupt`, and the run without a fault is never detected.
 pub fn campaign<'a, P: Program, K: Sink, L: Ledger>(
     alloc: Global,
     checked: &Checked<'a, P>,

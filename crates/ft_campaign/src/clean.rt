@@ -22,7 +22,7 @@ pub(crate) const SPACING: u64 = 1024;
 pub(crate) struct Snapshot<'w> {
     /// The machine.
     pub(crate) machine: Machine,
-    /// The answers to wild loads that are left.
+    /// The remaining answers to wild loads.
     pub(crate) wild: WildLeft<'w>,
     /// The number of outputs.
     pub(crate) count: usize,
@@ -31,11 +31,11 @@ pub(crate) struct Snapshot<'w> {
 /// What is kept of the run without a fault.
 #[derive(Drop)]
 pub(crate) struct KeptRun<'w> {
-    /// What it committed.
+    /// Its outputs.
     pub(crate) outputs: Vec<Output>,
-    /// The length of the queue before each step of the running machine.
+    /// The length of the queue before each step that it took while running.
     pub(crate) lengths: Vec<u8>,
-    /// A snapshot at each multiple of 1,024 before a step of the running machine.
+    /// A snapshot before each such step whose number is a multiple of 1,024.
     pub(crate) snapshots: Vec<Snapshot<'w>>,
     /// Its status after its last step.
     pub(crate) status: Status,
@@ -43,7 +43,7 @@ pub(crate) struct KeptRun<'w> {
     pub(crate) last: u64,
 }
 
-/// Whether outputs after the first `from` are a prefix of those after the first `at`.
+/// Whether the outputs after the first `from` are a prefix of those after the first `at`.
 fn is_noticed_later(outputs: &[Output], from: usize, at: usize) -> bool
     requires from { from ≤ length outputs.now }
     requires at { at ≤ length outputs.now }
@@ -98,7 +98,7 @@ impl<'w> KeptRun<'w> {
         at == self.outputs.len()
     }
 
-    /// The verdict on a struck run that reached its last step, with the first `at` outputs.
+    /// The verdict on a struck run that reached its last step, with the first `at` outputs of this run.
     pub(crate) fn verdict_at_end(&self, at: usize, status: Status, last: u64) -> Verdict
         ensures { (o : Object) (x : Fault) (w : List Answer) (n : ℕ) → IsClean o w n self.now → HasEnded o x w n at status last → IsVerdict o x w n result }
     {
@@ -123,7 +123,8 @@ impl<'w> KeptRun<'w> {
         is_noticed_later(self.outputs.as_slice(), from, at)
     }
 
-    /// The verdict on a struck run that met this one: it then had the first `at` outputs, and this one had `count`.
+    /// The verdict on a struck run that met this one: at that point, it had the first `at` outputs, and this run had
+    /// `count`.
     pub(crate) fn verdict_at_meeting(&self, at: usize, count: usize) -> Verdict
         requires at { at ≤ length self.now.outputs.items }
         requires count { count ≤ length self.now.outputs.items }

@@ -15,7 +15,7 @@ use ft_types::Program;
 use std::alloc::Global;
 use std::sync::ledger::Ledger;
 
-/// The state of the run: its machine, the answers left, and the number of its outputs.
+/// The state of the run: its machine, the remaining answers, and the number of its outputs.
 #[derive(Clone, Copy)]
 struct Moment<'a, 'w> {
     machine: &'a Machine,
@@ -73,8 +73,8 @@ fn keep_snapshot<'w, P: Program>(
     Ok(())
 }
 
-/// How many steps are taken at once before the step with number `n`: both of an instruction if nothing is fetched and
-/// no snapshot is due in between, else one. `kept` is the number of snapshots.
+/// How many steps to take at once from step `k`, with step `n` as the limit: both of an instruction if nothing is
+/// fetched and no snapshot is due in between, otherwise one. `kept` is the number of snapshots.
 fn steps_at_once(machine: &Machine, k: u64, n: u64, kept: usize) -> u64
     requires before { k < n }
     requires kept { k < 1024 * kept }
@@ -120,7 +120,7 @@ fn keep_output(last: Stepped, outputs: &mut Vec<Output>) -> Result<(), NoMemory>
     }
 }
 
-/// Runs a program from its start with no fault, for at most `n` steps.
+/// Runs a program from its start without a fault, for at most `n` steps.
 pub(crate) fn run_clean<'w, P: Program, L: Ledger>(
     alloc: Global,
     program: &P,

@@ -51,14 +51,15 @@ fn read_lines(alloc: Global, bytes: &[u8]) -> Result<Vec<Strike>, ListError>
     Ok(faults)
 }
 
-/// Reads a fault list: a text of lines, each a strike, `K:SITE:V`, with a line feed at its end; the last line may lack
-/// it. The empty text is the empty list. `TooMany` comes first if there are more than 4,194,304 bytes; then `Line` for
-/// the first of the first 65,536 lines that is not a strike; then `TooMany` if there are more lines.
+/// Reads a fault list: a text of lines, each a strike, `K:SITE:V`, that ends in a line feed; the last line may end
+/// without one. The empty text is the empty list. Refuses with `TooMany` if there are more than 4,194,304 bytes;
+/// otherwise with `Line` at the first of the first 65,536 lines that is not a strike; otherwise with `TooMany` if there
+/// are more lines.
 pub fn read_faults(alloc: Global, bytes: &[u8]) -> Result<Vec<Strike>, ListError>
     ensures ok { IfOk result (λ faults. IsFaultList bytes.now faults.items) }
     ensures err { IfErr result (IsListError bytes.now) }
 
-    // A fault list is read as its faults, and any other text as its refusal.
+    // A fault list is read as its faults; any other text gives its refusal.
     ensures exact { (faults : List Fault) → IsFaultList bytes.now faults → MatchResult result (λ read. read.items ≡ faults) (λ e. e ≡ ListError.NoMemory) }
     ensures exact_err { (error : ListError) → error ≢ ListError.NoMemory → IsListError bytes.now error → MatchResult result (λ read. ⊥) (λ e. (e ≡ error) ⊎ (e ≡ ListError.NoMemory)) }
 {

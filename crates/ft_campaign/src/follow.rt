@@ -29,7 +29,7 @@ pub(crate) struct Followed {
     pub(crate) how: How,
 }
 
-/// Whether an output is the one at a place of others; then the place moves past it.
+/// Whether an output is the one at this place in a list; if so, the place moves past it.
 fn is_next(whole: &[Output], at: &mut usize, output: Output) -> bool
     requires { at.old ≤ length whole.now }
     ensures heeds { Heeds result whole.now at.old at.new (output ∷ []) }
@@ -48,7 +48,7 @@ fn is_next(whole: &[Output], at: &mut usize, output: Output) -> bool
     }
 }
 
-/// The outputs of the run without a fault, and how many of them the struck run has put. It does not go on after an
+/// The outputs of the run without a fault, and how many of them the struck run has had. It does not go on after an
 /// output that is not the next of them.
 #[derive(Drop)]
 pub(crate) struct Expected<'a> {
@@ -71,7 +71,7 @@ impl<'a> Outlet for Expected<'a> {
     }
 }
 
-/// How steps went, by how they ended.
+/// How steps went, given how they ended.
 fn how_of(pause: Pause) -> How
     ensures { result ≡ how_of pause }
 {
@@ -83,7 +83,7 @@ fn how_of(pause: Pause) -> How
     }
 }
 
-/// Takes some steps of a running machine, until it stops or an output is not the expected one.
+/// Takes at most `number` steps of a running machine, and ends early if it stops or an output is not the expected one.
 pub(crate) fn follow<P: Program, L: Ledger>(
     machine: &mut Machine,
     program: &P,
@@ -107,7 +107,7 @@ pub(crate) fn follow<P: Program, L: Ledger>(
     }
 }
 
-/// How many outputs were taken.
+/// How many outputs have come so far.
 #[derive(Drop)]
 struct OutputCount {
     count: usize,

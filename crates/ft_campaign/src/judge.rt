@@ -17,7 +17,7 @@ use ft_types::Program;
 use std::alloc::Global;
 use std::sync::ledger::Ledger;
 
-/// The verdict of a fault: its run from the last snapshot at or before its strike.
+/// The verdict of a fault, found by running from the last snapshot at or before its strike.
 fn judge_fault<'w, P: Program, L: Ledger>(
     program: &P,
     clean: &KeptRun<'w>,

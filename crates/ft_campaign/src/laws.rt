@@ -19,19 +19,20 @@ pub fn faults_of_accepted_objects_are_not_corrupt()
     ensures { (o : Object) (x : Strike) (w : List Wild) (n : ℕ) → IsSpellable o → IsAccepted o → ¬ (IsVerdict o x w n Corrupt) }
 {}
 
-/// A fault has one verdict.
+/// A fault has at most one verdict.
 pub fn verdicts_are_one()
     ensures { (o : Object) (x : Strike) (w : List Wild) (n : ℕ) (u v : Verdict) → IsVerdict o x w n u → IsVerdict o x w n v → u ≡ v }
 {}
 
-/// A text is at most one fault list, has at most one refusal besides out of memory, and never both.
+/// A text is at most one fault list, has at most one refusal besides out of memory, and is never both a list and
+/// refused.
 pub fn one_text_has_one_list()
     ensures list { (text : List ℕ) (xs ys : List Strike) → IsFaultList text xs → IsFaultList text ys → xs ≡ ys }
     ensures refusal { (text : List ℕ) (e f : ListError) → e ≢ NoMemory → f ≢ NoMemory → IsListError text e → IsListError text f → e ≡ f }
     ensures either { (text : List ℕ) (xs : List Strike) (e : ListError) → e ≢ NoMemory → IsFaultList text xs → ¬ (IsListError text e) }
 {}
 
-/// If two runs meet, they reach the same state, and the rest of their outputs is the same.
+/// If two runs meet, they reach the same states from then on, and the rest of their outputs is the same.
 pub fn runs_that_meet_stay_together()
     ensures { (o : Object) (x : Strike) (w : List Wild) (m n : ℕ) → Meets o x w m → m ≤ n → HasMet o x w m n }
 {}

@@ -1,10 +1,9 @@
 //! Campaigns: the verdict of each fault of a list on a program.
 //!
-//! The crate promises that a fault list is read exactly, that a campaign finds each fault's verdict by
-//! its definition and writes the lines of the verdicts and of their totals, that each fault costs few
-//! steps, and that a fault of an accepted program is never corrupt. Its definitions:
-//! `specs/FaultList.antt`, `specs/Verdicts.antt`, `specs/Texts.antt`, `specs/Campaigns.antt`,
-//! `specs/Snapshots.antt`.
+//! The crate promises that a fault list is read exactly, that a campaign finds each fault's verdict as defined and
+//! writes a line for each verdict and a line of totals, that each fault costs few steps, and that a fault of an
+//! accepted program is never corrupt. Its definitions: `specs/FaultList.antt`, `specs/Verdicts.antt`,
+//! `specs/Texts.antt`, `specs/Campaigns.antt`, `specs/Snapshots.antt`.
 #![tactic(auto)]
 
 mod campaign_end;

@@ -9,7 +9,7 @@ use crate::verdict::Verdict;
 use ft_edge::{Failed, Sink, put_line};
 use ft_isa::Strike;
 
-/// Puts a line for each fault and its verdict.
+/// Writes a line for each fault and its verdict.
 fn put_verdicts<K: Sink>(faults: &[Strike], verdicts: &[Verdict], out: &mut K) -> Result<(), Failed>
     requires { length verdicts.now ≡ length faults.now }
     ensures { Puts (end_of_puts result) (verdict_lines faults.now verdicts.now) (K.log out.old) (K.log out.new) }
@@ -22,7 +22,7 @@ fn put_verdicts<K: Sink>(faults: &[Strike], verdicts: &[Verdict], out: &mut K) -
     Ok(())
 }
 
-/// Puts a line for each fault and its verdict, and then a line of the totals.
+/// Writes a line for each fault and its verdict, and then a line of totals.
 pub(crate) fn report<K: Sink>(
     faults: &[Strike],
     verdicts: &[Verdict],

@@ -1,4 +1,4 @@
-//! A struck run, from its strike.
+//! A struck run, from its strike on.
 ghost use Rattle.std.specs.Prelude.{◌≡◌, ◌≤◌, ◌<◌, ◌+◌, ◌-◌, ◌*◌, ℕ, List, length, Decides, IfSome, IfNone, true, None, Some};
 ghost use Rattle.ft_isa.specs.declared.plan.Strike.{Strike as Fault};
 ghost use Rattle.ft_isa.specs.declared.plan.Wild.{Wild as Answer};
@@ -18,7 +18,7 @@ use ft_semantics::Status;
 use ft_types::Program;
 use std::sync::ledger::Ledger;
 
-/// A fault to try, with the answers to wild loads, and for how many steps.
+/// A fault to try, the answers to wild loads, and the number of steps.
 #[derive(Clone, Copy)]
 pub(crate) struct Trial<'w> {
     pub(crate) fault: Strike,
@@ -26,14 +26,14 @@ pub(crate) struct Trial<'w> {
     pub(crate) n: u64,
 }
 
-/// The machine of a struck run, and the answers left. One serves all trials of a list.
+/// The machine of a struck run, and the remaining answers. One such value serves all trials of a list.
 #[derive(Drop)]
 pub(crate) struct StruckRun<'w> {
     pub(crate) machine: Machine,
     pub(crate) left: WildLeft<'w>,
 }
 
-/// Where a run is compared next after step `s`, at the latest after step `n`.
+/// After how many steps a run is compared next, if `s` have been taken: at most `n`.
 fn next_place(s: u64, n: u64) -> u64
     requires before { s < n }
     requires n { n ≤ 1000000 }
@@ -48,7 +48,7 @@ fn next_place(s: u64, n: u64) -> u64
     n
 }
 
-/// Whether a machine is in the state of another.
+/// Whether a machine is in the same state as another.
 fn same_state(machine: &Machine, other: &Machine) -> bool
     ensures { Decides result (machine.now ≡ other.now) }
 {
@@ -62,7 +62,7 @@ fn same_answers(left: &WildLeft, other: &WildLeft) -> bool
     left.same_as(other)
 }
 
-/// Whether a machine and the answers left are those of a snapshot.
+/// Whether a machine and the remaining answers are those of a snapshot.
 fn is_here(snapshot: &Snapshot, machine: &Machine, left: &WildLeft) -> bool
     ensures { Decides result ((machine.now ≡ snapshot.now.machine) × (left.now ≡ snapshot.now.wild)) }
 {
@@ -72,7 +72,7 @@ fn is_here(snapshot: &Snapshot, machine: &Machine, left: &WildLeft) -> bool
     same_answers(left, &snapshot.wild)
 }
 
-/// The number of outputs of the run without a fault, if the struck run meets it after step `s`.
+/// The number of outputs of the run without a fault, if the struck run meets it after `s` steps.
 fn meeting(clean: &KeptRun, s: u64, machine: &Machine, left: &WildLeft) -> Option<usize>
     ensures some { (o : Object) (x : Fault) (w : List Answer) (n : ℕ) → IsClean o w n clean.now → machine.now ≡ state_after o (Some x) w s
         → left.now ≡ wild_after o (Some x) w s → IfSome result (IsMeeting o x w s) }
@@ -91,8 +91,8 @@ fn meeting(clean: &KeptRun, s: u64, machine: &Machine, left: &WildLeft) -> Optio
     Some(snapshot.count)
 }
 
-/// Judges a struck run, from its strike on: follows it until its verdict is known. `begun` is the number of its outputs
-/// before the strike.
+/// Follows a struck run from its strike on until its verdict is known. `begun` is the number of its outputs before the
+/// strike.
 pub(crate) fn judge_run<P: Program, L: Ledger>(
     program: &P,
     clean: &KeptRun,

@@ -4,7 +4,7 @@ ghost use Rattle.ft_campaign.specs.Texts.{is_masked, is_detected, is_idle, is_co
 
 use crate::verdict::Verdict;
 
-/// How many faults have each verdict: 65,536 at most in all.
+/// How many faults have each verdict: at most 65,536 altogether.
 #[derive(Clone, Copy, Debug, PartialEq, Eq)]
 pub struct Totals {
     /// Faults without a visible effect.

@@ -5,9 +5,9 @@
 pub enum Verdict {
     /// Nothing was struck.
     Idle,
-    /// Outputs and status are those of the run without it.
+    /// Outputs and status are those of the run without the fault.
     Masked,
-    /// The run detected the fault and stopped, and its outputs are a prefix of those of the run without it.
+    /// The run detected the fault and stopped, and its outputs are a prefix of those of the run without the fault.
     Detected {
         /// The number of the step that detected it, counted from 0.
         at: u64,

@@ -18,7 +18,7 @@ use Rattle.ft_rules.specs.Answers.{rule_cost}
 use Rattle.ft_checker.specs.Costs.{transfers, transfer_count, most_updates, check_cost, visit_cost, walk_cost}
 use Rattle.ft_checker.specs.Costs.{instrs_cost}
 
--- trees over a memory of as many updates as there are nodes
+-- up to 210 trees, over a memory of at most as many updates as there are nodes
 trees_within : (o : Object) (n u : ℕ) → n ≤ 210 → u ≤ length o.nodes → n * tree_cost o u ≤ visit_cost o
 unfolding tree_cost visit_cost
 trees_within o n u l m =
@@ -43,14 +43,14 @@ rule_within o k (BzB rz rd subst) m q = let a = trees_within o 210 (length o.nod
     omega (arith, a)
 rule_within o k i m q = omega arith
 
--- one instruction more
+-- one more instruction
 cost_push : (o : Object) (is : List Instr) (i : Instr) → instrs_cost o (is ++ i ∷ [])
     ≡ instrs_cost o is + (transfers i * visit_cost o + walk_cost o)
 unfolding instrs_cost
 cost_push o [] i = omega arith
 cost_push o (j ∷ is) i = let h = cost_push o is i in omega (arith, h)
 
--- the same for the first ones
+-- the same for the first k instructions
 pub cost_more : (o : Object) (is : List Instr) (k : ℕ) (i : Instr) → slice_get is k ≡ Some i →
     instrs_cost o (take (k + 1) is) ≡ instrs_cost o (take k is) + (transfers i * visit_cost o + walk_cost o)
 cost_more o is k i e =
@@ -58,12 +58,12 @@ cost_more o is k i e =
     ap (instrs_cost o) (t ∙ ap (λ (j : Instr). take k is ++ j ∷ []) (get_or_from_slice_get is k i i e))
     ∙ cost_push o (take k is) i
 
--- none cost nothing
+-- no instructions cost nothing
 pub none_cost : (o : Object) → instrs_cost o [] ≡ 0
 unfolding instrs_cost
 none_cost o = refl
 
--- more instructions cost more
+-- more instructions cost at least as much
 pub cost_rises : (o : Object) (is : List Instr) (k l : ℕ) → k ≤ l →
     instrs_cost o (take k is) ≤ instrs_cost o (take l is)
 unfolding instrs_cost
@@ -84,7 +84,7 @@ cost_all o [] (suc k) = omega arith
 cost_all o (i ∷ is) zero = omega arith
 cost_all o (i ∷ is) (suc k) = let r = cost_all o is k in omega (arith, r)
 
--- the cost of instructions by their number
+-- the cost of instructions, in terms of their number
 cost_counted : (o : Object) (is : List Instr) → instrs_cost o is
     ≡ transfer_count is * visit_cost o + length is * walk_cost o
 unfolding instrs_cost
@@ -108,7 +108,7 @@ abbrev pub begins : Object → ℕ → ℕ
 begins o zero = 0
 begins o (suc b) = block_end o b
 
--- a block that is there begins there
+-- an existing block begins there
 pub begins_there : (o : Object) (b : ℕ) (x : Block) → IsSpellable o → slice_get o.blocks b ≡ Some x → begins o b
     ≡ x.start
 begins_there o zero x h e = sym (first o.blocks h.first_block e)

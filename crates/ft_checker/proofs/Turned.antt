@@ -1,4 +1,4 @@
--- The walk of a block and the first refusals, one turn at a time.
+-- The walk of a block and the search for the first refusal, one iteration at a time.
 use Rattle.std.proofs.Common.{◌≡◌, ◌≢◌, ◌+◌, ◌<◌, ◌≤◌, ℕ, zero, suc, Bool, true, false, ◌==◌, eqb-true, eq-eqb, List}
 use Rattle.std.proofs.Common.{[], ◌∷◌, length, drop, slice_get, slice_range, Option, Some, None, Result, Ok, Err, refl}
 use Rattle.std.proofs.Common.{sym, ap, ◌∙◌, subst, arith}
@@ -33,7 +33,7 @@ use Rattle.ft_typing.specs.TypingRow.{row}
 use Rattle.ft_typing.specs.RowWords.{Outcome, Goes, Ends, Fails}
 use Rattle.ft_contexts.proofs.Lists.{range_there}
 
--- after a row that goes on
+-- after a row that continues
 pub on_last : (x : Outcome) (d : Context) (k : ℕ) (others : List Instr) (next : Context → Option (ℕ × Premise)) → x
     ≡ Goes d → has_none others ≡ true → after_row x k others next ≡ Some (k, BlockEnd)
 unfolding after_row
@@ -65,7 +65,7 @@ pub row_fails : (x : Outcome) (p : Premise) (k : ℕ) (others : List Instr) (nex
 unfolding after_row
 row_fails x p k others next e = rw e refl
 
--- a turn of the walk
+-- an iteration of the walk
 pub walk_turn : (o : Object) (c : Context) (k : ℕ) (is : List Instr) (i : Instr) (others : List Instr) → is
     ≡ i ∷ others → walk o c k is ≡ after_row (row o c i) k others (λ d. walk o d (suc k) others)
 unfolding walk
@@ -76,7 +76,7 @@ pub walk_none : (o : Object) (c : Context) (k : ℕ) (is : List Instr) → is �
 unfolding walk
 walk_none o c k is e = rw e refl
 
--- a turn of a first refusal
+-- an iteration of the search for the first refusal
 pub first_turn : {X : Type 0} (refuse : ℕ → X → Option Refusal) (k : ℕ) (xs : List X) (x : X) → slice_get xs k
     ≡ Some x → first_refusal refuse k (drop k xs) ≡ option_or (refuse k x)
     (first_refusal refuse (k + 1) (drop (k + 1) xs))
@@ -91,7 +91,7 @@ first_end refuse k xs l = rw (drop_all k xs l) refl
 
 -- CELLS
 
--- a cell with an initial word of its type, and one with another
+-- a cell whose initial word has its type, and one whose word does not
 pub cell_passes : (o : Object) (k : ℕ) (x : Cell) (h : CellHead) → cell_head_of x ≡ h → has_type o h.init h.basic
     ≡ true → cell_refusal o k x ≡ None
 cell_passes o k x h same t =
@@ -108,7 +108,7 @@ cell_fails o k x h same t =
 
 -- BLOCKS
 
--- a block that is there
+-- an existing block
 pub block_there : (bs : List Block) (b : ℕ) → b < length bs → (x : Block) × (slice_get bs b ≡ Some x)
 block_there [] b h = absurd (omega arith)
 block_there (x ∷ bs) zero h = (x, refl)
@@ -129,7 +129,7 @@ pub block_ends : (o : Object) (b : ℕ) (x : Block) → IsSpellable o → slice_
     (x.start < block_end o b) × (block_end o b ≤ length o.instrs)
 block_ends o b x h e = ends_after (length o.instrs) 0 o.blocks b x h.blocks e
 
--- an instruction that is there
+-- an existing instruction
 pub instr_there : (is : List Instr) (k : ℕ) → k < length is → (x : Instr) × (slice_get is k ≡ Some x)
 instr_there [] k h = absurd (omega arith)
 instr_there (x ∷ is) zero h = (x, refl)
@@ -194,7 +194,7 @@ pub walk_past : (o : Object) (c : Context) (k : ℕ) (xs : List Instr) (i past :
     walk o c k (slice_range xs i past) ≡ Some (k, BlockEnd)
 walk_past o c k xs i past l = walk_none o c k (slice_range xs i past) (range_past xs i past l)
 
--- the refusal of a block by the walk of it
+-- the refusal of a block, in terms of its walk
 pub block_walk : (o : Object) (b : ℕ) (x y : Block) → slice_get o.blocks b ≡ Some x → slice_get o.blocks b ≡ Some y →
     block_refusal o b x ≡ option_map (λ r. refusals.Refused b r.0 r.1)
     (walk o (start_context o y.code_type) 0 (block_instrs o b))
@@ -213,11 +213,11 @@ pub refusal_rest : (o : Object) (t : ℕ) → block_type o o.entry ≡ t → is_
     ≡ option_or (first_refusal (cell_refusal o) 0 o.cells) (first_refusal (block_refusal o) 0 o.blocks)
 refusal_rest o t e h = rw (e, h) refl
 
--- the code type of a block that is there
+-- the code type of an existing block
 pub type_found : (o : Object) (b : ℕ) (x : Block) → slice_get o.blocks b ≡ Some x → block_type o b ≡ x.code_type
 type_found o b x f = ap (λ (y : Option Block). unwrap_or (option_map code_type_of y) 0) f
 
--- a start stays one if the list of forms grows
+-- a start remains one after the list of forms has grown
 pub start_kept : (o : Object) (fs gs : List Normal) (s : Start) → Keeps fs gs → IsStart o fs s → IsStart o gs s
 start_kept o fs gs s k h =
     let e = context_stays fs gs s.context k h.held in
@@ -231,7 +231,7 @@ start_kept o fs gs s k h =
       count = omega (arith, m, c);
     }
 
--- the last start, if there is one, stays one if the list of forms grows
+-- so does the last start, if there is one
 pub last_kept : (o : Object) (fs gs : List Normal) (x : Option Start) → Keeps fs gs → IfSome x (IsStart o fs) →
     IfSome x (IsStart o gs)
 last_kept o fs gs None k h = tt

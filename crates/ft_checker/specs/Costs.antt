@@ -15,8 +15,8 @@ abbrev pub transfer_count : List Instr → ℕ
 transfer_count [] = 0
 transfer_count (i ∷ is) = transfers i + transfer_count is
 
--- a bound on the nodes handled: for each block, and for each blue jump or branch, those of 128 substituted rows
--- and their memory, of 64 registers, of 16 expressions of the queue and of one memory
+-- a bound on the nodes handled: for each block and each blue jump or branch, the nodes of 210 expressions, which are
+-- 128 substitution rows and their memory, 64 registers, 16 expressions in the queue, and one more memory
 abbrev pub most_visits : Object → ℕ
 most_visits o = 210 * length o.nodes * (length o.blocks + transfer_count o.instrs)
 

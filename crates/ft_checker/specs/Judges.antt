@@ -36,7 +36,7 @@ abbrev pub HasEnded : Option (ℕ × Premise) → Option (ℕ × Premise) → Bo
 HasEnded x later true = x ≡ None
 HasEnded x later false = x ≡ later
 
--- what the result of one turn of a block says about the walk of the block from instruction k
+-- what the result of `turn` says about the walk of the block from instruction k
 abbrev pub Turns : Option (ℕ × Premise) → ℕ → Option (ℕ × Premise) → Result Bool RuleError → Type 0
 Turns x k later (Ok ended) = HasEnded x later ended
 Turns x k later (Err e) = StopsAt x k e
@@ -46,8 +46,8 @@ pub record IsChecked (o : Object) : Type 0 where
   pub spellable : IsSpellable o
   pub accepted : IsAccepted o
 
--- the context of a start is the one where the blocks of its code type begin: its forms are held, its code types are the
--- object's, its queue has at most 8 pairs, and its memory at most as many updates as there are nodes
+-- the context of a start is the one with which blocks of its code type begin; its forms are held, its code types are
+-- the object's, its queue has at most 8 pairs, and its memory has at most as many updates as there are nodes
 pub record IsStart (o : Object) (fs : List Normal) (s : Start) : Type 0 where
   pub context : context_in fs s.context ≡ start_context o s.code_type
   pub held : HoldsForms fs s.context

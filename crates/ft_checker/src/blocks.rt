@@ -25,7 +25,7 @@ use ft_types::{Program, end_of};
 use std::alloc::Global;
 use std::sync::ledger::Ledger;
 
-/// Types one instruction, which is the last of its block or not. Returns whether the block has ended.
+/// Types one instruction; `last` says whether it is the last of its block. Returns whether the block has ended.
 fn turn<P: Program, L: Ledger>(
     context: &mut Context,
     shared: &mut Shared,
@@ -76,14 +76,14 @@ fn refused(block: u32, index: u32, error: RuleError) -> CheckError
     }
 }
 
-/// The context where the blocks of a code type begin.
+/// The context with which the blocks of a code type begin.
 #[derive(Drop)]
 struct Start {
     code_type: u32,
     context: Context,
 }
 
-/// Whether the last start that was made is of code type `t`.
+/// Whether the last start made is of code type `t`.
 fn is_start_of(last: &Option<Start>, t: u32) -> bool
     ensures { result ≡ true → IsStartOf t last.now }
 {
@@ -93,7 +93,7 @@ fn is_start_of(last: &Option<Start>, t: u32) -> bool
     }
 }
 
-/// Makes the start of code type `t` in place of the last start that was made, if that is of another code type.
+/// Makes the start of code type `t` in place of the last one made, unless that is already of this code type.
 fn renew<P: Program, L: Ledger>(
     last: &mut Option<Start>,
     alloc: Global,
@@ -125,8 +125,8 @@ fn renew<P: Program, L: Ledger>(
     Ok(())
 }
 
-/// Types the instructions of block `b` in turn, from the start of its code type. The context is changed for this block,
-/// whatever it was.
+/// Types the instructions of block `b` in order, from the start of its code type. What the context held before does not
+/// matter.
 fn check_block<P: Program, L: Ledger>(
     program: &P,
     b: u32,

@@ -7,7 +7,7 @@ ghost use Rattle.ft_checker.specs.Judges.{IsChecked};
 use ft_types::Program;
 use std::marker::Model;
 
-/// A program that is accepted: `check` found this, or it is known where the program was made.
+/// An accepted program: `check` has accepted it, or it is known to be accepted from the way it was made.
 #[derive(Drop)]
 pub struct Checked<'a, P: Program> {
     pub(crate) program: &'a P,

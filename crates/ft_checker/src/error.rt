@@ -3,9 +3,9 @@ use ft_isa::NoMemory as OutOfMemory;
 use ft_rules::Why;
 use thiserror::Error;
 
-/// Why an object is not accepted: a run may not begin with its entry block's code type; the lowest cell with an initial
-/// word of another type; or the first failing premise of an instruction, by its block and its index in the block,
-/// counted from 0. Or memory ran out.
+/// Why an object is not accepted: a run may not begin with its entry block's code type; a cell (the lowest such one)
+/// has an initial word of another type; or an instruction is refused, given by its block and its index in the block,
+/// both counted from 0, with its first failing premise. Or memory ran out.
 #[derive(Clone, Copy, Debug, PartialEq, Eq, Error)]
 pub enum CheckError {
     #[error("a run may not begin with the entry block's code type")]

@@ -35,10 +35,11 @@ fn judge<P: Program, L: Ledger>(
     check_blocks(alloc, program, steps)
 }
 
-/// Checks a program. Ok is returned exactly if its object is accepted. Otherwise the error is exactly the refusal:
-/// `EntryType`, then the lowest cell with `CellType`, then the first instruction that is refused, by blocks in order.
-/// It counts a step for each node that is handled, for each update that a walk of `sel` passes, and for each update
-/// that is applied for a pending memory.
+/// Checks a program. Unless memory runs out, it returns Ok exactly if the program's object is accepted, and otherwise
+/// the error is exactly the refusal: `EntryType` first, then `CellType` for the lowest such cell, then `Refused` for
+/// the first refused instruction, taking the blocks in order. `NoMemory` says nothing about the object. It counts a
+/// step for each node handled, for each update that a `sel` walks past, and for each update applied for a pending
+/// memory.
 pub fn check<'a, P: Program, L: Ledger>(
     alloc: Global,
     program: &'a P,
@@ -72,7 +73,7 @@ fn check_from_0<'a, P: Program, L: Ledger>(
     check(alloc, program, &mut steps)
 }
 
-/// The same check, for callers that count no steps.
+/// The same check, for callers that do not count steps.
 pub fn check_uncounted<'a, P: Program>(
     alloc: Global,
     program: &'a P,

@@ -1,4 +1,4 @@
-//! Keys for the table of forms, made of the object's own content.
+//! Keys for the table of forms, made from the object's own content.
 ghost use Rattle.std.specs.Prelude.{◌<◌, length};
 ghost use Rattle.ft_types.specs.Spellable.{IsSpellable};
 
@@ -11,8 +11,8 @@ const FIRST_KEY: u64 = 0x7461_6c66_745f_6b31;
 
 const SECOND_KEY: u64 = 0x7461_6c66_745f_6b32;
 
-/// Two numbers, each of which depends on all words that its lane noted. Each word is mixed with the
-/// number and multiplied by the lane's factor, and the two halves of the product are joined.
+/// Two numbers, each of which depends on all words noted in its lane. Each word is mixed into the number, the result is
+/// multiplied by the lane's factor, and the two halves of the product are combined by exclusive or.
 #[derive(Drop)]
 struct Lanes {
     first: u64,
@@ -24,7 +24,7 @@ const FIRST_FACTOR: u64 = 0x9e37_79b9_7f4a_7c15;
 
 const SECOND_FACTOR: u64 = 0xd1b5_4a32_d192_ed03;
 
-/// The two halves of a product, joined.
+/// The exclusive or of the two halves of a product.
 #[inline(always)]
 fn folded_multiply(a: u64, b: u64) -> u64 {
     let product = a as u128 * b as u128;
@@ -54,7 +54,7 @@ fn base_number(base: Base) -> u32 {
     }
 }
 
-/// The place of a substitution's rows, as one word. The node for its memory is noted separately.
+/// Where a substitution's rows are, as one word. The node for its memory is noted separately.
 fn rows_of(subst: Subst) -> u64 {
     joined(subst.first, subst.past)
 }
@@ -152,7 +152,7 @@ fn note_substs<P: Program>(lanes: &mut Lanes, program: &P)
 }
 
 /// Two keys that depend on the nodes, the code types, the instructions and the substitution rows. So whoever makes an
-/// object cannot know which places of the table its forms will have, short of trying.
+/// object cannot know, short of trying, where in the table its forms will go.
 pub fn keys_of<P: Program>(program: &P) -> (u64, u64)
     requires { IsSpellable (P.object program.now) }
 {

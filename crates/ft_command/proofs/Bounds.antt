@@ -11,7 +11,7 @@ use Rattle.ft_command.specs.Commands.{allowed_of, campaign_of, turns_up_to, requ
 use Rattle.ft_command.specs.Commands.{Demonstrates, AreCommand, HasFewSteps, HasTurns}
 use Rattle.ft_command.proofs.Numbers.{turns_within}
 
--- a number that was given is allowed and at most the greatest
+-- a number that was given is allowed, and is at most the maximum
 abbrev IsUpTo : Option ℕ → Option ℕ → Type 0
 IsUpTo most None = Unit {0}
 IsUpTo None (Some n) = ⊥
@@ -82,7 +82,7 @@ few_of verb.Link operand given h = tt
 none_up_to : (v : Verb) → IsUpTo (allowed_of v).steps none_given.steps
 none_up_to v = tt
 
--- what words that are a command ask for has few steps
+-- the request of a command has few steps
 pub few_steps : (words : List Word) (request : Request) → AreCommand words request → HasFewSteps request
 few_steps words request h = subst HasFewStepsIfSome h.request_is
     (few_of h.verb h.operand h.given (after_options (allowed_of h.verb) h.options none_given h.given (none_up_to h.verb)
@@ -122,6 +122,6 @@ turns_of verb.Disassemble operand given = tt
 turns_of verb.Schedule operand given = tt
 turns_of verb.Link operand given = tt
 
--- a demonstration that words ask for has from 1 to 10,921 turns
+-- a demonstration has from 1 to 10,921 turns
 pub few_turns : (words : List Word) (request : Request) → AreCommand words request → HasTurns request
 few_turns words request h = subst HasTurnsIfSome h.request_is (turns_of h.verb h.operand h.given)

@@ -9,7 +9,7 @@ use Rattle.ft_command.specs.Commands.{name_of, allowed_of, turns_up_to, request_
 use Rattle.ft_command.specs.Commands.{Trials, Campaigns, Surveys, Compiles, Executes, Means, Debugs, Demonstrates}
 use Rattle.ft_command.specs.Commands.{Upgrades, Assembles, Disassembles, AreCommand, Asks, Schedules, Recovers, Links}
 
--- the command with this name, by its letters
+-- the command with this name, found by its letters
 verb_by : Word → Verb
 verb_by w =
     if slice_index w 0 == 108 then verb.Link
@@ -48,7 +48,7 @@ verb_by-name_of verb.Disassemble = refl
 verb_by-name_of verb.Schedule = refl
 verb_by-name_of verb.Link = refl
 
--- commands with one name are one
+-- commands with the same name are the same
 same_verb : (u v : Verb) → name_of u ≡ name_of v → u ≡ v
 same_verb u v e = sym (verb_by-name_of u) ∙ ap verb_by e ∙ verb_by-name_of v
 
@@ -61,7 +61,7 @@ seconds a b x y xs ys e = ap (λ ws. slice_index_or ws 1 []) e
 rests : (a b x y : Word) (xs ys : List Word) → a ∷ x ∷ xs ≡ b ∷ y ∷ ys → xs ≡ ys
 rests a b x y xs ys e = ap (λ ws. drop 2 ws) e
 
--- what a command that the words are asks for, once their verb and what their options give are known
+-- what the words ask for as a command, once their verb and what their options give are known
 asked_for : (words options : List Word) (v : Verb) (operand : Word) (given : Given) (other : Request) → words
     ≡ name_of v ∷ operand ∷ options
     → ((g : Given) → GivesAll (allowed_of v) options none_given g → g ≡ given) → AreCommand words other →
@@ -106,7 +106,7 @@ no_usage verb.Disassemble operand given e = absurd (cc)
 no_usage verb.Schedule operand given e = absurd (cc)
 no_usage verb.Link operand given e = absurd (cc)
 
--- what a command asks for, the words ask for
+-- the words ask for what their command asks for
 pub asks : (words : List Word) (request : Request) → AreCommand words request → Asks words request
 asks words Usage h = absurd (no_usage h.verb h.operand h.given h.request_is)
 asks words (Checks object) h = h
@@ -126,7 +126,7 @@ asks words (Disassembles object) h = h
 asks words (Schedules object) h = h
 asks words (Links map) h = h
 
--- words that are a command are one for whatever they ask for
+-- whatever the words of a command ask for, they ask for it as a command
 pub by_command : (words : List Word) (request other : Request) → AreCommand words request → Asks words other →
     AreCommand words other
 by_command words request Usage asked usage = absurd (usage request asked)
@@ -147,7 +147,7 @@ by_command words request (Disassembles object) asked h = h
 by_command words request (Schedules object) asked h = h
 by_command words request (Links map) asked h = h
 
--- words that are a command ask for nothing else
+-- the words of a command ask for nothing else
 pub asks_only : (words options : List Word) (v : Verb) (operand : Word) (given : Given) (request : Request) → words
     ≡ name_of v ∷ operand ∷ options
     → ((g : Given) → GivesAll (allowed_of v) options none_given g → g ≡ given) → request_of v operand given
@@ -157,7 +157,7 @@ asks_only words options v operand given request split only is asked other h =
     let found = asked_for words options v operand given other split only (by_command words request other asked h) in
     ap (λ x. unwrap_or x request) (sym found ∙ is)
 
--- words whose options ask for nothing are not a command
+-- words that make no request are not a command
 pub asks_nothing : (words options : List Word) (v : Verb) (operand : Word) (given : Given) → words
     ≡ name_of v ∷ operand ∷ options
     → ((g : Given) → GivesAll (allowed_of v) options none_given g → g ≡ given) → request_of v operand given ≡ None →
@@ -166,7 +166,7 @@ asks_nothing words options v operand given split only none request h =
     let found = asked_for words options v operand given request split only h in
     let e = sym none ∙ found in cc
 
--- words whose options give nothing are not a command
+-- words whose options are not valid are not a command
 pub no_command : (words options : List Word) (v : Verb) (operand : Word) → words ≡ name_of v ∷ operand ∷ options →
     ((g : Given) → GivesAll (allowed_of v) options none_given g → ⊥) → (request : Request) → AreCommand words request →
     ⊥
@@ -177,7 +177,7 @@ no_command words options v operand split none request h =
     subst (λ u. GivesAll (allowed_of u) h.options none_given h.given) verbs h.gives in
     none h.given (subst (λ ws. GivesAll (allowed_of v) ws none_given h.given) (rests _ _ _ _ _ _ same) gives)
 
--- what words that are not a command ask for
+-- words that are not a command ask only for the usage line
 pub usage_only : (words : List Word) → ((request : Request) → AreCommand words request → ⊥) → (other : Request) →
     Asks words other → other ≡ Usage
 usage_only words none Usage h = refl

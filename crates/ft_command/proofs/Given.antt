@@ -8,12 +8,12 @@ use Rattle.ft_command.specs.declared.options.OptionError.{OptionError}
 use Rattle.ft_command.specs.Options.{Word, Given, GivesSteps, GivesTurns, GivesStrike, GivesWild, GivesFaults, Gives}
 use Rattle.ft_command.specs.Options.{by_steps, by_turns, by_strike, by_wild, by_faults, GivesAll}
 
--- a word is not two names that differ at a letter
+-- a word does not equal two names that differ in a letter
 differ : (name a b : Word) (i x : ℕ) → name ≡ a → name ≡ b → nat_eq (slice_index a i) x ≡ true →
     nat_eq (slice_index b i) x ≡ false → ⊥
 differ name a b i x e f p q = true≢false (sym p ∙ ap (λ n. nat_eq (slice_index n i) x) (sym e ∙ f) ∙ q)
 
--- a value of `--steps` gives what it says and nothing else
+-- `--steps` with a value gives this and nothing else
 pub steps_only : (allowed : Allowed) (name value : Word) (old new : Given) → name ≡ codes "--steps" →
     ((g : Given) → GivesSteps allowed (codes "--steps") value old g → g ≡ new) → (g : Given) →
     Gives allowed name value old g → g ≡ new
@@ -28,7 +28,7 @@ steps_only allowed name value old new is only g (by_wild h) =
 steps_only allowed name value old new is only g (by_faults h) =
     absurd (differ name (codes "--steps") (codes "--faults") 2 115 is h.name_is refl refl)
 
--- a value of `--turns` gives what it says and nothing else
+-- `--turns` with a value gives this and nothing else
 pub turns_only : (allowed : Allowed) (name value : Word) (old new : Given) → name ≡ codes "--turns" →
     ((g : Given) → GivesTurns allowed (codes "--turns") value old g → g ≡ new) → (g : Given) →
     Gives allowed name value old g → g ≡ new
@@ -43,7 +43,7 @@ turns_only allowed name value old new is only g (by_wild h) =
 turns_only allowed name value old new is only g (by_faults h) =
     absurd (differ name (codes "--turns") (codes "--faults") 2 116 is h.name_is refl refl)
 
--- a value of `--fault` gives what it says and nothing else
+-- `--fault` with a value gives this and nothing else
 pub strike_only : (allowed : Allowed) (name value : Word) (old new : Given) → name ≡ codes "--fault" →
     ((g : Given) → GivesStrike allowed (codes "--fault") value old g → g ≡ new) → (g : Given) →
     Gives allowed name value old g → g ≡ new
@@ -58,7 +58,7 @@ strike_only allowed name value old new is only g (by_wild h) =
 strike_only allowed name value old new is only g (by_faults h) =
     absurd (differ name (codes "--fault") (codes "--faults") 7 0 is h.name_is refl refl)
 
--- a value of `--wild` gives what it says and nothing else
+-- `--wild` with a value gives this and nothing else
 pub wild_only : (allowed : Allowed) (name value : Word) (old new : Given) → name ≡ codes "--wild" →
     ((g : Given) → GivesWild allowed (codes "--wild") value old g → g ≡ new) → (g : Given) →
     Gives allowed name value old g → g ≡ new
@@ -72,7 +72,7 @@ wild_only allowed name value old new is only g (by_wild h) = only g (subst (λ n
 wild_only allowed name value old new is only g (by_faults h) =
     absurd (differ name (codes "--wild") (codes "--faults") 2 119 is h.name_is refl refl)
 
--- a value of `--faults` gives what it says and nothing else
+-- `--faults` with a value gives this and nothing else
 pub faults_only : (allowed : Allowed) (name value : Word) (old new : Given) → name ≡ codes "--faults" →
     ((g : Given) → GivesFaults allowed (codes "--faults") value old g → g ≡ new) → (g : Given) →
     Gives allowed name value old g → g ≡ new
@@ -87,12 +87,12 @@ faults_only allowed name value old new is only g (by_wild h) =
 faults_only allowed name value old new is only g (by_faults h) =
     only g (subst (λ n. GivesFaults allowed n value old g) is h)
 
--- a fact about what a call that went well left
+-- a weaker fact about a successful call
 pub on_ok : {A P Q : Type 0} (r : Result A OptionError) → (P → Q) → OnOk r P → OnOk r Q
 on_ok (Ok x) f h = f h
 on_ok (Err e) f h = tt
 
--- the two words at the front of a list, and the rest
+-- the first two words of a list, and the rest
 pub split_two : {A B : Type 0} (f : A → B) (xs : List A) (a b : A) (n m : B) → 2 ≤ length xs → a ≡ get_or xs 0 a → b
     ≡ get_or xs 1 b → n ≡ f a → m ≡ f b → map f xs ≡ n ∷ m ∷ map f (take (length xs - 2) (drop 2 xs))
 split_two f [] a b n m two first second p q = absurd (omega arith)
@@ -102,7 +102,7 @@ split_two f (x ∷ y ∷ xs) a b n m two first second p q =
     ap (λ v. v ∷ f y ∷ map f xs) (ap f (sym first) ∙ sym p) ∙ ap (λ v. n ∷ v ∷ map f xs) (ap f (sym second) ∙ sym q)
     ∙ ap (λ v. n ∷ m ∷ map f v) (sym rest)
 
--- what words give, after the option at their front
+-- what words give after their first option
 pub gives_on : (allowed : Allowed) (words more : List Word) (name value : Word) (old new g : Given) → words
     ≡ name ∷ value ∷ more → ((mid : Given) → Gives allowed name value old mid → mid ≡ new) →
     GivesAll allowed words old g → GivesAll allowed more new g
@@ -116,14 +116,14 @@ pub gives_back : (allowed : Allowed) (words more : List Word) (name value : Word
 gives_back allowed words more name value old new g split one h =
     subst (λ ws. GivesAll allowed ws old g) (sym split) (new, (one, h))
 
--- words give nothing if the option at their front gives nothing
+-- words give nothing if their first option is not valid
 pub gives_nothing : (allowed : Allowed) (words more : List Word) (name value : Word) (old g : Given) → words
     ≡ name ∷ value ∷ more → ((mid : Given) → Gives allowed name value old mid → ⊥) → GivesAll allowed words old g → ⊥
 gives_nothing allowed words more name value old g split none h =
     let parts = subst (λ ws. GivesAll allowed ws old g) split h in
     none parts.0 parts.1.0
 
--- no words give what was given before, and only that
+-- an empty list of words gives nothing new
 pub gives_same : {A : Type 0} (f : A → Word) (allowed : Allowed) (xs : List A) (old : Given) → length xs ≡ 0 →
     GivesAll allowed (map f xs) old old
 gives_same f allowed [] old e = refl
@@ -134,7 +134,7 @@ pub gives_only : {A : Type 0} (f : A → Word) (allowed : Allowed) (xs : List A)
 gives_only f allowed [] old g e h = h
 gives_only f allowed (x ∷ xs) old g e h = absurd (omega arith)
 
--- a word that is left over gives nothing
+-- a single word that is left gives nothing
 pub one_left : {A : Type 0} (f : A → Word) (allowed : Allowed) (xs : List A) (old g : Given) → length xs < 2 →
     (length xs ≡ 0 → ⊥) → GivesAll allowed (map f xs) old g → ⊥
 one_left f allowed [] old g short some h = some refl

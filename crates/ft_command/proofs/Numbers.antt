@@ -21,7 +21,7 @@ found_at most n text false e few within is rest =
     absurd cc) in
     rest (omega (arith, within, other))
 
--- a word that has the digits of a number from 1 to the most is found to be it
+-- if a word spells a number from 1 to the maximum, that number is found
 pub turns_found : (most n : ℕ) (text : Word) → most < 2 ^ 64 → 1 ≤ n → n ≤ most → text ≡ decimal n →
     turns_up_to most text ≡ Some n
 unfolding turns_up_to
@@ -37,7 +37,7 @@ none_at most text true e none rest = absurd (none (suc most) (omega arith) (omeg
     ((bytes_eq-Decides text (decimal (suc most))).0 e))
 none_at most text false e none rest = rest
 
--- a word that has the digits of no such number is none
+-- if a word spells no such number, none is found
 pub no_turns : (most : ℕ) (text : Word) → ((n : ℕ) → 1 ≤ n → n ≤ most → text ≡ decimal n → ⊥) → turns_up_to most text
     ≡ None
 unfolding turns_up_to
@@ -52,14 +52,14 @@ within_at most true x h = (omega arith, omega arith)
 within_at most false None h = tt
 within_at most false (Some n) h = (h.0, (let le = h.1 in omega (arith, le)))
 
--- what is found is from 1 to the most
+-- a number that is found is from 1 to the maximum
 pub turns_within : (most : ℕ) (text : Word) → IfSome (turns_up_to most text) (λ n. (1 ≤ n) × (n ≤ most))
 unfolding turns_up_to
 turns_within zero text = tt
 turns_within (suc most) text = within_at most (bytes_eq text (decimal (suc most))) (turns_up_to most text)
     (turns_within most text)
 
--- a number text of a number out of the range has the digits of none within it
+-- a word that spells a number out of range spells none within it
 pub out_of_range : (t : ℕ) (text : Word) → IsNumberText text t → (1 ≤ t → t ≤ 10921 → ⊥) → turns_up_to 10921 text ≡ None
 out_of_range t text h out =
     no_turns 10921 text (λ n some within is. (

@@ -1,4 +1,4 @@
--- Words ask for one thing.
+-- Words ask for at most one thing.
 use Rattle.std.proofs.Common.{◌≡◌, ℕ, ◌^◌, ◌<◌, List, [], ◌∷◌, Option, Some, None, codes, sym, ap, ◌∙◌, subst, lit<}
 use Rattle.std.proofs.Common.{arith}
 use Rattle.std.proofs.lemmas.Fmt.{decimal_injective}
@@ -21,7 +21,7 @@ use Rattle.ft_command.proofs.Commands.{asks_only, usage_only}
 
 -- VALUES
 
--- the greatest number that is allowed is a word, if any is
+-- the maximum, if there is one, is a word
 abbrev IsAWordIfSome : Option ℕ → Type 0
 IsAWordIfSome None = Unit {0}
 IsAWordIfSome (Some most) = most < 2 ^ 64
@@ -124,7 +124,7 @@ one_command words request other h i =
     one_given allowed h.options none_given h.given g (steps_are_words h.verb) (turns_are_words h.verb) h.gives k in
     sym (asks_only words h.options h.verb h.operand h.given request h.words_are only h.request_is h other i)
 
--- words ask for one thing
+-- words ask for at most one thing
 pub one_request : (words : List Word) (a b : Request) → Asks words a → Asks words b → a ≡ b
 one_request words Usage b h i = sym (usage_only words h b i)
 one_request words (Checks object) b h i = one_command words (Checks object) b h i

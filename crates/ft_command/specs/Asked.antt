@@ -1,4 +1,4 @@
--- What the words ask for, apart from where its parts are in memory.
+-- What the words ask for, regardless of where its parts are in memory.
 use Rattle.std.specs.Prelude.{Option}
 use Rattle.std.specs.Option.{option_map}
 use Rattle.ft_command.specs.declared.options.Options.{Options}
@@ -16,7 +16,7 @@ use Rattle.ft_command.specs.Commands.{Run, Campaign, Meaning, Execution, Debuggi
 abbrev pub given_of : Options → Given
 given_of o = record { steps = o.steps; turns = o.turns; strike = o.strike; wild = option_map (λ v. v.items) o.wild; faults = option_map (λ w. w.now) o.faults }
 
--- the run, the campaign, the execution, the meaning and the debugger session that the code performs
+-- the run, the campaign, the execution, the meaning and the debugger session that the code has read
 abbrev pub run_view : declared_run.Run → Run
 run_view t = record { object = t.object.now; steps = t.steps; strike = t.strike; wild = t.wild.items }
 
@@ -52,6 +52,6 @@ asked (commands.Disassemble object) = Disassembles object.now
 asked (commands.Schedule object) = Schedules object.now
 asked (commands.Link map) = Links map.now
 
--- the request that the code has read, or usage if there is none
+-- the request that the code has read, if there is one
 abbrev pub asked_or_usage : Option declared_command.Command → Option Request
 asked_or_usage c = option_map asked c

@@ -59,7 +59,7 @@ run_options = record no_options { steps = Some 1000000000; fault = true; wild = 
 abbrev pub campaign_options : Allowed
 campaign_options = record no_options { steps = Some 1000000; wild = true; faults = true }
 
--- the options of a meaning: `--turns` up to 1,000,000,000
+-- the option of a meaning: `--turns` up to 1,000,000,000
 abbrev pub meaning_options : Allowed
 meaning_options = record no_options { turns = Some 1000000000 }
 
@@ -114,7 +114,7 @@ pub record Campaign : Type 0 where
   pub steps : ℕ
   pub wild : List Wild
 
--- a campaign over the faults of a file; the other options have their defaults: 1,000,000 steps, no answers
+-- a campaign over the faults of a file; an option that is not given has its default: 1,000,000 steps, no answers
 abbrev pub campaign_of : Word → Given → Word → Campaign
 campaign_of object given faults = record {
   object = object;
@@ -161,15 +161,15 @@ pub data Request : Type 0 where
   Usage : Request
   -- the check of an object
   Checks : Word → Request
-  -- the run of an object that is accepted
+  -- the run of an accepted object
   Runs : Run → Request
-  -- the run of an object that is not checked
+  -- the run of an unchecked object
   Trials : Run → Request
-  -- the run of an object that is accepted, and its run again if a fault is detected
+  -- the run of an accepted object, and another run if a fault is detected
   Recovers : Run → Request
-  -- a campaign on an object that is accepted
+  -- a campaign on an accepted object
   Campaigns : Campaign → Request
-  -- a campaign on an object that is not checked
+  -- a campaign on an unchecked object
   Surveys : Campaign → Request
   -- the object of a source
   Compiles : Word → Request
@@ -177,9 +177,9 @@ pub data Request : Type 0 where
   Executes : Execution → Request
   -- the meaning of a source
   Means : Meaning → Request
-  -- a debugger session over an object that is not checked
+  -- a debugger session over an unchecked object
   Debugs : Debugging → Request
-  -- the run of the object of this number of turns, and a campaign on it
+  -- the run of an object of this many turns, and a campaign on it
   Demonstrates : ℕ → Request
   -- an object in version 2 of the format
   Upgrades : Word → Request
@@ -189,10 +189,11 @@ pub data Request : Type 0 where
   Disassembles : Word → Request
   -- the schedule of an object
   Schedules : Word → Request
-  -- the object that a link map makes of its modules
+  -- the object linked from a link map's modules
   Links : Word → Request
 
--- what a command asks for, with its operand and its options; campaigns need their list, and a demonstration a number of turns
+-- what a command asks for, given its operand and options; a campaign needs a fault list, and a demonstration a number
+-- of turns
 abbrev pub request_of : Verb → Word → Given → Option Request
 request_of verb.Check operand given = Some (Checks operand)
 request_of verb.Run operand given = Some (Runs (run_of operand given))
@@ -221,7 +222,7 @@ pub record AreCommand (words : List Word) (request : Request) : Type 0 where
   pub gives : GivesAll (allowed_of verb) options none_given given
   pub request_is : request_of verb operand given ≡ Some request
 
--- the words ask for this: for the usage line exactly when they are not a command
+-- the words ask for this; they ask for the usage line exactly when they are not a command
 abbrev pub Asks : List Word → Request → Type 0
 Asks words Usage = (request : Request) → ¬ (AreCommand words request)
 Asks words (Checks object) = AreCommand words (Checks object)

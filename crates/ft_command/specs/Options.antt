@@ -9,8 +9,7 @@ use Rattle.ft_command.specs.declared.allowed.Allowed.{Allowed}
 abbrev pub Word : Type 0
 Word = List ℕ
 
--- the options that were given: the maximum of steps or turns, a strike, answers to wild loads, and the file of a fault
--- list
+-- the options given: the maximum of steps or turns, a strike, answers to wild loads, and the file of a fault list
 pub record Given : Type 0 where
   pub steps : Option ℕ
   pub turns : Option ℕ
@@ -76,7 +75,7 @@ pub data Gives (allowed : Allowed) (name value : Word) (old new : Given) : Type 
   by_wild : GivesWild allowed name value old new → Gives allowed name value old new
   by_faults : GivesFaults allowed name value old new → Gives allowed name value old new
 
--- options in any order, each followed by its value as a word of its own
+-- options in any order, each followed by its value as a separate word
 abbrev pub GivesAll : Allowed → List Word → Given → Given → Type 0
 GivesAll allowed [] old new = new ≡ old
 GivesAll allowed (name ∷ []) old new = ⊥

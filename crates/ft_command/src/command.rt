@@ -28,7 +28,7 @@ pub enum Command<'w> {
     Run(Run<'w>),
     /// Runs an object without checking it.
     Trial(Run<'w>),
-    /// Checks an object and runs it, again if a fault is detected.
+    /// Checks an object and runs it, and runs it again if a fault is detected.
     Recover(Run<'w>),
     /// Checks an object and tries a list of faults on it.
     Campaign(Campaign<'w>),
@@ -52,7 +52,7 @@ pub enum Command<'w> {
     Disassemble(&'w str),
     /// Checks the object of this file and writes its schedule.
     Schedule(&'w str),
-    /// Reads the link map of this file, and writes the object that it makes of its modules.
+    /// Reads the link map of this file, and writes the object linked from its modules.
     Link(&'w str),
 }
 
@@ -155,7 +155,7 @@ fn debugging_of<'w>(alloc: Global, object: &'w str, options: Options<'w>) -> Deb
     }
 }
 
-/// The number of turns of a demonstration, from 1 to 10,921; `None` exactly if the word is not one.
+/// The number of turns of a demonstration, from 1 to 10,921; `None` exactly if the word is not such a number.
 fn turns_of(operand: &str) -> Option<u32>
     ensures { result ≡ turns_up_to 10921 operand.now }
 {

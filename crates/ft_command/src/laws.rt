@@ -1,4 +1,4 @@
-//! A law of words, over the definitions only. The function does nothing: its clause is the law.
+//! A law about the definitions alone. The function does nothing: its clause is the law.
 ghost use Rattle.std.specs.Prelude.{◌≡◌, List};
 ghost use Rattle.ft_command.specs.Options.{Word};
 ghost use Rattle.ft_command.specs.Commands.{Request, Asks};

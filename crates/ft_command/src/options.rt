@@ -8,7 +8,7 @@ use ft_isa::{Strike, Wild, WildError, read_number, read_strike, read_wild};
 use std::alloc::Global;
 use thiserror::Error;
 
-/// The options that were given so far.
+/// The options given so far.
 #[derive(Drop)]
 pub(crate) struct Options<'w> {
     pub steps: Option<u64>,
@@ -21,7 +21,7 @@ pub(crate) struct Options<'w> {
 /// Why options were refused.
 #[derive(Clone, Copy, Debug, PartialEq, Eq, Error)]
 pub(crate) enum OptionError {
-    /// An option is not known, was given before, has no value, or has an invalid value.
+    /// An option is not one of the command's, was given before, has no value, or has an invalid value.
     #[error("not an option of the command")]
     Refused,
     /// Memory ran out.

@@ -22,7 +22,7 @@ const NONE: Allowed = Allowed {
     faults: false,
 };
 
-/// A command by its first word.
+/// A command, by its first word.
 #[derive(Clone, Copy, Debug, PartialEq, Eq)]
 pub enum Verb {
     /// `check`: checks an object.
@@ -31,7 +31,7 @@ pub enum Verb {
     Run,
     /// `trial`: runs an object without checking it.
     Trial,
-    /// `recover`: checks an object and runs it, again if a fault is detected.
+    /// `recover`: checks an object and runs it, and runs it again if a fault is detected.
     Recover,
     /// `campaign`: checks an object and tries a list of faults on it.
     Campaign,
@@ -55,12 +55,12 @@ pub enum Verb {
     Disassemble,
     /// `schedule`: checks an object and writes its schedule.
     Schedule,
-    /// `link`: reads a link map, and writes the object that it makes of its modules.
+    /// `link`: reads a link map, and writes the object linked from its modules.
     Link,
 }
 
 impl Verb {
-    /// The command of this name that takes an object.
+    /// The command with this name, if it takes an object.
     fn over_object(word: &str) -> Option<Verb>
         ensures some { IfSome result (λ verb. word.now ≡ name_of verb) }
         ensures exact { (verb : _) → takes_object verb ≡ true → word.now ≡ name_of verb → result ≡ Some verb }
@@ -98,7 +98,7 @@ impl Verb {
         None
     }
 
-    /// The command of this name that takes a source, an assembly text, a link map or a number.
+    /// The command with this name, if it takes a source, an assembly text, a link map or a number.
     fn over_other(word: &str) -> Option<Verb>
         ensures some { IfSome result (λ verb. word.now ≡ name_of verb) }
         ensures exact { (verb : _) → takes_object verb ≡ false → word.now ≡ name_of verb → result ≡ Some verb }
@@ -124,7 +124,7 @@ impl Verb {
         None
     }
 
-    /// The command of this name.
+    /// The command with this name.
     pub(crate) fn read(word: &str) -> Option<Verb>
         ensures some { IfSome result (λ verb. word.now ≡ name_of verb) }
         ensures exact { (verb : _) → word.now ≡ name_of verb → result ≡ Some verb }

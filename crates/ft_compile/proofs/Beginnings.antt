@@ -1,4 +1,4 @@
--- What is known where a block begins is what its code type says.
+-- The code type of a block states what is known where the block begins.
 use Rattle.std.proofs.Common.{◌≡◌, ℕ, zero, suc, ◌+◌, ◌<◌, ◌≤◌, Bool, true, false, cond, ◌==◌, List, [], ◌∷◌, ◌++◌, ◌⊎◌}
 use Rattle.std.proofs.Common.{inl, inr, Some, refl, sym, ap, ◌∙◌, subst, arith, slice_get, map, eq-eqb, eqb-true}
 use Rattle.std.specs.Prelude.{slice_index}
@@ -24,7 +24,7 @@ use Rattle.ft_compile.proofs.KnownPairs.{green_is_not_blue, blue_is_not_green, I
 use Rattle.ft_compile.proofs.BlockTypes.{HasTypes, AreRows, type_rows}
 use Rattle.ft_compile.proofs.PremiseRows.{ty}
 
--- what a register has after rows that say the same about it
+-- a register keeps its type over rows that all give it this type
 row_later : (o : Object) (m : TypedRegisters) (xs : List RegType) (r : ℕ) (t : Typed) → finite.get m r ≡ Some t →
     ((n : ℕ) (x : RegType) → slice_get xs n ≡ Some x → r ≡ x.reg.number → typed_row o x ≡ t) →
     finite.get (registers_after o m xs) r ≡ Some t
@@ -37,7 +37,7 @@ row_later o m (x ∷ xs) r t e h = row_later o (finite.insert m x.reg.number (ty
     here true f = ap Some (h 0 x refl (eqb-true r x.reg.number f))
     here false f = e
 
--- a register has what its row says
+-- a register has the type that one of its rows gives, if all its rows give the same type
 row_there : (o : Object) (m : TypedRegisters) (xs : List RegType) (r : ℕ) (t : Typed) (n : ℕ) (x : RegType) →
     slice_get xs n ≡ Some x → r ≡ x.reg.number → ((n : ℕ) (x : RegType) → slice_get xs n ≡ Some x → r ≡ x.reg.number →
     typed_row o x ≡ t) → finite.get (registers_after o m xs) r ≡ Some t
@@ -52,7 +52,7 @@ row_there o m (y ∷ ys) r t zero x f e h =
 row_there o m (y ∷ ys) r t (suc n) x f e h = row_there o (finite.insert m y.reg.number (typed_row o y)) ys r t n x f e
     (λ k z a b. h (suc k) z a b)
 
--- a row of a variable is where it should be
+-- the green row of a variable is in its place
 green_there : (a n i : ℕ) (rest : List RegType) → i < n → slice_get (map green_row (range_with_len a n) ++ rest) i
     ≡ Some (green_row (a + i))
 green_there a zero i rest lt = absurd (omega (arith, lt))
@@ -60,21 +60,21 @@ green_there a (suc n) zero rest lt = let z : a ≡ a + 0 = omega arith in ap (λ
 green_there a (suc n) (suc i) rest lt = let z : a + 1 + i ≡ a + suc i = omega arith in
     green_there (a + 1) n i rest (omega (arith, lt)) ∙ ap (λ j. Some (green_row j)) z
 
--- a blue row of a variable is where it should be
+-- the blue row of a variable is in its place
 blue_there : (a n i : ℕ) → i < n → slice_get (map blue_row (range_with_len a n)) i ≡ Some (blue_row (a + i))
 blue_there a zero i lt = absurd (omega (arith, lt))
 blue_there a (suc n) zero lt = let z : a ≡ a + 0 = omega arith in ap (λ j. Some (blue_row j)) z
 blue_there a (suc n) (suc i) lt = let z : a + 1 + i ≡ a + suc i = omega arith in
     blue_there (a + 1) n i (omega (arith, lt)) ∙ ap (λ j. Some (blue_row j)) z
 
--- after the green rows come the blue ones
+-- the green rows are followed by the rest
 after_green : (a n : ℕ) (rest : List RegType) (i : ℕ) → slice_get (map green_row (range_with_len a n) ++ rest) (n + i)
     ≡ slice_get rest i
 after_green a zero rest i = let z : 0 + i ≡ i = omega arith in ap (slice_get rest) z
 after_green a (suc n) rest i = let z : suc n + i ≡ suc (n + i) = omega arith in
     ap (slice_get (map green_row (range_with_len a (suc n)) ++ rest)) z ∙ after_green (a + 1) n rest i
 
--- which row it is
+-- each row is the green or blue row of a variable
 row_at : (n : ℕ) (xs : List RegType) (k : ℕ) (x : RegType) → AreRows n xs → slice_get xs k ≡ Some x → (i : ℕ) × (i < n)
     × ((x ≡ green_row i) ⊎ (x ≡ blue_row i))
 row_at n [] k x h e = cc
@@ -87,7 +87,7 @@ module _ (o : Object) (vars : ℕ) (T : HasTypes o vars) where
   abbrev all_rows : List RegType
   all_rows = map green_row (range_with_len 0 vars) ++ map blue_row (range_with_len 0 vars)
 
-  -- the rows say one thing about the green register of each variable
+  -- all rows for the green register of a variable give it the same type
   green_only : (q : ℕ) → q < vars → (n : ℕ) (x : RegType) → slice_get all_rows n ≡ Some x → (green q).number
       ≡ x.reg.number → typed_row o x ≡ ty Green int (integer_form_of o (1 + q))
   green_only q lt n x e f = go (row_at vars all_rows n x (type_rows vars) e)
@@ -105,7 +105,7 @@ module _ (o : Object) (vars : ℕ) (T : HasTypes o vars) where
       go (i, li, inr g) = absurd (green_is_not_blue i q (omega (arith, few, li)) (omega (arith, few, lt)) (f
           ∙ ap (λ (z : RegType). z.reg.number) g))
 
-  -- the rows say one thing about the blue register of each variable
+  -- all rows for the blue register of a variable give it the same type
   blue_only : (q : ℕ) → q < vars → (n : ℕ) (x : RegType) → slice_get all_rows n ≡ Some x → (blue q).number
       ≡ x.reg.number → typed_row o x ≡ ty Blue int (integer_form_of o (1 + q))
   blue_only q lt n x e f = go (row_at vars all_rows n x (type_rows vars) e)
@@ -124,7 +124,7 @@ module _ (o : Object) (vars : ℕ) (T : HasTypes o vars) where
           let same : i ≡ q = omega arith in
           ap (typed_row o) g ∙ ap (λ j. ty Blue int (integer_form_of o (1 + j))) same
 
-  -- a variable's node, by the pairs where a block begins
+  -- where a block begins, each variable's pair has the variable's node
   first_node : (q : ℕ) → q < vars → 1 + q ≡ slice_index first_pairs q
   first_node q lt = let few = T.few in let e = first_pair q (omega arith) in omega arith
 
@@ -133,7 +133,7 @@ module _ (o : Object) (vars : ℕ) (T : HasTypes o vars) where
   type_of_block zero = 0
   type_of_block (suc b) = 1
 
-  -- what is known where block b begins is what its code type says
+  -- the context with which block b starts fits what is known there
   pub begins_good : (b : ℕ) → IsGood o (scope_of_block vars b) (known_first vars b) first_pairs 0
       (start_context o (type_of_block b))
   unfolding registers_after

@@ -1,4 +1,4 @@
--- The code types of an object that was compiled say what its blocks need.
+-- The code types of a compiled object state what its blocks need.
 use Rattle.std.proofs.Common.{◌≡◌, ℕ, zero, suc, ◌+◌, ◌<◌, ◌≤◌, Bool, true, false, ◌==◌, ◌&&◌, List, [], ◌∷◌, ◌++◌}
 use Rattle.std.proofs.Common.{length, ◌⊎◌, inl, inr, Some, refl, sym, ap, ◌∙◌, subst, arith, take, map, eq-eqb}
 use Rattle.std.specs.Prelude.{slice_index, slice_index_or, nat_le}
@@ -47,42 +47,42 @@ pub record HasTypes (o : Object) (vars : ℕ) : Type 0 where
   pub nodes : AreNodes o.nodes
   pub first_nodes : Starts (at_first vars).nodes o.nodes
 
--- each of these rows is that of a variable in one of its two registers
+-- each of these rows is the green or blue row of one of n variables
 abbrev pub AreRows : ℕ → List RegType → Type 0
 AreRows n [] = Unit {0}
 AreRows n (x ∷ xs) = ((i : ℕ) × (i < n) × ((x ≡ green_row i) ⊎ (x ≡ blue_row i))) × AreRows n xs
 
--- the blue rows are those of variables
+-- the blue rows are such rows
 blue_rows : (n a k : ℕ) → a + k ≤ n → AreRows n (map blue_row (range_with_len a k))
 blue_rows n a zero h = tt
 blue_rows n a (suc k) h = ((a, omega (arith, h), inr refl), blue_rows n (a + 1) k (omega (arith, h)))
 
--- green rows of variables before rows of variables are rows of variables, too
+-- so are green rows followed by such rows
 green_rows : (n a k : ℕ) (rest : List RegType) → a + k ≤ n → AreRows n rest →
     AreRows n (map green_row (range_with_len a k) ++ rest)
 green_rows n a zero rest h r = r
 green_rows n a (suc k) rest h r = ((a, omega (arith, h), inl refl), green_rows n (a + 1) k rest (omega (arith, h)) r)
 
--- the rows of code type 1 are those of variables
+-- so are the rows of code type 1
 pub type_rows : (n : ℕ) → AreRows n (map green_row (range_with_len 0 n) ++ map blue_row (range_with_len 0 n))
 type_rows n = green_rows n 0 n (map blue_row (range_with_len 0 n)) (omega arith) (blue_rows n 0 n (omega arith))
 
--- a test of each member
+-- a list passes a test if each of its elements does
 all_pass : (p : ℕ → Bool) (xs : List ℕ) → ((k : ℕ) → k < length xs → p (slice_index xs k) ≡ true) → list_all p xs ≡ true
 all_pass p [] h = refl
 all_pass p (x ∷ xs) h = and_from (p x) (list_all p xs) (h 0 (omega arith))
     (all_pass p xs (λ k lt. h (suc k) (omega arith)))
 
--- LEADING TO CODE TYPE 1
+-- TRANSFERS TO CODE TYPE 1
 
 module _ (o : Object) (vars : ℕ) (T : HasTypes o vars) (scope : ℕ) (pairs : List ℕ) (memory : ℕ) (u : Subst) where
-  -- a substitution puts the variables' nodes in turn, and the memory's
+  -- the substitution has the nodes of the variables, in order, and of the memory
   pub record PutsThese : Type 0 where
     pub rows : rows_of o u ≡ take vars pairs
     pub memory_is : u.memory ≡ memory
     pub many : length pairs ≡ 32
 
-  -- the registers have what the target requires
+  -- the registers have what code type 1 requires
   abbrev HasVariables : Context → Type 0
   HasVariables c = (q : ℕ) → q < vars → (typed c (green q).number
       ≡ Some (ty Green int (integer_form_of o (slice_index pairs q))))
@@ -98,7 +98,7 @@ module _ (o : Object) (vars : ℕ) (T : HasTypes o vars) (scope : ℕ) (pairs : 
   unfolding replacement
   put_memory P = ap (memory_form_of o) P.memory_is
 
-  -- the target's variable is what is substituted for it
+  -- after the substitution, a variable of the target has the form that is substituted for it
   put_variable : PutsThese → (q : ℕ) → q < vars → integer_form_after o (replacement o u) (1 + q)
       ≡ integer_form_of o (slice_index pairs q)
   put_variable P q lt =
@@ -116,7 +116,7 @@ module _ (o : Object) (vars : ℕ) (T : HasTypes o vars) (scope : ℕ) (pairs : 
       ∙ get_or-map f (take vars pairs) q 0
       ∙ ap f (get_or-take vars pairs q 0 lt)
 
-  -- the register of each row is as the row requires
+  -- the register of a row is as the row requires
   row_like : PutsThese → (c : Context) (q : ℕ) (x : RegType) → q < vars → HasVariables c →
       (x ≡ green_row q) ⊎ (x ≡ blue_row q) → is_like o (replacement o u) (typed c x.reg.number) x ≡ true
   unfolding is_like same_colour is_seen_as same_basic
@@ -138,12 +138,12 @@ module _ (o : Object) (vars : ℕ) (T : HasTypes o vars) (scope : ℕ) (pairs : 
   rows_like P c (x ∷ xs) h r = and_from (is_like o (replacement o u) (typed c x.reg.number) x)
       (are_like o (replacement o u) c xs) (row_like P c r.0.0 x r.0.1 h r.0.2) (rows_like P c xs h r.1)
 
-  -- nothing waits, as code type 1 requires
+  -- the queue is empty, as code type 1 requires
   queue_like : (q : List FormPair) → q ≡ [] → is_queue_like o (replacement o u) q (queue_rows o 1) ≡ true
   unfolding is_queue_like
   queue_like q e = rw (e, T.queue) refl
 
-  -- the memory is what is substituted for it
+  -- the memory is as code type 1 requires
   memory_like : PutsThese → (m : Updates) → m ≡ memory_form_of o memory →
       same_updates m (memory_form_after o (replacement o u) (memory_of o 1)) ≡ true
   memory_like P m e =
@@ -152,13 +152,13 @@ module _ (o : Object) (vars : ℕ) (T : HasTypes o vars) (scope : ℕ) (pairs : 
       (get_starts (at_first vars).nodes o.nodes 0 (node 0 shape.Memory) T.first_nodes refl))
       ∙ ap (memory_form_after o (replacement o u)) (sym T.memory))
 
-  -- the scope of a node that may be named
+  -- the scope of a node that may be named is within this one
   named_scope : (n : ℕ) (sort : Bool) (m : ℕ) → MayName o.nodes n scope sort m → nat_le (scope_of o m) scope ≡ true
   named_scope n sort m h = le-leb (scope_of o m) scope (let e : scope_of o m
       ≡ h.node.scope = ap (λ x. unwrap_or (option_map scope_of_node x) 0) h.found in let w = h.scope_within in
       omega arith)
 
-  -- as many as code type 1 has integer variables
+  -- whether a number is the number of integer variables of code type 1
   abbrev as_many : ℕ → Bool
   as_many m = m == ints_of o 1
 

@@ -40,7 +40,7 @@ use Rattle.ft_compile.proofs.BlockTypes.{AreRows, type_rows}
 use Rattle.ft_compile.proofs.Objects.{emission, row_of_block, block_is_row, block_count}
 use Rattle.ft_compile.proofs.Names.{program_cells}
 
--- WHAT IS ENTERED
+-- ENTERED REGISTERS
 
 -- no register of a known pair is entered
 pub record AreUnentered (k : Known) (e : Entered) : Type 0 where
@@ -48,7 +48,7 @@ pub record AreUnentered (k : Known) (e : Entered) : Type 0 where
   pub green_out : (q : ℕ) → k q ≡ true → finite.get e (green q).number ≡ None
   pub blue_out : (q : ℕ) → k q ≡ true → finite.get e (blue q).number ≡ None
 
--- a register that is not entered stays that way if another instruction removes one
+-- a register that is not entered stays so when one is removed
 out_stays : (e : Entered) (r q : ℕ) → finite.get e q ≡ None → finite.get (entered_with r None e) q ≡ None
 out_stays e r q h = entered_get e r None q ∙ either (q == r) (finite.get e q) h
   where
@@ -56,11 +56,11 @@ out_stays e r q h = entered_get e r None q ∙ either (q == r) (finite.get e q) 
     either true u g = refl
     either false u g = g
 
--- a register is taken out
+-- the register that was entered or removed
 taken_out : (e : Entered) (r : ℕ) (v : Option ℕ) → finite.get (entered_with r v e) r ≡ v
 taken_out e r v = entered_get e r v r ∙ ap (λ b. cond b v (finite.get e r)) (eq-eqb r r refl)
 
--- another register is unchanged
+-- any other register is unchanged
 other_stays : (e : Entered) (r q : ℕ) (v : Option ℕ) → q ≢ r → finite.get (entered_with r v e) q ≡ finite.get e q
 other_stays e r q v ne = entered_get e r v q ∙ ap (λ b. cond b v (finite.get e q)) (ne_eqb q r ne)
 
@@ -68,11 +68,11 @@ other_stays e r q v ne = entered_get e r v q ∙ ap (λ b. cond b v (finite.get 
 free_of : (e : Entered) (r : ℕ) → finite.get e r ≡ None → not (is_some (finite.get e r)) ≡ true
 free_of e r h = ap (λ u. not (is_some u)) h
 
--- both registers of a pair are written
+-- both registers of a pair, entered or removed
 abbrev two : ℕ → Option ℕ → Entered → Entered
 two p v e = entered_with (blue p).number v (entered_with (green p).number v e)
 
--- a pair that gets an integer is not entered
+-- a pair that gets an integer becomes known, and is not entered
 unentered_learn : (k : Known) (e : Entered) (p : ℕ) → p < 32 → AreUnentered k e →
     AreUnentered (learn p k) (two p None e)
 unentered_learn k e p lt h = record {
@@ -95,7 +95,7 @@ unentered_learn k e p lt h = record {
   ];
 }
 
--- known pairs stay unentered if the registers of a pair get anything but a code address
+-- known pairs stay unentered when both registers of a pair are removed
 unentered_again : (k : Known) (e : Entered) (p : ℕ) → AreUnentered k e → AreUnentered k (two p None e)
 unentered_again k e p h = record {
   below = h.below;
@@ -105,7 +105,7 @@ unentered_again k e p h = record {
       (out_stays e (green p).number (blue q).number (h.blue_out q known));
 }
 
--- another pair is not entered either, whatever a pair gets
+-- the other known pairs stay unentered, whatever a pair gets
 unentered_forget : (k : Known) (e : Entered) (p : ℕ) (v : Option ℕ) → p < 32 → AreUnentered k e →
     AreUnentered (forget p k) (two p v e)
 unentered_forget k e p v lt h = record {
@@ -122,22 +122,22 @@ unentered_forget k e p v lt h = record {
       ∙ other_stays e (green p).number (blue q).number v (blue_is_not_green p q lt l) ∙ h.blue_out q u.1;
 }
 
--- a pair that is another one stays known
+-- a known pair stays known when another one is forgotten
 still_known : (k : Known) (p q : ℕ) → q ≢ p → k q ≡ true → forget p k q ≡ true
 still_known k p q ne h = ap (λ b. cond b false (k q)) (ne_eqb q p ne) ∙ h
 
--- the green register of a pair that got a code address
+-- the green register, after both registers of its pair were entered or removed
 entered_green : (e : Entered) (p : ℕ) (v : Option ℕ) → p < 32 → finite.get (two p v e) (green p).number ≡ v
 entered_green e p v lt = other_stays (entered_with (green p).number v e) (blue p).number (green p).number v
     (green_is_not_blue p p lt lt) ∙ taken_out e (green p).number v
 
--- the blue register of a pair that got a code address
+-- the blue register, after both registers of its pair were entered or removed
 entered_blue : (e : Entered) (p : ℕ) (v : Option ℕ) → finite.get (two p v e) (blue p).number ≡ v
 entered_blue e p v = taken_out (entered_with (green p).number v e) (blue p).number v
 
 -- TARGETS
 
--- the registers of variables are free if no variable's pair is entered
+-- the registers of variables are free if the variables' pairs are known and unentered
 rows_free : (vars : ℕ) (k : Known) (e : Entered) (xs : List RegType) → AreUnentered k e →
     ((x : ℕ) → x < vars → k x ≡ true) → AreRows vars xs → are_free e xs ≡ true
 rows_free vars k e [] h known r = refl
@@ -152,7 +152,7 @@ rows_free vars k e (x ∷ xs) h known r = and_from (is_free e x.reg) (are_free e
 
 module _ (o : Object) (vars : ℕ) (rows_are : reg_rows o 1 ≡ map green_row (range_with_len 0 vars)
     ++ map blue_row (range_with_len 0 vars)) (start : ℕ → ℕ) where
-  -- a jump's blue target is one that types no entered register
+  -- the code type of a jump's blue target has no row for an entered register
   target_free : (k : Known) (e : Entered) (spare : ℕ) → AreUnentered (forget spare k) (two spare (Some 1) e) →
       KeepsVariables vars k spare → is_free_target o (two spare (Some 1) e)
       (finite.get (two spare (Some 1) e) (blue spare).number) ≡ true
@@ -166,17 +166,17 @@ module _ (o : Object) (vars : ℕ) (rows_are : reg_rows o 1 ≡ map green_row (r
 
   -- STEPS
 
-  -- what is walked after a step, wherever no known pair is entered
+  -- the walk passes these instructions wherever no known pair is entered
   abbrev WalksOn : Known → List Instr → Type 0
   WalksOn k rest = (f : Entered) → AreUnentered k f → (m : ℕ) → code_walk o f m rest ≡ None
 
-  -- two instructions that are passed
+  -- the walk passes two instructions
   walk_two : (e : Entered) (n : ℕ) (i j : Instr) (rest : List Instr) → is_traced o e i ≡ true →
       is_traced o (entered_after i e) j ≡ true → code_walk o (entered_after j (entered_after i e)) (suc (suc n)) rest
       ≡ None → code_walk o e n (i ∷ j ∷ rest) ≡ None
   walk_two e n i j rest a b h = walk_on o e n i (j ∷ rest) a (walk_on o (entered_after i e) (suc n) j rest b h)
 
-  -- loads from the addresses in both registers of a pair are passed
+  -- the walk passes loads from the addresses in both registers of a pair
   loads_walk : (k : Known) (p : ℕ) (rest : List Instr) → WalksOn k rest → (e : Entered) → AreUnentered k e →
       finite.get e (green p).number ≡ None → finite.get e (blue p).number ≡ None → (n : ℕ) →
       code_walk o e n (loads p ++ rest) ≡ None
@@ -186,7 +186,7 @@ module _ (o : Object) (vars : ℕ) (rows_are : reg_rows o 1 ≡ map green_row (r
       (out_stays e (green p).number (blue p).number b))
       (next (two p None e) (unentered_again k e p h) (suc (suc n)))
 
-  -- stores to the addresses in both registers of a pair are passed
+  -- the walk passes stores to the addresses in both registers of a pair
   stores_walk : (k : Known) (p q : ℕ) (rest : List Instr) → k q ≡ true → WalksOn k rest → (e : Entered) →
       AreUnentered k e → finite.get e (green p).number ≡ None → finite.get e (blue p).number ≡ None → (n : ℕ) →
       code_walk o e n (stores p q ++ rest) ≡ None
@@ -196,7 +196,7 @@ module _ (o : Object) (vars : ℕ) (rows_are : reg_rows o 1 ≡ map green_row (r
       (and_from _ _ (free_of e (blue p).number b) (free_of e (blue q).number (h.blue_out q known)))
       (next e h (suc (suc n)))
 
-  -- the instructions of a step are passed
+  -- the walk passes the instructions of a step
   step_walks : (k : Known) (u : Subst) (i : Step3) (rest : List Instr) → All (λ p. p < 32) (pairs_of i) →
       ReadsKnown vars k i → WalksOn (known_after i k) rest → WalksOn k (coded_step start u i ++ rest)
   step_walks k u (Put p w) rest ps reads next e h n =
@@ -261,7 +261,7 @@ module _ (o : Object) (vars : ℕ) (rows_are : reg_rows o 1 ≡ map green_row (r
 
   -- ROWS
 
-  -- the instructions of a row are passed
+  -- the walk passes the instructions of a row
   row_walks : (cells blocks scope : ℕ) (k : Known) (w : Noted) (is : List Step3) → RowIsWell vars cells blocks k is →
       All (λ i. All (λ p. p < 32) (pairs_of i)) is → WalksOn k (row_coded vars start scope w is)
   unfolding code_walk
@@ -272,7 +272,7 @@ module _ (o : Object) (vars : ℕ) (rows_are : reg_rows o 1 ≡ map green_row (r
       (row_walks cells blocks scope (known_after i k) (step_noted vars scope w i) is W.2 (λ j d lt.
       ps (suc j) d (omega arith))) e h n
 
--- where a block begins nothing is entered
+-- where a block begins, no register is entered
 unentered_first : (vars b : ℕ) → vars ≤ 32 → AreUnentered (known_first vars b) finite.empty
 unentered_first vars zero few = record {
   below = λ q known. absurd (no known);
@@ -304,15 +304,15 @@ plain_rows vars (x ∷ xs) r = All-cons HasPlainRow x xs (here r.0.2) (plain_row
     here (inl f) = subst HasPlainRow (sym f) refl
     here (inr f) = subst HasPlainRow (sym f) refl
 
--- THE WHOLE
+-- THE OBJECT
 
 module _ (names : List (List ℕ)) (inits : List ℕ) (vars : ℕ) (bs : Blocks) (C : AreCells names inits) (F : vars ≤ 32)
     (W : IsWell vars (length inits) bs) where
-  -- the object
+  -- the object of these blocks
   abbrev o : Object
   o = emitted names inits vars bs
 
-  -- the instructions of each row are passed
+  -- the walk passes the instructions of each row
   rows_walk : (b : ℕ) (w : Noted) (xs : Blocks) → RowsAreFine vars (length inits) (length bs) b xs →
       (j : ℕ) (r : List Instr) → slice_get (rows_coded vars (start_of bs) b w xs) j ≡ Some r →
       code_walk o finite.empty 0 r ≡ None
@@ -324,7 +324,7 @@ module _ (names : List (List ℕ)) (inits : List ℕ) (vars : ℕ) (bs : Blocks)
       (begun w) x f.0.well f.0.pairs finite.empty (unentered_first vars b F) 0)
   rows_walk b w (x ∷ xs) f (suc j) r e = rows_walk (suc b) (block_noted vars b w x) xs f.1 j r e
 
-  -- the instructions of each block are passed
+  -- the walk passes the instructions of each block
   blocks_walked : (b : ℕ) → b < length o.blocks → code_walk o finite.empty 0 (block_instrs o b) ≡ None
   blocks_walked b lt =
       let here : b < length bs = let c = block_count names inits vars bs C F W in omega (arith, lt) in
@@ -357,7 +357,7 @@ pub compiled_module : (text : List ℕ) (p : Program) (o : Object) → IsProgram
     IsModule o.cells o
 compiled_module text p o h e = module_of_flow p o (program_cells text p h) e
 
--- exchanges leave it a module
+-- so is any object that comes from it by exchanges
 pub scheduled_module : (text : List ℕ) (p : Program) (o s : Object) → IsProgramOf text p → IsEmitted p o →
     ComesFrom o s → IsModule s.cells s
 scheduled_module text p o s h e c =

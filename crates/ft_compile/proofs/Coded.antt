@@ -16,11 +16,11 @@ use Rattle.ft_compile.specs.Noted.{Noted, jump_subst, step_noted, row_noted, beg
 use Rattle.ft_compile.specs.Emitted.{with_subst, placed}
 use Rattle.ft_compile.proofs.Walked.{block_noted}
 
--- an instruction with a substitution, if it takes one
+-- an instruction with this substitution, if it takes one
 abbrev pub with_this : Subst → Instr → Instr
 with_this u i = with_subst i (u ∷ [])
 
--- the instructions of a step, with a substitution in place
+-- the instructions of a step, with this substitution in place
 abbrev pub coded_step : (ℕ → ℕ) → Subst → Step3 → List Instr
 coded_step start u i = map (with_this u) (image start i)
 
@@ -38,7 +38,7 @@ module _ (vars : ℕ) (start : ℕ → ℕ) where
   step_added w (Go spare to) = jump_subst vars w ∷ []
   step_added w Stop = []
 
-  -- the instructions of a row, and the substitutions that it adds
+  -- the instructions of a row, with its substitutions in place
   abbrev pub row_coded : ℕ → Noted → List Step3 → List Instr
   row_coded scope w [] = []
   row_coded scope w (i ∷ is) = coded_step start (jump_subst vars w) i ++ row_coded scope (step_noted vars scope w i) is
@@ -48,7 +48,7 @@ module _ (vars : ℕ) (start : ℕ → ℕ) where
   row_added scope w [] = []
   row_added scope w (i ∷ is) = step_added w i ++ row_added scope (step_noted vars scope w i) is
 
-  -- the substitutions that blocks add
+  -- the instructions of each block, with its substitutions in place
   abbrev pub rows_coded : ℕ → Noted → Blocks → List (List Instr)
   rows_coded b w [] = []
   rows_coded b w (x ∷ xs) = row_coded (scope_of_block vars b) (begun w) x ∷ rows_coded (suc b) (block_noted vars b w x)
@@ -60,14 +60,14 @@ module _ (vars : ℕ) (start : ℕ → ℕ) where
   blocks_added b w (x ∷ xs) = row_added (scope_of_block vars b) (begun w) x
       ++ blocks_added (suc b) (block_noted vars b w x) xs
 
-  -- one after another
+  -- these rows, concatenated
   abbrev pub joined : List (List Instr) → List Instr
   joined [] = []
   joined (x ∷ xs) = x ++ joined xs
 
-  -- WHAT IS ADDED
+  -- ADDED SUBSTITUTIONS
 
-  -- what is noted after a step has its substitution at the end
+  -- a step appends its substitution to the notes
   added_step : (scope : ℕ) (w : Noted) (i : Step3) → (step_noted vars scope w i).substs ≡ w.substs ++ step_added w i
   added_step scope w (Put p v) = sym (append-nil w.substs)
   added_step scope w (Copy p q) = sym (append-nil w.substs)
@@ -80,7 +80,7 @@ module _ (vars : ℕ) (start : ℕ → ℕ) where
   added_step scope w (Go spare to) = refl
   added_step scope w Stop = sym (append-nil w.substs)
 
-  -- what is noted after a row has the substitutions of its steps at the end
+  -- a row appends the substitutions of its steps to the notes
   added_row : (scope : ℕ) (w : Noted) (is : List Step3) → (row_noted vars scope w is).substs ≡ w.substs
       ++ row_added scope w is
   added_row scope w [] = sym (append-nil w.substs)
@@ -89,7 +89,7 @@ module _ (vars : ℕ) (start : ℕ → ℕ) where
       added_row scope v is ∙ ap (λ l. l ++ row_added scope v is) (added_step scope w i)
       ∙ append_assoc w.substs (step_added w i) (row_added scope v is)
 
-  -- what is noted after blocks has the substitutions of their rows at the end
+  -- blocks append the substitutions of their rows to the notes
   pub added_blocks : (b : ℕ) (w : Noted) (xs : Blocks) → (blocks_noted vars b w xs).substs ≡ w.substs
       ++ blocks_added b w xs
   added_blocks b w [] = sym (append-nil w.substs)
@@ -99,9 +99,9 @@ module _ (vars : ℕ) (start : ℕ → ℕ) where
       added_blocks (suc b) v xs ∙ ap (λ l. l ++ blocks_added (suc b) v xs)
       (added_row (scope_of_block vars b) (begun w) x) ∙ append_assoc w.substs a (blocks_added (suc b) v xs)
 
-  -- WHAT IS PLACED
+  -- PLACED SUBSTITUTIONS
 
-  -- a step's substitution is taken by its own instructions
+  -- a step's substitution is placed in the step's instructions
   placed_step : (w : Noted) (i : Step3) (us : List Subst) (more : List Instr) →
       placed (step_added w i ++ us) (image start i ++ more) ≡ coded_step start (jump_subst vars w) i ++ placed us more
   placed_step w (Put p v) us more = refl
@@ -115,7 +115,7 @@ module _ (vars : ℕ) (start : ℕ → ℕ) where
   placed_step w (Go spare to) us more = refl
   placed_step w Stop us more = refl
 
-  -- a row's substitutions by those of the row
+  -- a row's substitutions are placed in the row's instructions
   placed_row : (scope : ℕ) (w : Noted) (is : List Step3) (us : List Subst) (more : List Instr) →
       placed (row_added scope w is ++ us) (row_images start is ++ more) ≡ row_coded scope w is ++ placed us more
   placed_row scope w [] us more = refl
@@ -129,7 +129,7 @@ module _ (vars : ℕ) (start : ℕ → ℕ) where
       ∙ ap (λ l. coded_step start (jump_subst vars w) i ++ l) (placed_row scope v is us more)
       ∙ sym (append_assoc (coded_step start (jump_subst vars w) i) (row_coded scope v is) (placed us more))
 
-  -- so the instructions of all blocks have each its own
+  -- so the substitutions of all blocks are placed in the instructions to which they belong
   pub placed_blocks : (b : ℕ) (w : Noted) (xs : Blocks) → placed (blocks_added b w xs) (blocks_images start xs)
       ≡ joined (rows_coded b w xs)
   placed_blocks b w [] = refl
@@ -140,7 +140,7 @@ module _ (vars : ℕ) (start : ℕ → ℕ) where
 
   -- LENGTHS
 
-  -- with its substitution, a step is as many instructions as its size says
+  -- a step, with its substitution in place, has as many instructions as its size says
   step_length : (u : Subst) (i : Step3) → length (coded_step start u i) ≡ size i
   step_length u (Put p v) = refl
   step_length u (Copy p q) = refl
@@ -153,7 +153,7 @@ module _ (vars : ℕ) (start : ℕ → ℕ) where
   step_length u (Go spare to) = refl
   step_length u Stop = refl
 
-  -- with their substitutions, the steps of a row are as many instructions as their sizes say
+  -- a row, with its substitutions in place, has as many instructions as its size says
   row_length : (scope : ℕ) (w : Noted) (is : List Step3) → length (row_coded scope w is) ≡ row_size is
   row_length scope w [] = refl
   row_length scope w (i ∷ is) =
@@ -162,7 +162,7 @@ module _ (vars : ℕ) (start : ℕ → ℕ) where
       ∙ ap (λ n. n + length (row_coded scope v is)) (step_length (jump_subst vars w) i)
       ∙ ap (λ n. size i + n) (row_length scope v is)
 
-  -- with their substitutions, all blocks are as many instructions as their sizes say
+  -- all blocks, with their substitutions in place, have as many instructions as their sizes say
   pub joined_length : (b : ℕ) (w : Noted) (xs : Blocks) → length (joined (rows_coded b w xs)) ≡ blocks_size xs
   joined_length b w [] = refl
   joined_length b w (x ∷ xs) =
@@ -185,9 +185,9 @@ module _ (vars : ℕ) (start : ℕ → ℕ) where
       ap (λ m. n ∷ offsets (n + m) (rows_coded (suc b) v xs)) (row_length (scope_of_block vars b) (begun w) x)
       ∙ ap (λ l. n ∷ l) (offsets_are_starts (n + row_size x) (suc b) v xs)
 
-  -- WHERE EACH BLOCK STANDS
+  -- THE PLACE OF EACH BLOCK
 
-  -- where row b ends: where the next one begins, or at the end of all
+  -- where row b ends: where the next one begins, or after all rows
   abbrev row_end : ℕ → List (List Instr) → ℕ → ℕ → ℕ
   row_end n rs b whole = unwrap_or (slice_get (offsets n rs) (suc b)) whole
 
@@ -195,7 +195,7 @@ module _ (vars : ℕ) (start : ℕ → ℕ) where
   abbrev row_start : ℕ → List (List Instr) → ℕ → ℕ
   row_start n rs b = unwrap_or (slice_get (offsets n rs) b) 0
 
-  -- a row is cut out by its place and its length
+  -- a row is the slice at its place, of its length
   cut_first : (front r rest : List Instr) (n e : ℕ) → n ≡ length front → e ≡ n + length r →
       slice_range (front ++ (r ++ rest)) n e ≡ r
   cut_first front r rest n e p q =
@@ -205,7 +205,7 @@ module _ (vars : ℕ) (start : ℕ → ℕ) where
       ∙ ap (take (length r)) (drop-append_seam front (r ++ rest))
       ∙ take-append_seam r rest
 
-  -- row b is cut out, if some instructions come before all rows
+  -- row b is the slice from its place to the next one, if other instructions come before all rows
   cut_from : (front : List Instr) (rs : List (List Instr)) (n b whole : ℕ) (r : List Instr) → n ≡ length front → whole
       ≡ length (front ++ joined rs) → slice_get rs b ≡ Some r →
       slice_range (front ++ joined rs) (row_start n rs b) (row_end n rs b whole) ≡ r
@@ -224,7 +224,7 @@ module _ (vars : ℕ) (start : ℕ → ℕ) where
       subst (λ t. slice_range t (row_start (n + length x) xs b) (row_end (n + length x) xs b whole) ≡ r) a
       (cut_from (front ++ x) xs (n + length x) b whole r (omega arith) (q ∙ ap length (sym a)) e)
 
-  -- row b is cut out between its place and the next one
+  -- row b is the slice from its place to the next one
   pub cut_out : (rs : List (List Instr)) (b : ℕ) (r : List Instr) → slice_get rs b ≡ Some r →
       slice_range (joined rs) (unwrap_or (slice_get (offsets 0 rs) b) 0)
       (unwrap_or (slice_get (offsets 0 rs) (suc b)) (length (joined rs))) ≡ r

@@ -1,4 +1,4 @@
--- How much is noted, and where the blocks begin.
+-- How many nodes and substitution rows the notes have, and where the blocks begin.
 use Rattle.std.proofs.Common.{eqb-true, ◌≡◌, ◌≢◌, ℕ, zero, suc, ◌+◌, ◌*◌, ◌<◌, ◌≤◌, Bool, true, false, cond, ◌==◌, List}
 use Rattle.std.proofs.Common.{[], ◌∷◌, ◌++◌, length, Some, refl, sym, ap, ◌∙◌, arith, slice_get, take, map}
 use Rattle.std.proofs.Common.{length-append}
@@ -25,15 +25,15 @@ use Rattle.ft_compile.proofs.Walked.{block_noted, RowsAreFine}
 
 -- NODES AND ROWS
 
--- one node more is within any bound of one or more
+-- one more node is within any bound of at least one
 pushes_one : (ns : List Node) (x : Node) (n : ℕ) → 1 ≤ n → length (ns ++ x ∷ []) ≤ length ns + n
 pushes_one ns x n h = let l = length_pushed ns x in omega arith
 
--- two nodes more are within any bound of two or more
+-- two more nodes are within any bound of at least two
 pushes_two : (ns : List Node) (x y : Node) (n : ℕ) → 2 ≤ n → length ((ns ++ x ∷ []) ++ y ∷ []) ≤ length ns + n
 pushes_two ns x y n h = let l = length_pushed ns x in let m = length_pushed (ns ++ x ∷ []) y in omega arith
 
--- the nodes of an address are three
+-- an address has three nodes
 address_length : (scope begin many q : ℕ) (w : Noted) → length (with_address_nodes scope begin many q w).nodes
     ≡ length w.nodes + 3
 address_length scope begin many q w =
@@ -44,7 +44,7 @@ address_length scope begin many q w =
     let c = length_pushed w2.nodes (node scope (shape.Op Add (length w.nodes) (length w.nodes + 1))) in
     omega arith
 
--- each instruction gives at most one node
+-- a step adds at most one node for each of its instructions
 pub nodes_step : (vars scope : ℕ) (w : Noted) (i : Step3) →
     length (step_noted vars scope w i).nodes ≤ length w.nodes + size i
 nodes_step vars scope w (Put p v) = pushes_one w.nodes _ 2 (omega arith)
@@ -68,7 +68,7 @@ nodes_step vars scope w (Exit q spare to) = omega arith
 nodes_step vars scope w (Go spare to) = omega arith
 nodes_step vars scope w Stop = omega arith
 
--- each instruction of a row gives at most one node
+-- a row adds at most one node for each of its instructions
 pub nodes_row : (vars scope : ℕ) (w : Noted) (is : List Step3) →
     length (row_noted vars scope w is).nodes ≤ length w.nodes + row_size is
 nodes_row vars scope w [] = omega arith
@@ -78,7 +78,7 @@ nodes_row vars scope w (i ∷ is) = omega (
   nodes_row vars scope (step_noted vars scope w i) is,
 )
 
--- each instruction of all blocks gives at most one node
+-- blocks add at most one node for each of their instructions
 pub nodes_blocks : (vars b : ℕ) (w : Noted) (xs : Blocks) →
     length (blocks_noted vars b w xs).nodes ≤ length w.nodes + blocks_size xs
 nodes_blocks vars b w [] = omega arith
@@ -88,12 +88,12 @@ nodes_blocks vars b w (x ∷ xs) = omega (
   nodes_blocks vars (suc b) (block_noted vars b w x) xs,
 )
 
--- a jump, of four instructions, gives at most 32 rows
+-- a jump, of four instructions, adds at most 32 rows
 rows_jump : (vars : ℕ) (w : Noted) → vars ≤ 32 → length (with_jump vars w).rows ≤ length w.rows + 32
 rows_jump vars w few = let l = length-append w.rows (take vars w.pairs) in let m = length-take vars w.pairs in
     omega arith
 
--- so a step gives at most eight rows for each of its instructions
+-- so a step adds at most eight rows for each of its instructions
 pub rows_step : (vars scope : ℕ) (w : Noted) (i : Step3) → vars ≤ 32 →
     length (step_noted vars scope w i).rows ≤ length w.rows + 8 * size i
 rows_step vars scope w (Put p v) few = omega arith
@@ -107,7 +107,7 @@ rows_step vars scope w (Exit q spare to) few = rows_jump vars w few
 rows_step vars scope w (Go spare to) few = rows_jump vars w few
 rows_step vars scope w Stop few = omega arith
 
--- a row gives at most eight rows for each of its instructions
+-- a row adds at most eight rows for each of its instructions
 pub rows_row : (vars scope : ℕ) (w : Noted) (is : List Step3) → vars ≤ 32 →
     length (row_noted vars scope w is).rows ≤ length w.rows + 8 * row_size is
 rows_row vars scope w [] few = omega arith
@@ -117,7 +117,7 @@ rows_row vars scope w (i ∷ is) few = omega (
   rows_row vars scope (step_noted vars scope w i) is few,
 )
 
--- blocks give at most eight rows for each of their instructions
+-- blocks add at most eight rows for each of their instructions
 pub rows_blocks : (vars b : ℕ) (w : Noted) (xs : Blocks) → vars ≤ 32 →
     length (blocks_noted vars b w xs).rows ≤ length w.rows + 8 * blocks_size xs
 rows_blocks vars b w [] few = omega arith
@@ -151,7 +151,7 @@ abbrev pub HaveSome : Blocks → Type 0
 HaveSome [] = Unit {0}
 HaveSome (x ∷ xs) = (0 < row_size x) × HaveSome xs
 
--- each of the blocks that are well formed has an instruction
+-- each well formed block has an instruction
 pub fine_have_some : (vars cells blocks b : ℕ) (xs : Blocks) → RowsAreFine vars cells blocks b xs → HaveSome xs
 fine_have_some vars cells blocks b [] h = tt
 fine_have_some vars cells blocks b (x ∷ xs) h = (
@@ -164,7 +164,7 @@ pub blocks_few : (xs : Blocks) → HaveSome xs → length xs ≤ blocks_size xs
 blocks_few [] h = omega arith
 blocks_few (x ∷ xs) h = omega (arith, h.0, blocks_few xs h.1)
 
--- the place of a block's first instruction
+-- the place of block b's first instruction
 pub start_there : (n : ℕ) (xs : Blocks) (b : ℕ) → b < length xs → slice_get (starts_from n xs) b
     ≡ Some (n + start_of xs b)
 start_there n [] b h = absurd (omega (arith, h))
@@ -172,13 +172,13 @@ start_there n (x ∷ xs) zero h = let z : n ≡ n + 0 = omega arith in ap Some z
 start_there n (x ∷ xs) (suc b) h = let z : n + row_size x + start_of xs b ≡ n + (row_size x + start_of xs b) =
     omega arith in start_there (n + row_size x) xs b (omega (arith, h)) ∙ ap Some z
 
--- a block begins within all instructions
+-- a block begins within the instructions, or at their end
 pub start_within : (xs : Blocks) (b : ℕ) → start_of xs b ≤ blocks_size xs
 start_within [] b = omega arith
 start_within (x ∷ xs) zero = omega arith
 start_within (x ∷ xs) (suc b) = omega (arith, start_within xs b)
 
--- the blocks' places, from the blocks
+-- blocks at these places begin there
 pub places_of_blocks : (ss : List ℕ) → map start_of_block (blocks_at ss) ≡ ss
 places_of_blocks [] = refl
 places_of_blocks (s ∷ ss) = ap (λ l. s ∷ l) (others ss)
@@ -210,7 +210,7 @@ find_later (t ∷ ss) k s e = by (code_address s == code_address t) refl k e (λ
     by false f (suc j) e rec = ap (λ b. cond b (Some (block_from t))
         (find (λ (b : Block). code_address s == code_address b.start) (map block_from ss))) f ∙ rec j e
 
--- so a later block is found among all blocks
+-- so any block but the first is found among all blocks
 pub find_block : (x : List Step3) (xs : Blocks) (b : ℕ) → 0 < row_size x → b < length xs →
     let s = start_of (x ∷ xs) (suc b) in find (λ (c : Block). code_address s == code_address c.start)
     (blocks_at (starts_from 0 (x ∷ xs))) ≡ Some (block_from s)

@@ -1,4 +1,4 @@
--- The registers of known pairs have the forms of the pairs' nodes, also after a pair is set.
+-- The registers of known pairs have the forms of the pairs' nodes, even after a pair is set.
 use Rattle.std.proofs.Common.{◌≡◌, ◌≢◌, ℕ, ◌+◌, ◌<◌, true, List, [], length, inl, inr, Some, sym, ap, ◌∙◌, subst, arith}
 use Rattle.std.specs.Prelude.{slice_index, slice_set}
 use Rattle.std.proofs.lemmas.Bool.{cases_eq}
@@ -17,11 +17,11 @@ use Rattle.ft_compile.proofs.PremiseRows.{ty, typed_same, typed_other}
 
 -- PAIRS
 
--- the two registers of a pair are typed
+-- types both registers of a pair
 abbrev pub both : ℕ → Basic → Polynomial → Context → Context
 both p b x c = with_type (blue p).number (ty Blue b x) (with_type (green p).number (ty Green b x) c)
 
--- a green one is not a blue one
+-- a green register is not a blue one
 pub green_is_not_blue : (p q : ℕ) → p < 32 → q < 32 → (green q).number ≢ (blue p).number
 green_is_not_blue p q lp lq e = let f = sym (green_number q (omega arith)) ∙ e ∙ blue_number p lp in
     (let g : q ≡ 32 + p = f in omega arith)
@@ -57,8 +57,8 @@ other_blue p q b x c lp lq ne = typed_other (with_type (green p).number (ty Gree
 
 -- WHAT A CONTEXT KNOWS
 
--- both registers of each known pair have the form of the pair's node, the memory that of its own, d is 0 and nothing
--- waits
+-- both registers of each known pair have the form of the pair's node, the memory has that of its own node, d is 0, and
+-- the queue is empty
 pub record IsGood (o : Object) (scope : ℕ) (k : Known) (pairs : List ℕ) (memory : ℕ) (c : Context) : Type 0 where
   pub green_pair : (q : ℕ) → k q ≡ true → typed c (green q).number
       ≡ Some (ty Green int (integer_form_of o (slice_index pairs q)))
@@ -71,18 +71,18 @@ pub record IsGood (o : Object) (scope : ℕ) (k : Known) (pairs : List ℕ) (mem
   pub memory_is : c.memory ≡ memory_form_of o memory
   pub ints : c.ints ≡ scope
 
--- what holds of a pair other than p
+-- what holds of the known pairs other than p
 abbrev pub Others : Object → Known → List ℕ → ℕ → Context → Type 0
 Others o k pairs p c = (q : ℕ) → q ≢ p → k q ≡ true →
     (typed c (green q).number ≡ Some (ty Green int (integer_form_of o (slice_index pairs q))))
     × (typed c (blue q).number ≡ Some (ty Blue int (integer_form_of o (slice_index pairs q)))) × (q < 32)
 
--- the same holds of all known pairs
+-- it holds if it does for all known pairs
 pub others_of : (o : Object) (scope : ℕ) (k : Known) (pairs : List ℕ) (memory p : ℕ) (c : Context) →
     IsGood o scope k pairs memory c → Others o k pairs p c
 others_of o scope k pairs memory p c G q ne h = (G.green_pair q h, G.blue_pair q h, G.small q h)
 
--- pair p gets a form, which is that of its new node
+-- pair p gets the form of its new node and becomes known
 pub good_learn : (o : Object) (scope : ℕ) (k : Known) (pairs : List ℕ) (memory : ℕ) (c : Context) (p new : ℕ)
     (x : Polynomial) → p < 32 → length pairs ≡ 32 → integer_form_of o new ≡ x → Others o k pairs p c → c.d ≡ d_zero →
     c.queue ≡ [] → c.memory ≡ memory_form_of o memory → c.ints ≡ scope →
@@ -119,7 +119,7 @@ good_learn o scope k pairs memory c p new x lt many f old z qu mem ints = record
     there : (q : ℕ) → q ≢ p → slice_index pairs q ≡ slice_index (slice_set pairs p new) q
     there q ne = sym (get_or-set_other pairs p q new 0 ne)
 
--- pair p is set and then forgotten
+-- pair p is set and is no longer known
 pub good_forget : (o : Object) (scope : ℕ) (k : Known) (pairs : List ℕ) (memory : ℕ) (c : Context) (p : ℕ) (b : Basic)
     (x : Polynomial) → p < 32 → IsGood o scope k pairs memory c →
     IsGood o scope (forget p k) pairs memory (both p b x c)

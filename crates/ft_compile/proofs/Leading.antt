@@ -1,4 +1,4 @@
--- The rows of jumps apply, and lead to code type 1; so the rows of each block apply.
+-- The typing rules of jumps apply and lead to code type 1, so those of each block apply.
 use Rattle.std.proofs.Common.{◌≡◌, ◌≢◌, ℕ, suc, ◌+◌, ◌-◌, ◌<◌, ◌≤◌, Bool, true, false, List, [], ◌∷◌, ◌++◌, length, ◌⊎◌}
 use Rattle.std.proofs.Common.{inl, inr, Some, refl, sym, ap, ◌∙◌, subst, arith, take, drop, append_assoc}
 use Rattle.std.specs.Prelude.{All, slice_index, slice_range}
@@ -41,14 +41,14 @@ use Rattle.ft_compile.proofs.PremiseRows.{ty, mov_row}
 
 -- JUMPS
 
--- the row of a green branch, if d is 0
+-- the rule of a green branch, if d is 0
 branch_green_row : (o : Object) (c : Context) (rz rd : Reg) (z a : Polynomial) → typed c rz.number
     ≡ Some (ty Green int z) → typed c rd.number ≡ Some (ty Green (code 1) a) → c.d ≡ d_zero → row o c (instr.BzG rz rd)
     ≡ Goes (record c { d = d_conditional z 1 a })
 unfolding need for_typed for_code_over for_zero same_colour
 branch_green_row o c rz rd z a hz hd d = rw (hz, hd, d) refl
 
--- the row of a blue branch after it
+-- the rule of the blue branch after it
 branch_blue_row : (o : Object) (c : Context) (rz rd : Reg) (u : Subst) (z a : Polynomial) → typed c rz.number
     ≡ Some (ty Blue int z) → typed c rd.number ≡ Some (ty Blue (code 1) a) →
     leads o u 1 (record c { d = d_conditional z 1 a }) (Goes (record c { d = d_zero }))
@@ -57,25 +57,25 @@ branch_blue_row : (o : Object) (c : Context) (rz rd : Reg) (u : Subst) (z a : Po
 unfolding need for_typed for_code_over for_conditional same_colour
 branch_blue_row o c rz rd u z a hz hd l = rw (hz, hd) (rw (same_itself z) (rw (same_itself a) l))
 
--- the row of a green jump, if d is 0
+-- the rule of a green jump, if d is 0
 jump_green_row : (o : Object) (c : Context) (rd : Reg) (a : Polynomial) → typed c rd.number
     ≡ Some (ty Green (code 1) a) → c.d ≡ d_zero → row o c (instr.JmpG rd) ≡ Goes (record c { d = d_code 1 a })
 unfolding need for_typed for_code_over for_zero same_colour
 jump_green_row o c rd a hd d = rw (hd, d) refl
 
--- the row of a blue jump after it
+-- the rule of the blue jump after it
 jump_blue_row : (o : Object) (c : Context) (rd : Reg) (u : Subst) (a : Polynomial) → typed c rd.number
     ≡ Some (ty Blue (code 1) a) → leads o u 1 (record c { d = d_code 1 a }) Ends ≡ Ends →
     row o (record c { d = d_code 1 a }) (instr.JmpB rd u) ≡ Ends
 unfolding need for_typed for_code_over for_target same_colour
 jump_blue_row o c rd u a hd l = rw hd (rw (same_itself a) l)
 
--- the row of a halt, if d is 0 and nothing waits
+-- the rule of a halt, if d is 0 and the queue is empty
 halt_row : (o : Object) (c : Context) → c.d ≡ d_zero → c.queue ≡ [] → row o c instr.Halt ≡ Ends
 unfolding need for_zero is_empty
 halt_row o c d q = rw (d, q) refl
 
--- instructions that pass, before instructions that apply
+-- instructions whose rules lead on, followed by instructions whose rules apply
 passes_applies : (o : Object) (c d : Context) (is js : List Instr) → Passes o c is d → Applies o d js →
     Applies o c (is ++ js)
 passes_applies o c d [] js p a = subst (λ e. Applies o e js) (sym p) a
@@ -85,7 +85,7 @@ module _ (o : Object) (vars : ℕ) (T : HasTypes o vars) (cells blocks : ℕ) (s
     (refs : (c : ℕ) → c < cells → has_type o (cell_address c) (ref int) ≡ true)
     (arrays : (begin many : ℕ) → RunFits cells (Run begin many) → run_type o begin many ≡ Some int)
     (targets : (b : ℕ) → IsTarget blocks b → has_type o (code_address (start b)) (code 1) ≡ true) where
-  -- what a jump's substitution puts, if its rows are among all
+  -- a jump's substitution has the nodes of the variables and of the memory, if its rows are in the object
   puts_these : (scope : ℕ) (w : Noted) → length w.pairs ≡ 32 → Starts (with_jump vars w).rows o.substs →
       PutsThese o vars T scope w.pairs w.memory (jump_subst vars w)
   puts_these scope w many s =
@@ -105,7 +105,7 @@ module _ (o : Object) (vars : ℕ) (T : HasTypes o vars) (cells blocks : ℕ) (s
         many = many;
       }
 
-  -- a branch goes on
+  -- a branch leads to the next step
   exit_leads : (scope : ℕ) (k : Known) (w : Noted) (c : Context) (q spare to : ℕ) → IsTarget blocks to → q < 32 →
       spare < 32 → ReadsKnown vars k (Exit q spare to) → Starts (with_jump vars w).rows o.substs →
       IsNamed o.nodes scope k (length w.nodes) w.pairs w.memory → IsGood o scope k w.pairs w.memory c →
@@ -165,7 +165,7 @@ module _ (o : Object) (vars : ℕ) (T : HasTypes o vars) (cells blocks : ℕ) (s
         };
       }
 
-  -- a jump ends its block
+  -- a jump's rules apply and end its block
   go_applies : (scope : ℕ) (k : Known) (w : Noted) (c : Context) (spare to : ℕ) → IsTarget blocks to → spare < 32 →
       KeepsVariables vars k spare → Starts (with_jump vars w).rows o.substs →
       IsNamed o.nodes scope k (length w.nodes) w.pairs w.memory → IsGood o scope k w.pairs w.memory c →
@@ -196,7 +196,7 @@ module _ (o : Object) (vars : ℕ) (T : HasTypes o vars) (cells blocks : ℕ) (s
 
   -- STEPS AND ROWS
 
-  -- a step that does not end its block
+  -- a step that does not end its block leads to the next step
   step_leads : (scope : ℕ) (k : Known) (w : Noted) (c : Context) (i : Step3) → is_last i ≡ false →
       StepFits cells blocks i → All (λ p. p < 32) (pairs_of i) → ReadsKnown vars k i →
       Starts (step_noted vars scope w i).nodes o.nodes → Starts (step_noted vars scope w i).rows o.substs →
@@ -230,7 +230,7 @@ module _ (o : Object) (vars : ℕ) (T : HasTypes o vars) (cells blocks : ℕ) (s
   step_leads scope k w c (Go spare to) e fits ps reads sn sr h G = cc
   step_leads scope k w c Stop e fits ps reads sn sr h G = cc
 
-  -- one that does
+  -- the rules of a step that ends its block apply
   last_applies : (scope : ℕ) (k : Known) (w : Noted) (c : Context) (i : Step3) → is_last i ≡ true →
       StepFits cells blocks i → All (λ p. p < 32) (pairs_of i) → ReadsKnown vars k i →
       Starts (step_noted vars scope w i).rows o.substs → IsNamed o.nodes scope k (length w.nodes) w.pairs w.memory →
@@ -252,15 +252,15 @@ module _ (o : Object) (vars : ℕ) (T : HasTypes o vars) (cells blocks : ℕ) (s
   last_or_not true = inl refl
   last_or_not false = inr refl
 
-  -- after a step that ends its block nothing is left of it
+  -- a step that ends its block is followed by nothing
   block_ends : (i : Step3) (is : List Step3) → is_last i ≡ true → IsBlock (i ∷ is) → is ≡ []
   block_ends i is e h = subst (λ b. elim b as (λ x. Type 0) [ true ↦ is ≡ [] | false ↦ IsBlock is ]) e h
 
-  -- after another one a block is left
+  -- any other step is followed by the rest of its block
   block_goes_on : (i : Step3) (is : List Step3) → is_last i ≡ false → IsBlock (i ∷ is) → IsBlock is
   block_goes_on i is e h = subst (λ b. elim b as (λ x. Type 0) [ true ↦ is ≡ [] | false ↦ IsBlock is ]) e h
 
-  -- the rows of a block's steps apply
+  -- the typing rules of a block's steps apply
   pub row_applies : (scope : ℕ) (k : Known) (w : Noted) (c : Context) (is : List Step3) → scope ≤ 128 → IsBlock is →
       RowIsWell vars cells blocks k is → All (λ i. All (λ p. p < 32) (pairs_of i)) is →
       Starts (row_noted vars scope w is).nodes o.nodes → Starts (row_noted vars scope w is).rows o.substs →
@@ -283,5 +283,3 @@ module _ (o : Object) (vars : ℕ) (T : HasTypes o vars) (cells blocks : ℕ) (s
             ps (suc j) d (omega arith)) sn sr (step_lawful o.nodes vars scope cells blocks k w i le small W.0 p W.1 hn
             L) S.good)
       ]
-
--- WHERE A BLOCK BEGINS

@@ -1,4 +1,4 @@
--- The run of an object that carries a program's blocks, and the meaning of the program.
+-- The run of an object that carries a program's blocks does what the program means.
 use Rattle.std.proofs.Common.{◌≡◌, ◌≢◌, ℕ, zero, suc, ◌+◌, ◌*◌, ◌≤◌, Bool, true, false, cond, [], Option, Some, None}
 use Rattle.std.proofs.Common.{refl, sym, ap, ◌∙◌, subst, arith}
 use Rattle.ft_semantics.specs.declared.status.Status.{Status}
@@ -26,7 +26,7 @@ use Rattle.ft_compile.specs.Laws.{CarriedBlocksRunAsMeant}
 abbrev ran : Object → ℕ → Ran
 ran o n = run o None [] n
 
--- WHAT FLOW STEPS COST
+-- THE COST OF FLOW STEPS
 
 -- a step becomes at most four instructions
 size_most : (s : Step3) → size s ≤ 4
@@ -62,15 +62,15 @@ stopped_done x e = subst HasStopped (sym e) tt
 stopped_detected : (x : Status) → x ≡ Detected → HasStopped x
 stopped_detected x e = subst HasStopped (sym e) tt
 
--- no status is both done and detected
+-- no status is both `Done` and `Detected`
 done_undetected : (x : Status) → x ≡ Done → x ≡ Detected → ⊥
 done_undetected x p q = cc
 
--- running is not detected
+-- `Running` is not `Detected`
 running_undetected : (x : Status) → x ≡ Running → x ≡ Detected → ⊥
 running_undetected x p q = cc
 
--- running is not done
+-- `Running` is not `Done`
 running_undone : (x : Status) → x ≡ Running → x ≡ Done → ⊥
 running_undone x p q = cc
 
@@ -78,37 +78,37 @@ running_undone x p q = cc
 
 module _ (p : Program) (o : Object) (vars : ℕ) (bs : Blocks) (L : Lowers p bs) (D : Doubles o vars bs [])
     (same : words_of o ≡ p.inits) where
-  -- the flow after k steps, and what these cost
+  -- the flow after k steps
   abbrev at : ℕ → FlowState
   at k = flow_run bs p.inits k
 
-  -- what the first k steps cost
+  -- the cost of the first k steps
   abbrev spent : ℕ → ℕ
   spent k = cost bs k (flow_start (words_of o))
 
-  -- the flow over the object is the flow over the program
+  -- the flow over the object's words is the flow over the program's
   is_run : (k : ℕ) → flow_run bs (words_of o) k ≡ at k
   is_run k = ap (λ ws. flow_run bs ws k) same
 
-  -- the machine's outputs and status after the cost of k flow steps
+  -- the machine's outputs after the cost of k flow steps
   out_at : (k : ℕ) → (ran o (spent k)).outputs ≡ (at k).out
   out_at k = (D.after k).out ∙ ap (λ (f : FlowState). f.out) (is_run k)
 
-  -- the status after the cost of k steps
+  -- the machine's status after the cost of k flow steps
   status_at : (k : ℕ) → (ran o (spent k)).state.status ≡ cond (at k).done Done Running
   status_at k = (D.after k).status ∙ ap (λ (f : FlowState). cond f.done Done Running) (is_run k)
 
-  -- a running flow has cost at least a machine step for each of its steps
+  -- k steps of a running flow cost at least k machine steps
   pace_at : (k : ℕ) → (at k).done ≡ false → k ≤ spent k
   pace_at k e = D.pace k (ap (λ (f : FlowState). f.done) (is_run k) ∙ e)
 
-  -- what the machine shows after n steps
+  -- what holds of the machine's run after n steps
   record Seen (n : ℕ) : Type 0 where
     undetected : (ran o n).state.status ≢ Detected
     done : (ran o n).state.status ≡ Done → (s : State) × (meaning p n ≡ Ended s) × ((ran o n).outputs ≡ s.out)
     running : (ran o n).state.status ≡ Running → Begins (ran o n).outputs (outputs (meaning p n))
 
-  -- if the flow is done after n of its steps
+  -- it holds if the flow is done after n of its own steps
   seen_done : (n : ℕ) → (at n).done ≡ true → Seen n
   seen_done n d =
       let c = spent n in
@@ -126,7 +126,7 @@ module _ (p : Program) (o : Object) (vars : ℕ) (bs : Blocks) (L : Lowers p bs)
             (subst (λ x. Begins (ran o n).outputs x) out (outputs_grow o None [] n c (omega (arith, lt))));
       }
 
-  -- if it is running
+  -- it holds if the flow is still running
   seen_running : (n : ℕ) → (at n).done ≡ false → Seen n
   seen_running n d =
       let c = spent n in
@@ -142,12 +142,12 @@ module _ (p : Program) (o : Object) (vars : ℕ) (bs : Blocks) (L : Lowers p bs)
             (subst (λ x. Begins x (outputs (meaning p n))) (sym (out_at n)) R);
       }
 
-  -- so it is in either case
+  -- so it holds in either case
   seen_by : (n : ℕ) (b : Bool) → (at n).done ≡ b → Seen n
   seen_by n true e = seen_done n e
   seen_by n false e = seen_running n e
 
-  -- the machine's run is what the program means
+  -- the machine's run does what the program means
   meant : RunsAsMeant p o
   meant = record {
     undetected = λ n. (seen_by n (at n).done refl).undetected;
@@ -167,6 +167,6 @@ module _ (p : Program) (o : Object) (vars : ℕ) (bs : Blocks) (L : Lowers p bs)
         (outputs_grow o None [] (spent k) n (omega (arith, cost_most bs k (flow_start (words_of o)))));
   }
 
--- the run of an object that carries a program's blocks is what the program means
+-- so does the run of any object that carries a program's blocks
 pub runs_as_meant : CarriedBlocksRunAsMeant
 runs_as_meant p vars cells bs o L R C same = meant p o vars bs L (R o C []) same

@@ -1,4 +1,4 @@
--- The nodes that are noted obey the rules, and each known pair has one.
+-- The nodes in the notes obey the rules, and each known pair has a node.
 use Rattle.std.proofs.Common.{◌≡◌, ℕ, ◌+◌, ◌<◌, ◌≤◌, Bool, true, false, List, [], ◌∷◌, ◌++◌, length, inl, inr, Some}
 use Rattle.std.proofs.Common.{refl, sym, ap, ◌∙◌, subst, arith, slice_get}
 use Rattle.std.specs.Prelude.{All, slice_index, slice_set}
@@ -21,18 +21,18 @@ use Rattle.ft_compile.specs.Noted.{with_address_nodes, step_noted}
 use Rattle.ft_compile.proofs.Lists.{Starts, starts_less, get_newest}
 
 module _ (F : List Node) where
-  -- each of these nodes, which are the first ones, obeys the rules among all
+  -- each of these first nodes obeys the rules among all nodes
   abbrev pub AreFine : List Node → Type 0
   AreFine ns = (n : ℕ) (x : Node) → slice_get ns n ≡ Some x → IsNode F n x
 
-  -- one more lawful node leaves them lawful
+  -- they still do if another node that obeys the rules is appended
   pub fine_push : (ns : List Node) (x : Node) → AreFine ns → IsNode F (length ns) x → AreFine (ns ++ x ∷ [])
   fine_push ns x h new n y e = elim (there_pushed ns x n y e) [
     | inl f ↦ h n y f
     | inr f ↦ subst (λ z. IsNode F n z) f.1 (subst (λ m. IsNode F m x) (sym f.0) new)
   ]
 
-  -- a name that is lawful here is lawful later
+  -- a node that may be named here may be named later
   pub named_later : (n m scope : ℕ) (memory : Bool) (k : ℕ) → n ≤ m → MayName F n scope memory k →
       MayName F m scope memory k
   named_later n m scope memory k le h = record {
@@ -90,12 +90,12 @@ module _ (F : List Node) where
     small = λ q known. h.small q (forgotten k spare q known).1;
   }
 
-  -- what holds of a walk so far
+  -- the invariant of the walk within a block
   pub record IsLawful (scope : ℕ) (k : Known) (w : Noted) : Type 0 where
     pub named : IsNamed scope k (length w.nodes) w.pairs w.memory
     pub fine : AreFine w.nodes
 
-  -- one node, for a pair
+  -- one more node, which becomes a pair's
   one_node : (scope : ℕ) (k : Known) (w : Noted) (p : ℕ) (x : Shape) → scope ≤ 128 → p < 32 →
       Starts (with_pair_node scope p x w).nodes F → is_memory x ≡ false → IsShape F (length w.nodes) scope x →
       IsLawful scope k w → IsLawful scope (learn p k) (with_pair_node scope p x w)
@@ -107,7 +107,7 @@ module _ (F : List Node) where
         fine = fine_push w.nodes (node scope x) h.fine (record { scope = le; shape = ok });
       }
 
-  -- one node, for a part of another one
+  -- one more node, which is a part of another
   part_node : (scope : ℕ) (k : Known) (w : Noted) (x : Shape) → scope ≤ 128 → IsShape F (length w.nodes) scope x →
       IsLawful scope k w → IsLawful scope k (with_node scope x w)
   part_node scope k w x le ok h =
@@ -122,7 +122,7 @@ module _ (F : List Node) where
         fine = fine_push w.nodes (node scope x) h.fine (record { scope = le; shape = ok });
       }
 
-  -- one node, for the memory, after a store that leaves no spare
+  -- one more node, which becomes the memory; the spare pair is no longer known
   memory_node : (scope : ℕ) (k : Known) (w : Noted) (spare : ℕ) (x : Shape) → scope ≤ 128 →
       Starts (with_memory_node scope x w).nodes F → is_memory x ≡ true → IsShape F (length w.nodes) scope x →
       IsLawful scope k w → IsLawful scope (forget spare k) (with_memory_node scope x w)
@@ -138,12 +138,12 @@ module _ (F : List Node) where
   pub address_is_word : (cells c : ℕ) → cells ≤ 1024 → c < cells → IsWord (cell_address c)
   address_is_word cells c few lt = omega arith
 
-  -- after the nodes of the address of the cell of an array that a known pair names
+  -- the invariant, after the nodes of the address of the array cell that a known pair selects
   record IsAddressed (scope : ℕ) (k : Known) (before w : Noted) : Type 0 where
     lawful : IsLawful scope k w
     named : MayName F (length w.nodes) scope false (length before.nodes + 2)
 
-  -- these nodes are lawful
+  -- it holds after these nodes
   address_lawful : (scope : ℕ) (k : Known) (w : Noted) (begin many q : ℕ) → scope ≤ 128 → IsWord (cell_address begin) →
       IsLength many → k q ≡ true → Starts (with_address_nodes scope begin many q w).nodes F → IsLawful scope k w →
       IsAddressed scope k w (with_address_nodes scope begin many q w)
@@ -170,7 +170,7 @@ module _ (F : List Node) where
             (new_named w2.nodes scope t false s refl);
       }
 
-  -- a step that is well notes lawful nodes
+  -- a well formed step keeps the invariant
   pub step_lawful : (vars scope cells blocks : ℕ) (k : Known) (w : Noted) (i : Step3) → scope ≤ 128 → cells ≤ 1024 →
       StepFits cells blocks i → All (λ p. p < 32) (pairs_of i) → ReadsKnown vars k i →
       Starts (step_noted vars scope w i).nodes F → IsLawful scope k w →

@@ -1,4 +1,4 @@
--- The names of a program's cells are lawful in objects.
+-- The names of a program's cells are valid in objects.
 use Rattle.std.proofs.Common.{◌≡◌, ℕ, ◌&&◌, ◌||◌, ◌==◌, List, [], ◌∷◌, refl, sym, ap, ◌∙◌, get_or, arith}
 use Rattle.std.specs.Prelude.{nat_le}
 use Rattle.std.specs.List.{list_all}
@@ -19,19 +19,19 @@ letters_same b = ap (λ x. x || (b == 95)) (or_comm (nat_le 97 b && nat_le b 122
 bytes_same : (b : ℕ) → is_cell_byte b ≡ spell.is_name_byte b
 bytes_same b = ap (λ x. x || is_digit b || spell.is_bracket b) (letters_same b)
 
--- lists of such bytes are the same
+-- so are lists of these bytes
 all_same : (bs : List ℕ) → list_all is_cell_byte bs ≡ list_all spell.is_name_byte bs
 all_same [] = refl
 all_same (b ∷ bs) = ap (λ x. x && list_all is_cell_byte bs) (bytes_same b)
     ∙ ap (λ x. spell.is_name_byte b && x) (all_same bs)
 
--- names are the same
+-- so are names
 names_same : (t : List ℕ) → is_cell_text t ≡ spell.is_name t
 names_same [] = refl
 names_same (b ∷ bs) = ap (λ x. x && list_all is_cell_byte bs) (letters_same b)
     ∙ ap (λ x. spell.is_letter b && x) (all_same bs)
 
--- the cells of a proper program are lawful in objects
+-- the cells of a proper program are valid in objects
 proper_cells : (p : Program) → IsProper p → AreCells p.names p.inits
 proper_cells p proper = record {
   lawful = λ k d lt. let name = proper.names k d lt in
@@ -42,6 +42,6 @@ proper_cells p proper = record {
   words = proper.words;
 }
 
--- the cells of a text's program are lawful in objects
+-- the cells of a text's program are valid in objects
 pub program_cells : (text : List ℕ) (p : Program) → IsProgramOf text p → AreCells p.names p.inits
 program_cells text p h = proper_cells p (program_is_proper text p h)

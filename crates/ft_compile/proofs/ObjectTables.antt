@@ -28,14 +28,14 @@ use Rattle.ft_compile.proofs.BlockTypes.{HasTypes}
 
 -- CELLS
 
--- the cells have the names
+-- the cells have these names
 pub names_of_cells : (names : List (List ℕ)) (inits : List ℕ) → length names ≡ length inits →
     map name_of (map cell_from (zip names inits)) ≡ names
 names_of_cells [] inits e = refl
 names_of_cells (n ∷ ns) [] e = absurd (omega (arith, e))
 names_of_cells (n ∷ ns) (w ∷ ws) e = ap (λ l. n ∷ l) (names_of_cells ns ws (omega (arith, e)))
 
--- the cells have the initial words
+-- the cells have these initial words
 pub words_of_cells : (names : List (List ℕ)) (inits : List ℕ) → length names ≡ length inits →
     map init_of_cell (map cell_from (zip names inits)) ≡ inits
 words_of_cells [] [] e = refl
@@ -51,12 +51,12 @@ many_cells [] (w ∷ ws) e = absurd (omega (arith, e))
 many_cells (n ∷ ns) [] e = absurd (omega (arith, e))
 many_cells (n ∷ ns) (w ∷ ws) e = ap suc (many_cells ns ws (omega (arith, e)))
 
--- each has the type `int`
+-- each cell has type `int`
 pub int_cells : (xs : List (List ℕ × ℕ)) → All IsIntCell (map cell_from xs)
 int_cells [] = All-nil IsIntCell
 int_cells (x ∷ xs) = All-cons IsIntCell (cell_from x) (map cell_from xs) refl (int_cells xs)
 
--- each obeys the rules
+-- each cell obeys the rules
 pub lawful_cells : (names : List (List ℕ)) (inits : List ℕ) → All IsCellName names → All IsWord inits →
     All (IsCell 2) (map cell_from (zip names inits))
 lawful_cells [] inits h k = All-nil (IsCell 2)
@@ -72,13 +72,13 @@ lawful_cells (n ∷ ns) (w ∷ ws) h k =
     })
     (lawful_cells ns ws (All-tail IsCellName n ns h) (All-tail IsWord w ws k))
 
--- the cell at a place has the type `int`
+-- the cell at any place has type `int`
 pub cell_is_int : (xs : List (List ℕ × ℕ)) (k : ℕ) (c : Cell) → slice_get (map cell_from xs) k ≡ Some c → c.basic ≡ int
 cell_is_int [] k c e = cc
 cell_is_int (x ∷ xs) zero c e = let f : cell_from x ≡ c = cc in sym (ap basic_of f)
 cell_is_int (x ∷ xs) (suc k) c e = cell_is_int xs k c e
 
--- each number of a cell is one of type `int`
+-- each number below the number of cells is that of a cell of type `int`
 pub cell_there : (names : List (List ℕ)) (inits : List ℕ) (k : ℕ) → length names ≡ length inits → k < length inits →
     option_map basic_of (slice_get (map cell_from (zip names inits)) k) ≡ Some int
 cell_there [] [] k e lt = absurd (omega (arith, lt))
@@ -89,7 +89,7 @@ cell_there (n ∷ ns) (w ∷ ws) (suc k) e lt = cell_there ns ws k (omega (arith
 
 -- INSTRUCTIONS
 
--- a substitution in place changes nothing else
+-- placing a substitution changes nothing else
 bare_subst : (i : Instr) (us : List Subst) → bare (with_subst i us) ≡ bare i
 bare_subst (instr.JmpB rd t) [] = refl
 bare_subst (instr.JmpB rd t) (u ∷ us) = refl
@@ -97,7 +97,7 @@ bare_subst (instr.BzB rz rd t) [] = refl
 bare_subst (instr.BzB rz rd t) (u ∷ us) = refl
 bare_subst i us = refl
 
--- all substitutions in place change nothing else
+-- placing all substitutions changes nothing else
 pub bare_placed : (us : List Subst) (is : List Instr) → map bare (placed us is) ≡ map bare is
 bare_placed us [] = refl
 bare_placed us (i ∷ is) = ap (λ x. x ∷ map bare (placed (substs_left i us) is)) (bare_subst i us)
@@ -105,7 +105,7 @@ bare_placed us (i ∷ is) = ap (λ x. x ∷ map bare (placed (substs_left i us) 
 
 -- BLOCKS
 
--- a block has the code type of its place
+-- a block has the code type that belongs to its place
 pub code_type_is : (o : Object) (vars : ℕ) (T : HasTypes o vars) (ss : List ℕ) (b : ℕ) (x : Block) →
     slice_get (blocks_at ss) b ≡ Some x → x.code_type ≡ type_of_block o vars T b
 code_type_is o vars T [] b x e = cc
@@ -125,12 +125,12 @@ pub first_type : (ss : List ℕ) → unwrap_or (option_map code_type_of (slice_g
 first_type [] = refl
 first_type (s ∷ ss) = refl
 
--- blocks have an instruction, if there is one
+-- if there is a block, there is an instruction
 pub first_there : (bs : Blocks) → HaveSome bs → 0 < length bs → 0 < blocks_size bs
 first_there [] h lt = absurd (omega (arith, lt))
 first_there (x ∷ xs) h lt = omega (arith, h.0)
 
--- a target's code address is that of a block of code type 1
+-- the block at a target's code address has code type 1
 pub target_found : (bs : Blocks) (to : ℕ) → HaveSome bs → IsTarget (length bs) to →
     option_map code_type_of (find (λ (c : Block). code_address (start_of bs to) == code_address c.start)
     (blocks_at (starts bs))) ≡ Some 1

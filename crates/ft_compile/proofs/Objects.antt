@@ -53,7 +53,7 @@ use Rattle.ft_compile.proofs.ObjectTables.{target_found}
 
 module _ (names : List (List ℕ)) (inits : List ℕ) (vars : ℕ) (bs : Blocks) (C : AreCells names inits) (F : vars ≤ 32)
     (W : IsWell vars (length inits) bs) where
-  -- the object
+  -- the object of these blocks
   abbrev o : Object
   o = emitted names inits vars bs
 
@@ -65,24 +65,24 @@ module _ (names : List (List ℕ)) (inits : List ℕ) (vars : ℕ) (bs : Blocks)
   abbrev rows : List (List Instr)
   rows = rows_coded vars start 0 (at_first vars) bs
 
-  -- its blocks are well formed one after another
+  -- all its blocks are well formed
   fine : RowsAreFine vars (length inits) (length bs) 0 bs
   fine = well_rows vars (length inits) bs W
 
-  -- each has an instruction
+  -- each block has an instruction
   some : HaveSome bs
   some = fine_have_some vars (length inits) (length bs) 0 bs fine
 
-  -- what is noted of them is sound
+  -- the notes of the blocks are sound
   sound : IsSound o.nodes o.substs (noted vars bs)
   sound = noted_sound vars (length inits) bs C.few F W
 
-  -- the instructions are those of the rows, one after another
+  -- the instructions are the rows, concatenated
   instrs_are : o.instrs ≡ joined vars start rows
   instrs_are = ap (λ us. placed us (doubled bs)) (added_blocks vars start 0 (at_first vars) bs)
       ∙ placed_blocks vars start 0 (at_first vars) bs
 
-  -- so there are as many as the blocks become
+  -- so there are as many as the blocks' sizes say
   instrs_many : length o.instrs ≡ blocks_size bs
   instrs_many = ap length instrs_are ∙ joined_length vars start 0 (at_first vars) bs
 
@@ -95,11 +95,11 @@ module _ (names : List (List ℕ)) (inits : List ℕ) (vars : ℕ) (bs : Blocks)
     each = sound.fine;
   }
 
-  -- the first ones are the memory and the variables
+  -- the first nodes are those of the memory and the variables
   first_nodes : Starts (at_first vars).nodes o.nodes
   first_nodes = (blocks_grow vars 0 (at_first vars) bs).nodes
 
-  -- the two code types are there
+  -- the object has the two code types
   types : HasTypes o vars
   types = record {
     few = F;
@@ -115,32 +115,32 @@ module _ (names : List (List ℕ)) (inits : List ℕ) (vars : ℕ) (bs : Blocks)
     first_nodes = first_nodes;
   }
 
-  -- a code address is a word
+  -- a block's code address is a word
   address_words : (b : ℕ) → IsWord (code_address (start b))
   address_words b = let s = start_within bs b in let t = W.short in omega arith
 
-  -- the substitutions of the instructions are those that were noted
+  -- the instructions carry the substitutions of the notes
   substs_are : substs_of o.instrs ≡ (noted vars bs).substs
   substs_are = ap substs_of instrs_are ∙ substs_blocks vars start 0 (at_first vars) bs
       ∙ sym (added_blocks vars start 0 (at_first vars) bs)
 
-  -- there are as many blocks
+  -- there are as many blocks in the object as in the flow
   pub block_count : length o.blocks ≡ length bs
   block_count = blocks_many (starts bs) ∙ starts_length 0 bs
 
-  -- its cells have the names
+  -- the cells have these names
   names_are : map name_of o.cells ≡ names
   names_are = names_of_cells names inits C.as_many
 
-  -- its cells have the initial words
+  -- the cells have these initial words
   words_are : words_of o ≡ inits
   words_are = words_of_cells names inits C.as_many
 
-  -- it has as many cells as initial words
+  -- there are as many cells as initial words
   cell_count : length o.cells ≡ length inits
   cell_count = many_cells names inits C.as_many
 
-  -- its tables obey their rules
+  -- all tables obey the rules
   spelled : IsSpellable o
   spelled = record {
     few_cells = let c = cell_count in let f = C.few in omega arith;
@@ -168,29 +168,29 @@ module _ (names : List (List ℕ)) (inits : List ℕ) (vars : ℕ) (bs : Blocks)
     entry = let c = block_count in let s = W.some in omega arith;
   }
 
-  -- ACCEPTED
+  -- ACCEPTANCE
 
-  -- the type of the cell at a cell's address
+  -- the cell at a cell's address has type `int`
   type_there : (c : ℕ) → c < length inits → cell_type o (cell_address c) ≡ Some int
   type_there c lt = ap (option_map basic_of) (cell_at_address o c) ∙ cell_there names inits c C.as_many lt
 
-  -- a cell's address has the type of one
+  -- a cell's address has type `ref:int`
   refs : (c : ℕ) → c < length inits → has_type o (cell_address c) (ref int) ≡ true
   refs c lt = (has_type_decides o (cell_address c) (ref int)).1 (type_there c lt)
 
-  -- the cells of an array are of one type
+  -- the cells of an array have one type
   arrays : (begin many : ℕ) → RunFits (length inits) (Run begin many) → run_type o begin many ≡ Some int
   arrays begin many fits =
       let within : begin + many ≤ length o.cells = omega (arith, cell_count, fits.2) in
       (run_type_is o begin many int fits.0 within).1
       (record { each = λ k lt. type_there (begin + k) (omega (arith, lt, fits.2)); referable = omega arith })
 
-  -- the code address of a jump's target has that of a block of code type 1
+  -- the code address of a target has type `code:1`
   targets : (b : ℕ) → IsTarget (length bs) b → has_type o (code_address (start b)) (code 1) ≡ true
   unfolding block_at
   targets b t = (has_type_decides o (code_address (start b)) (code 1)).1 (target_found bs b some t)
 
-  -- the rows of each block's instructions apply
+  -- the typing rules of each row's instructions apply
   rows_apply : (b : ℕ) (w : Noted) (xs : Blocks) → RowsAreFine vars (length inits) (length bs) b xs →
       Starts (at_first vars).nodes w.nodes → Starts (blocks_noted vars b w xs).nodes o.nodes →
       Starts (blocks_noted vars b w xs).rows o.substs → IsSound o.nodes o.substs w → (j : ℕ) (r : List Instr) →
@@ -234,7 +234,7 @@ module _ (names : List (List ℕ)) (inits : List ℕ) (vars : ℕ) (bs : Blocks)
   row_of_block b w (x ∷ xs) zero lt = (row_coded vars start (scope_of_block vars b) (begun w) x, refl)
   row_of_block b w (x ∷ xs) (suc j) lt = row_of_block (suc b) (block_noted vars b w x) xs j (omega (arith, lt))
 
-  -- where a block begins
+  -- a block begins where its row does
   place_is : (b : ℕ) → option_map start_of_block (slice_get o.blocks b) ≡ slice_get (offsets vars start 0 rows) b
   place_is b = sym (slice_get-map start_of_block o.blocks b)
       ∙ ap (λ l. slice_get l b) (places_of_blocks (starts bs)
@@ -251,7 +251,7 @@ module _ (names : List (List ℕ)) (inits : List ℕ) (vars : ℕ) (bs : Blocks)
       (unwrap_or (slice_get (offsets vars start 0 rows) (suc b)) (length l))) instrs_are
       ∙ cut_out vars start rows b r e
 
-  -- so the rows of the instructions of each block apply
+  -- so the typing rules of each block's instructions apply
   blocks_apply : (b : ℕ) (x : Block) → slice_get o.blocks b ≡ Some x →
       Applies o (start_context o x.code_type) (block_instrs o b)
   blocks_apply b x e =
@@ -269,7 +269,7 @@ module _ (names : List (List ℕ)) (inits : List ℕ) (vars : ℕ) (bs : Blocks)
       (subst (λ l. Applies o (start_context o (type_of_block o vars types b)) l) (sym (block_is_row b R.0 R.1))
       (subst (λ n. Applies o (start_context o (type_of_block o vars types n)) R.0) z h))
 
-  -- a run may begin with the type of the entry
+  -- the entry's code type is one with which a run may begin
   entry_lawful : IsEntryType o (block_type o o.entry)
   entry_lawful = subst (IsEntryType o) (sym (first_type (starts bs))) (record {
     ints = refl;
@@ -287,7 +287,7 @@ module _ (names : List (List ℕ)) (inits : List ℕ) (vars : ℕ) (bs : Blocks)
   cells_typed : (k : ℕ) (x : Cell) → slice_get o.cells k ≡ Some x → HasType o x.init x.basic
   cells_typed k x e = subst (HasType o x.init) (sym (cell_is_int (zip names inits) k x e)) tt
 
-  -- all of it
+  -- all of these facts
   emission_of : IsEmission names inits bs o
   emission_of = record {
     names_are = names_are;

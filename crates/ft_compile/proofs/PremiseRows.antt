@@ -1,4 +1,4 @@
--- Rows of typing whose premises hold, and the context after each.
+-- Typing rules whose premises hold, and the context after each.
 use Rattle.std.proofs.Common.{◌≡◌, ◌≢◌, ℕ, true, cond, ◌==◌, [], ◌∷◌, Some, refl, ap, ◌∙◌}
 use Rattle.std.proofs.lemmas.Bool.{ne_eqb, eq-eqb}
 use Rattle.ft_isa.specs.declared.colour.Colour.{Colour}
@@ -20,19 +20,19 @@ use Rattle.ft_typing.specs.TypingRow.{row}
 use Rattle.ft_types.proofs.Maps.{get-insert}
 use Rattle.ft_typing.proofs.TypedWords.{same_colours}
 
--- what is known of a register
+-- the type of a register, with its form
 abbrev pub ty : Colour → Basic → Polynomial → Typed
 ty k b x = record { colour = k; basic = b; form = x }
 
--- what is known of a register after one is set
+-- the type of a register after one is set
 typed_with : (c : Context) (r : ℕ) (t : Typed) (q : ℕ) → typed (with_type r t c) q ≡ cond (q == r) (Some t) (typed c q)
 typed_with c r t q = get-insert c.registers r t q
 
--- of this one
+-- that of the register that was set
 pub typed_same : (c : Context) (r : ℕ) (t : Typed) → typed (with_type r t c) r ≡ Some t
 typed_same c r t = typed_with c r t r ∙ ap (λ b. cond b (Some t) (typed c r)) (eq-eqb r r refl)
 
--- of another one
+-- that of any other register
 pub typed_other : (c : Context) (r : ℕ) (t : Typed) (q : ℕ) → q ≢ r → typed (with_type r t c) q ≡ typed c q
 typed_other c r t q ne = typed_with c r t q ∙ ap (λ b. cond b (Some t) (typed c q)) (ne_eqb q r ne)
 
@@ -41,7 +41,7 @@ pub has_int : (o : Object) (v : ℕ) → has_type o v int ≡ true
 unfolding has_type
 has_int o v = refl
 
--- ROWS, WHERE THEIR PREMISES HOLD
+-- RULES WHOSE PREMISES HOLD
 
 module _ (o : Object) where
   -- a move
@@ -64,7 +64,7 @@ module _ (o : Object) where
   unfolding need for_typed
   op_word_row c p rd rs v k a x hs = rw (hs, same_colours k) refl
 
-  -- a green load, if nothing waits
+  -- a green load, if the queue is empty
   pub load_green_row : (c : Context) (rd rs : Reg) (x : Polynomial) → c.queue ≡ [] → typed c rs.number
       ≡ Some (ty Green (ref int) x) → row o c (instr.Ld Green rd rs)
       ≡ Goes (with_type rd.number (ty Green int (norm_sel c.memory x)) c)
@@ -77,21 +77,21 @@ module _ (o : Object) where
   unfolding need for_typed for_ref_over same_colour
   load_blue_row c rd rs x hs = rw hs refl
 
-  -- a green store, if nothing waits
+  -- a green store, if the queue is empty
   pub store_green_row : (c : Context) (rd rs : Reg) (a x : Polynomial) → c.queue ≡ [] → typed c rd.number
       ≡ Some (ty Green (ref int) a) → typed c rs.number ≡ Some (ty Green int x) → row o c (instr.St Green rd rs)
       ≡ Goes (record c { queue = (a, x) ∷ [] })
   unfolding need for_typed for_ref_over is_seen_as same_basic same_colour
   store_green_row c rd rs a x q hd hs = rw (hd, hs, q) refl
 
-  -- a blue store, if the same waits
+  -- a blue store, if the queue has the same address and value
   pub store_blue_row : (c : Context) (rd rs : Reg) (a x : Polynomial) → c.queue ≡ (a, x) ∷ [] → typed c rd.number
       ≡ Some (ty Blue (ref int) a) → typed c rs.number ≡ Some (ty Blue int x) → row o c (instr.St Blue rd rs)
       ≡ Goes (record c { queue = []; memory = norm_upd c.memory a x })
   unfolding need for_typed for_ref_over is_seen_as same_basic same_colour for_oldest
   store_blue_row c rd rs a x q hd hs = rw (hd, hs, q) (rw (same_itself a) (rw (same_itself x) refl))
 
-  -- the address of the cell of an array of type `int`
+  -- the address of a cell of an array of type `int`
   pub index_row : (c : Context) (rd rs : Reg) (k : Colour) (b : Basic) (begin many : ℕ) (x : Polynomial) →
       run_type o begin many ≡ Some int → typed c rs.number ≡ Some (ty k b x) → row o c (instr.Idx rd rs begin many)
       ≡ Goes (with_type rd.number (ty k (ref int) (run_form begin many x)) c)

@@ -1,4 +1,4 @@
--- The instructions, the substitutions and the code types of an emitted object obey the rules of their tables.
+-- The instructions, substitutions and code types of an emitted object obey the rules of their tables.
 use Rattle.std.proofs.Common.{◌≡◌, ℕ, zero, suc, ◌+◌, ◌<◌, ◌≤◌, true, false, List, [], ◌∷◌, ◌++◌, length, refl, sym, ap}
 use Rattle.std.proofs.Common.{◌∙◌, subst, arith, map, append_assoc, length-append}
 use Rattle.std.specs.Prelude.{All}
@@ -34,19 +34,19 @@ use Rattle.ft_compile.proofs.Forms.{green_number}
 
 -- INSTRUCTIONS
 
--- the three basic types of moves and cells are lawful
+-- the type of integers is valid
 int_is_basic : IsBasic 2 int
 int_is_basic = record { refs = omega arith; base = tt }
 
--- the type of addresses of cells
+-- the type of cell addresses is valid
 ref_int_is_basic : IsBasic 2 (ref int)
 ref_int_is_basic = record { refs = omega arith; base = tt }
 
--- the type of addresses of blocks
+-- the type of code addresses of blocks is valid
 code_one_is_basic : IsBasic 2 (code 1)
 code_one_is_basic = record { refs = omega arith; base = omega arith }
 
--- the cells of an array are there
+-- the cells of an array exist
 run_there : (cells begin many : ℕ) → RunFits cells (Run begin many) → IsRun cells begin many
 run_there cells begin many fits = record {
   begins = omega (arith, fits.0, fits.2);
@@ -124,7 +124,7 @@ module _ (vars : ℕ) (start : ℕ → ℕ) where
       ∙ ap (λ l. step_added vars start w i ++ l) (substs_row scope v is rest)
       ∙ sym (append_assoc (step_added vars start w i) (row_added vars start scope v is) (substs_of rest))
 
-  -- the substitutions of all instructions are those that were noted
+  -- the instructions of all blocks carry the substitutions that these add
   pub substs_blocks : (b : ℕ) (w : Noted) (xs : Blocks) → substs_of (joined vars start (rows_coded vars start b w xs))
       ≡ blocks_added vars start b w xs
   substs_blocks b w [] = refl
@@ -135,14 +135,14 @@ module _ (vars : ℕ) (start : ℕ → ℕ) where
 
 -- CODE TYPES
 
--- the registers of the blue rows increase
+-- the registers of the blue rows are in increasing order
 blue_rising : (least a n : ℕ) → least ≤ 32 + a → a + n ≤ 32 → AreRising least (map blue_row (range_with_len a n))
 blue_rising least a zero h k = tt
 blue_rising least a (suc n) h k =
     let e = blue_number a (omega arith) in
     (omega arith, blue_rising (suc (blue a).number) (a + 1) n (omega arith) (omega arith))
 
--- the registers of the green rows and of the blue rows after them increase
+-- the registers of the green rows, followed by the blue rows, are in increasing order
 green_rising : (least a n m : ℕ) → least ≤ a → a + n ≤ 32 → m ≤ 32 →
     AreRising least (map green_row (range_with_len a n) ++ map blue_row (range_with_len 0 m))
 green_rising least a zero m h k l = blue_rising least 0 m (omega arith) (omega arith)
@@ -176,7 +176,7 @@ module _ (nodes : List Node) (vars : ℕ) (few : vars ≤ 32) (s : Starts (at_fi
         scope_within = omega arith;
       })
 
-  -- what holds of each number below the variables holds of their list
+  -- a fact about each number below `vars` holds of each element of their list
   range_all : (P : ℕ → Type 0) → ((i : ℕ) → i < vars → P i) → All P (range_with_len 0 vars)
   range_all P h k d lt = let l = length-range_with_len 0 vars in let kv : k < vars = omega arith in
       let z : k ≡ 0 + k = omega arith in subst P (z ∙ sym (get_or-range_with_len 0 vars k d kv)) (h k kv)
@@ -216,7 +216,7 @@ module _ (nodes : List Node) (vars : ℕ) (few : vars ≤ 32) (s : Starts (at_fi
     ),
   )
 
--- the two code types have few register rows
+-- the register rows of the two code types are within the limit
 pub reg_rows_few : (vars : ℕ) → vars ≤ 32 → reg_row_count (entry_type ∷ variables_type vars ∷ []) ≤ 262144
 reg_rows_few vars few =
     let l = length-append (map green_row (range_with_len 0 vars)) (map blue_row (range_with_len 0 vars)) in
@@ -224,13 +224,13 @@ reg_rows_few vars few =
     let n = length-map-range_with_len blue_row 0 vars in
     omega arith
 
--- the two code types have few queue rows
+-- the queue rows of the two code types are within the limit
 pub queue_rows_few : (vars : ℕ) → queue_row_count (entry_type ∷ variables_type vars ∷ []) ≤ 32768
 queue_rows_few vars = omega arith
 
 -- BLOCKS
 
--- blocks but the first are in order
+-- the blocks after the first are in order
 later_blocks : (end least n : ℕ) (xs : Blocks) → least ≤ n → n + blocks_size xs ≤ end → HaveSome xs →
     AreBlocks end least (map block_from (starts_from n xs))
 later_blocks end least n [] h k some = tt
@@ -240,7 +240,7 @@ later_blocks end least n (x ∷ xs) h k some = (
   later_blocks end (suc n) (n + row_size x) xs (omega (arith, some.0)) (omega (arith, k)) some.1,
 )
 
--- blocks at their places are in order, and of the two code types
+-- all blocks are in order
 pub blocks_in_order : (end : ℕ) (xs : Blocks) → blocks_size xs ≤ end → HaveSome xs →
     AreBlocks end 0 (blocks_at (starts_from 0 xs))
 blocks_in_order end [] k some = tt
@@ -250,19 +250,19 @@ blocks_in_order end (x ∷ xs) k some = (
   later_blocks end 1 (0 + row_size x) xs (omega (arith, some.0)) (omega (arith, k)) some.1,
 )
 
--- the first begins at 0
+-- the first block begins at 0
 pub blocks_begin : (xs : Blocks) → 0 < length xs → BeginAtZero (blocks_at (starts_from 0 xs))
 blocks_begin [] h = absurd (omega (arith, h))
 blocks_begin (x ∷ xs) h = refl
 
--- each has one of the two code types
+-- each block has one of the two code types
 pub blocks_typed : (ss : List ℕ) → All (HasCodeType 2) (blocks_at ss)
 blocks_typed [] = All-nil (HasCodeType 2)
 blocks_typed (s ∷ ss) = All-cons (HasCodeType 2) (record { start = s; code_type = 0 }) (map block_from ss)
     (let z : 0 < 2 = omega arith in z) (All-map (HasCodeType 2) block_from ss (λ k d lt. let z : 1 < 2 = omega arith in
     z))
 
--- there are as many as places
+-- there are as many blocks as places
 pub blocks_many : (ss : List ℕ) → length (blocks_at ss) ≡ length ss
 blocks_many [] = refl
 blocks_many (s ∷ ss) = ap suc (others ss)

@@ -13,7 +13,7 @@ use Rattle.ft_compile.specs.StandsFor.{StandsFor}
 use Rattle.ft_compile.proofs.Meant.{runs_as_meant}
 use Rattle.ft_compile.proofs.Objects.{emission}
 
--- the object of blocks to which a program was lowered is emitted for it
+-- the object of blocks to which a program is lowered is emitted for the program
 pub emits : (p : Program) (o : Object) (vars cells : ℕ) (bs : Blocks) → vars ≤ 32 → IsWell vars cells bs → vars
     ≡ p.vars → cells ≡ length p.inits → Lowers p bs → blocks_size bs ≤ program_weight p →
     PairsBelow (program_need p) bs → o ≡ emitted p.names p.inits vars bs → IsEmitted p o
@@ -27,7 +27,7 @@ emits p o vars cells bs F W named many L light below e = record {
   object = e ∙ ap (λ v. emitted p.names p.inits v bs) named;
 }
 
--- the object of blocks to which a program was lowered, and which run as doubled code does
+-- it stands for the program, if each object that carries the blocks runs as they do
 pub stands : (p : Program) (o : Object) (vars cells : ℕ) (bs : Blocks) → AreCells p.names p.inits → vars ≤ 32 →
     IsWell vars cells bs → cells ≡ length p.inits → blocks_size bs ≤ program_weight p → Lowers p bs →
     RunsAs vars cells bs → o ≡ emitted p.names p.inits vars bs → StandsFor p o

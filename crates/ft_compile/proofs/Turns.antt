@@ -1,4 +1,4 @@
--- The turns of loops over plain values.
+-- The iterations of loops, over plain values.
 use Rattle.std.proofs.Common.{◌≡◌, ℕ, suc, ◌+◌, ◌<◌, ◌≤◌, List, [], ◌∷◌, ◌++◌, length, refl, sym, ap, ◌∙◌, subst, arith}
 use Rattle.std.proofs.Common.{map, drop, get_or, Vec, Global, append_assoc}
 use Rattle.std.proofs.lemmas.List.{append-nil, drop_all, drop_more, length-set}
@@ -21,12 +21,12 @@ use Rattle.ft_compile.specs.Emitted.{at_first, green_row, blue_row, variable_nod
 use Rattle.ft_compile.specs.Viewed.{HasRoom}
 use Rattle.ft_compile.proofs.Counted.{nodes_step, rows_step, nodes_row, rows_row}
 
--- the blocks at these places: the first is of this code type, and the others of code type 1
+-- the blocks that start at these places: the first has this code type, the others code type 1
 abbrev pub blocks_with : ℕ → List ℕ → List Block
 blocks_with t [] = []
 blocks_with t (s ∷ ss) = record { start = s; code_type = t } ∷ blocks_with 1 ss
 
--- with code type 0 these are all blocks
+-- with code type 0, these are the blocks of the object
 pub blocks_with_zero : (ss : List ℕ) → blocks_with 0 ss ≡ blocks_at ss
 blocks_with_zero [] = refl
 blocks_with_zero (s ∷ ss) = ap (λ l. record { start = s; code_type = 0 } ∷ l) (others ss)
@@ -35,7 +35,7 @@ blocks_with_zero (s ∷ ss) = ap (λ l. record { start = s; code_type = 0 } ∷ 
     others [] = refl
     others (t ∷ ts) = ap (λ l. block_from t ∷ l) (others ts)
 
--- each pair keeps a node
+-- a step keeps the number of pairs
 pairs_step : (vars scope : ℕ) (w : Noted) (i : Step3) → length (step_noted vars scope w i).pairs ≡ length w.pairs
 pairs_step vars scope w (Put p v) = length-set w.pairs p _
 pairs_step vars scope w (Copy p q) = length-set w.pairs p _
@@ -48,12 +48,12 @@ pairs_step vars scope w (Exit q spare to) = refl
 pairs_step vars scope w (Go spare to) = refl
 pairs_step vars scope w Stop = refl
 
--- each pair keeps a node over a row
+-- a row keeps the number of pairs
 pairs_row : (vars scope : ℕ) (w : Noted) (is : List Step3) → length (row_noted vars scope w is).pairs ≡ length w.pairs
 pairs_row vars scope w [] = refl
 pairs_row vars scope w (i ∷ is) = pairs_row vars scope (step_noted vars scope w i) is ∙ pairs_step vars scope w i
 
--- room for a row is room for the steps after its first
+-- room for a row leaves room for the steps after the first
 pub room_next : (vars scope : ℕ) (w : Noted) (i : Step3) (is : List Step3) → vars ≤ 32 → HasRoom w (row_size (i ∷ is)) →
     HasRoom (step_noted vars scope w i) (row_size is)
 room_next vars scope w i is few h = record {
@@ -62,7 +62,7 @@ room_next vars scope w i is few h = record {
   pairs = pairs_step vars scope w i ∙ h.pairs;
 }
 
--- room for blocks is room for those after the first
+-- room for blocks leaves room for those after the first
 pub room_blocks : (vars scope : ℕ) (w : Noted) (x : List Step3) (xs : Blocks) → vars ≤ 32 →
     HasRoom w (blocks_size (x ∷ xs)) → HasRoom (row_noted vars scope (begun w) x) (blocks_size xs)
 room_blocks vars scope w x xs few h = record {
@@ -71,7 +71,7 @@ room_blocks vars scope w x xs few h = record {
   pairs = pairs_row vars scope (begun w) x;
 }
 
--- one more row of a variable
+-- one more green row of a variable
 pub green_more : (new regs old : List RegType) (i : ℕ) (reg : Reg) (expr : ℕ) → new ≡ regs
     ++ record { reg = reg; colour = Green; basic = int; expr = expr } ∷ [] → regs ≡ old
     ++ map green_row (range_with_len 0 i) → reg ≡ green i → expr ≡ 1 + i → new ≡ old
@@ -109,7 +109,7 @@ blue_more new regs old i reg expr e f g h =
     ∙ ap (λ x. old ++ (map blue_row (range_with_len 0 i) ++ x ∷ [])) row
     ∙ ap (λ l. old ++ l) (sym (map-range_with_len_more blue_row 0 i i z))
 
--- one more variable's node
+-- the node of one more variable
 pub nodes_more : (new nodes : List Node) (first : Node) (vars i : ℕ) → new ≡ nodes ++ variable_node vars i ∷ [] → nodes
     ≡ first ∷ map (variable_node vars) (range_with_len 0 i) → new
     ≡ first ∷ map (variable_node vars) (range_with_len 0 (i + 1))
@@ -118,13 +118,13 @@ nodes_more new nodes first vars i e f =
     e ∙ ap (λ l. l ++ variable_node vars i ∷ []) f
     ∙ ap (λ l. first ∷ l) (sym (map-range_with_len_more (variable_node vars) 0 i i z))
 
--- after the last place all blocks are there
+-- after the last place, the blocks are complete
 pub blocks_end : (blocks : List Block) (ss : List ℕ) (t k : ℕ) → length ss ≤ k → blocks ++ blocks_with t (drop k ss)
     ≡ blocks_with 0 ss → blocks ≡ blocks_at ss
 blocks_end blocks ss t k le e = sym (append-nil blocks) ∙ ap (λ l. blocks ++ blocks_with t l) (sym (drop_all k ss le))
     ∙ e ∙ blocks_with_zero ss
 
--- a turn along the steps of a row
+-- one iteration over the steps of a row
 pub row_turn : (vars scope : ℕ) (w v whole : Noted) (is : List Step3) (j : ℕ) (d : Step3) → vars ≤ 32 → j < length is →
     v ≡ step_noted vars scope w (get_or is j d) → row_noted vars scope w (drop j is) ≡ whole →
     HasRoom w (row_size (drop j is)) → (row_noted vars scope v (drop (j + 1) is) ≡ whole)
@@ -142,7 +142,7 @@ row_turn vars scope w v whole is j d few lt e left room =
 abbrev pub items_of : List (Vec Step3 Global) → Blocks
 items_of xs = map (λ b. b.items) xs
 
--- a turn along the blocks
+-- one iteration over the blocks
 pub block_turn : (vars scope : ℕ) (w v whole : Noted) (xs : List (Vec Step3 Global)) (j : ℕ) (x : Vec Step3 Global) →
     vars ≤ 32 → j < length xs → x ≡ get_or xs j x → scope ≡ scope_of_block vars j → v
     ≡ row_noted vars scope (begun w) x.items → blocks_noted vars j w (items_of (drop j xs)) ≡ whole →
@@ -161,7 +161,7 @@ block_turn vars scope w v whole xs j x few lt is sc e left room =
       subst (λ z. HasRoom z (blocks_size (items_of rest))) (sym e) r,
     )
 
--- room at the start
+-- there is room at the start
 pub room_at_first : (w : Noted) (vars : ℕ) (xs : Blocks) → w ≡ at_first vars → vars ≤ 32 → blocks_size xs ≤ 65536 →
     HasRoom w (blocks_size xs)
 room_at_first w vars xs e few short =

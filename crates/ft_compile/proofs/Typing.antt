@@ -1,4 +1,4 @@
--- The rows of a step's instructions apply, if the known pairs have the forms of their nodes.
+-- The typing rules of a step's instructions apply, if the known pairs have the forms of their nodes.
 use Rattle.std.proofs.Common.{◌≡◌, ◌≢◌, ℕ, ◌+◌, ◌<◌, true, List, [], ◌∷◌, ◌++◌, length, Some, refl, sym, ap, ◌∙◌, arith}
 use Rattle.std.specs.Prelude.{All}
 use Rattle.ft_isa.specs.Words.{cell_address}
@@ -36,14 +36,14 @@ use Rattle.ft_compile.proofs.PremiseRows.{load_blue_row, store_green_row, store_
 use Rattle.ft_compile.proofs.KnownPairs.{both, blue_is_not_green, both_green, both_blue, other_green, other_blue}
 use Rattle.ft_compile.proofs.KnownPairs.{IsGood, Others, others_of, good_learn, good_forget}
 
--- INSTRUCTIONS ONE AFTER ANOTHER
+-- SEQUENCES OF INSTRUCTIONS
 
--- the rows of these instructions apply, and lead from one context to another
+-- the typing rules of these instructions apply and lead from one context to the other
 abbrev pub Passes : Object → Context → List Instr → Context → Type 0
 Passes o c [] d = c ≡ d
 Passes o c (i ∷ is) d = (e : Context) × (row o c i ≡ Goes e) × Passes o e is d
 
--- a step that goes only to the next one
+-- a step that always leads to the next one
 abbrev pub IsStraight : Step3 → Type 0
 IsStraight (Put p v) = Unit {0}
 IsStraight (Copy p q) = Unit {0}
@@ -56,7 +56,7 @@ IsStraight (Exit q spare to) = ⊥
 IsStraight (Go spare to) = ⊥
 IsStraight Stop = ⊥
 
--- where a step leads
+-- the instructions lead to a context that fits what is known and noted after the step
 pub record Leads (o : Object) (c : Context) (is : List Instr) (scope : ℕ) (k : Known) (w : Noted) : Type 0 where
   pub after : Context
   pub passes : Passes o c is after
@@ -65,7 +65,7 @@ pub record Leads (o : Object) (c : Context) (is : List Instr) (scope : ℕ) (k :
 module _ (o : Object) (N : AreNodes o.nodes) (cells : ℕ)
     (refs : (c : ℕ) → c < cells → has_type o (cell_address c) (ref int) ≡ true)
     (arrays : (begin many : ℕ) → RunFits cells (Run begin many) → run_type o begin many ≡ Some int) where
-  -- the form of the address of the cell of an array that a pair names
+  -- the form of the address of the array cell that a pair selects
   address_form : (w : Noted) (scope begin many q : ℕ) → Starts (with_address_nodes scope begin many q w).nodes o.nodes →
       integer_form_of o (length w.nodes + 2) ≡ run_form begin many (integer_form_of o (pair_node w q))
   address_form w scope begin many q s =
@@ -131,7 +131,7 @@ module _ (o : Object) (N : AreNodes o.nodes) (cells : ℕ)
             G.ints;
       }
 
-  -- stores to an address that two instructions put into both registers of the spare
+  -- stores to an address that two instructions put into both registers of the spare pair
   store_leads : (scope : ℕ) (k : Known) (w : Noted) (c : Context) (q spare : ℕ) (a : Polynomial) (x : Shape)
       (i j : Instr) → spare < 32 → k q ≡ true → q ≢ spare → memory_form_of o (length w.nodes)
       ≡ norm_upd c.memory a (integer_form_of o (pair_node w q)) → IsGood o scope k w.pairs w.memory c → row o c i
@@ -177,7 +177,7 @@ module _ (o : Object) (N : AreNodes o.nodes) (cells : ℕ)
         };
       }
 
-  -- the address of the cell of an array that a pair names, put into both registers of another one or of the same
+  -- the address of the array cell that a pair selects, put into both registers of any pair
   blue_index : (scope : ℕ) (k : Known) (w : Noted) (c : Context) (p q begin many : ℕ) → p < 32 →
       RunFits cells (Run begin many) → k q ≡ true → IsGood o scope k w.pairs w.memory c →
       let a = run_form begin many (integer_form_of o (pair_node w q)) in
@@ -191,7 +191,7 @@ module _ (o : Object) (N : AreNodes o.nodes) (cells : ℕ)
       (typed_other c (green p).number (ty Green (ref int) a) (blue q).number
       (blue_is_not_green p q lt (G.small q known)) ∙ G.blue_pair q known)
 
-  -- a straight step
+  -- the instructions of a straight step lead to the next step
   pub straight_leads : (start : ℕ → ℕ) (u : Subst) (vars scope blocks : ℕ) (k : Known) (w : Noted) (c : Context)
       (i : Step3) → IsStraight i → StepFits cells blocks i → All (λ p. p < 32) (pairs_of i) → ReadsKnown vars k i →
       Starts (step_noted vars scope w i).nodes o.nodes → IsGood o scope k w.pairs w.memory c →

@@ -1,4 +1,4 @@
--- What is noted along all blocks: nodes that obey the rules, and substitutions that take the rows in turn.
+-- The notes of all blocks: the nodes obey the rules, and the substitutions cover the rows in order.
 use Rattle.std.proofs.Common.{◌≡◌, ℕ, zero, suc, ◌+◌, ◌<◌, ◌≤◌, Bool, true, false, List, [], ◌∷◌, ◌++◌, length, Some}
 use Rattle.std.proofs.Common.{refl, sym, ap, ◌∙◌, subst, arith, slice_get, take, map}
 use Rattle.std.specs.Prelude.{All, slice_index}
@@ -28,14 +28,14 @@ use Rattle.ft_compile.specs.Emitted.{variable_node, at_first}
 use Rattle.ft_compile.proofs.Lists.{Starts, starts_refl, starts_trans, starts_more, starts_length, get_starts}
 use Rattle.ft_compile.proofs.Named.{AreFine, IsNamed, IsLawful, step_lawful}
 
--- WHAT IS NOTED ONLY GROWS
+-- THE NOTES ONLY GROW
 
--- the nodes and the rows of one walk are a prefix of those of another
+-- the nodes and rows of the first notes are prefixes of those of the second
 pub record Grows (w v : Noted) : Type 0 where
   pub nodes : Starts w.nodes v.nodes
   pub rows : Starts w.rows v.rows
 
--- a walk grows to itself
+-- growth is reflexive
 pub grows_refl : (w : Noted) → Grows w w
 grows_refl w = record { nodes = starts_refl w.nodes; rows = starts_refl w.rows }
 
@@ -46,14 +46,14 @@ grows_trans u v w p q = record {
   rows = starts_trans u.rows v.rows w.rows p.rows q.rows;
 }
 
--- the nodes of an address are added at the end
+-- an address appends nodes
 address_grows : (scope begin many q : ℕ) (w : Noted) → Starts w.nodes (with_address_nodes scope begin many q w).nodes
 address_grows scope begin many q w =
     let w1 = with_node scope (shape.Word (cell_address begin)) w in
     let w2 = with_node scope (shape.Rem (pair_node w q) many) w1 in
     starts_more w.nodes w2.nodes _ (starts_more w.nodes w1.nodes _ (_, refl))
 
--- a step adds at the ends
+-- a step appends nodes and rows
 pub step_grows : (vars scope : ℕ) (w : Noted) (i : Step3) → Grows w (step_noted vars scope w i)
 step_grows vars scope w (Put p v) = record { nodes = (node scope (shape.Word v) ∷ [], refl); rows = starts_refl w.rows }
 step_grows vars scope w (Copy p q) = record {
@@ -81,22 +81,22 @@ step_grows vars scope w (Exit q spare to) = record { nodes = starts_refl w.nodes
 step_grows vars scope w (Go spare to) = record { nodes = starts_refl w.nodes; rows = (take vars w.pairs, refl) }
 step_grows vars scope w Stop = grows_refl w
 
--- a row adds at the ends
+-- a row appends nodes and rows
 pub row_grows : (vars scope : ℕ) (w : Noted) (is : List Step3) → Grows w (row_noted vars scope w is)
 row_grows vars scope w [] = grows_refl w
 row_grows vars scope w (i ∷ is) = grows_trans w (step_noted vars scope w i) _ (step_grows vars scope w i)
     (row_grows vars scope (step_noted vars scope w i) is)
 
--- one block
+-- the notes after one block
 abbrev pub block_noted : ℕ → ℕ → Noted → List Step3 → Noted
 block_noted vars b w x = row_noted vars (scope_of_block vars b) (begun w) x
 
--- a block adds at the ends
+-- a block appends nodes and rows
 pub block_grows : (vars b : ℕ) (w : Noted) (x : List Step3) → Grows w (block_noted vars b w x)
 block_grows vars b w x = let g = row_grows vars (scope_of_block vars b) (begun w) x in
     record { nodes = g.nodes; rows = g.rows }
 
--- blocks add at the ends
+-- blocks append nodes and rows
 pub blocks_grow : (vars b : ℕ) (w : Noted) (xs : Blocks) → Grows w (blocks_noted vars b w xs)
 blocks_grow vars b w [] = grows_refl w
 blocks_grow vars b w (x ∷ xs) = grows_trans w (block_noted vars b w x) _ (block_grows vars b w x)
@@ -104,18 +104,18 @@ blocks_grow vars b w (x ∷ xs) = grows_trans w (block_noted vars b w x) _ (bloc
 
 -- WELL FORMED BLOCKS, ONE AFTER ANOTHER
 
--- what holds of the steps of block b, of n blocks
+-- the steps of block b are well formed, in a flow of this many blocks
 pub record RowIsFine (vars cells blocks b : ℕ) (x : List Step3) : Type 0 where
   pub ended : IsBlock x
   pub well : RowIsWell vars cells blocks (known_first vars b) x
   pub pairs : All (λ i. All (λ p. p < 32) (pairs_of i)) x
 
--- it holds of these blocks, the first of which is block b
+-- these blocks are well formed, the first of which is block b
 abbrev pub RowsAreFine : ℕ → ℕ → ℕ → ℕ → Blocks → Type 0
 RowsAreFine vars cells blocks b [] = Unit {0}
 RowsAreFine vars cells blocks b (x ∷ xs) = RowIsFine vars cells blocks b x × RowsAreFine vars cells blocks (suc b) xs
 
--- it holds of blocks if each is well formed
+-- they are if each is
 rows_from : (vars cells blocks b : ℕ) (xs : Blocks) → ((j : ℕ) → j < length xs → IsBlock (block_of xs j)) →
     ((j : ℕ) → j < length xs → RowIsWell vars cells blocks (known_first vars (b + j)) (block_of xs j)) →
     PairsBelow 32 xs → RowsAreFine vars cells blocks b xs
@@ -133,7 +133,7 @@ rows_from vars cells blocks b (x ∷ xs) e w p =
           (w (suc j) (omega arith))) (λ k d h. p (suc k) d (omega arith)),
     )
 
--- it holds of well formed blocks
+-- the blocks of a well formed flow are
 pub well_rows : (vars cells : ℕ) (bs : Blocks) → IsWell vars cells bs → RowsAreFine vars cells (length bs) 0 bs
 well_rows vars cells bs h = rows_from vars cells (length bs) 0 bs h.ended (λ j lt. let z : j ≡ 0 + j = omega arith in
     subst (λ n. RowIsWell vars cells (length bs) (known_first vars n) (block_of bs j)) z (h.rows j lt)) h.pairs
@@ -141,7 +141,7 @@ well_rows vars cells bs h = rows_from vars cells (length bs) 0 bs h.ended (λ j 
 -- NODES, ROWS AND SUBSTITUTIONS
 
 module _ (F : List Node) (R : List ℕ) where
-  -- these substitutions take the rows from the first ones up to the last
+  -- these substitutions cover the rows in order, from row `first` up to row `last`
   abbrev pub Chain : ℕ → List Subst → ℕ → Type 0
   Chain first [] last = first ≡ last
   Chain first (s ∷ ss) last = IsSubst F (length R) first s × Chain s.past ss last
@@ -152,17 +152,17 @@ module _ (F : List Node) (R : List ℕ) where
   chain_push first [] last s e h = (subst (λ n. IsSubst F (length R) n s) (sym e) h, refl)
   chain_push first (t ∷ ss) last s e h = (e.0, chain_push t.past ss last s e.1 h)
 
-  -- a chain to the last row covers the rows
+  -- a chain up to the last row covers all rows
   pub chain_covers : (first : ℕ) (ss : List Subst) → Chain first ss (length R) → Cover F (length R) first ss
   chain_covers first [] e = e
   chain_covers first (s ∷ ss) e = (e.0, chain_covers s.past ss e.1)
 
-  -- the rows so far are nodes of integers, and the substitutions so far take them in turn
+  -- the rows so far are nodes of integers, and the substitutions so far cover them in order
   pub record IsCovered (w : Noted) : Type 0 where
     pub rows : All (IsNodeIn F 128 false) w.rows
     pub chain : Chain 0 w.substs (length w.rows)
 
-  -- a name within a scope is one within a wider scope
+  -- a node that may be named within a scope may be named within a wider scope
   widened : (ns : List Node) (scope : ℕ) (memory : Bool) (k : ℕ) → scope ≤ 128 → Starts ns F →
       MayName F (length ns) scope memory k → IsNodeIn F 128 memory k
   widened ns scope memory k le s h = record {
@@ -173,7 +173,7 @@ module _ (F : List Node) (R : List ℕ) where
     scope_within = omega (arith, h.scope_within);
   }
 
-  -- so they are after a jump, at which the variables are known
+  -- this still holds after a jump, at which the variables are known
   jump_covered : (vars scope spare : ℕ) (k : Known) (w : Noted) → vars ≤ 32 → scope ≤ 128 → Starts w.nodes F →
       Starts (with_jump vars w).rows R → IsNamed F scope k (length w.nodes) w.pairs w.memory →
       KeepsVariables vars k spare → IsCovered w → IsCovered (with_jump vars w)
@@ -198,7 +198,7 @@ module _ (F : List Node) (R : List ℕ) where
             }));
       }
 
-  -- so they are after each step
+  -- this still holds after each step
   step_covered : (vars scope : ℕ) (k : Known) (w : Noted) (i : Step3) → vars ≤ 32 → scope ≤ 128 → ReadsKnown vars k i →
       Starts w.nodes F → Starts (step_noted vars scope w i).rows R →
       IsNamed F scope k (length w.nodes) w.pairs w.memory →
@@ -219,12 +219,12 @@ module _ (F : List Node) (R : List ℕ) where
       jump_covered vars scope spare k w few le sn sr h reads c
   step_covered vars scope k w Stop few le reads sn sr h c = c
 
-  -- what holds of a walk between blocks
+  -- the invariant of the walk between blocks
   pub record IsSound (w : Noted) : Type 0 where
     pub fine : AreFine F w.nodes
     pub covered : IsCovered w
 
-  -- after the steps of a row
+  -- it holds after the steps of a row
   pub row_sound : (vars scope cells blocks : ℕ) (k : Known) (w : Noted) (is : List Step3) → vars ≤ 32 → scope ≤ 128 →
       cells ≤ 1024 → RowIsWell vars cells blocks k is → All (λ i. All (λ p. p < 32) (pairs_of i)) is →
       Starts (row_noted vars scope w is).nodes F → Starts (row_noted vars scope w is).rows R → IsLawful F scope k w →
@@ -243,7 +243,7 @@ module _ (F : List Node) (R : List ℕ) where
 
 -- BEGINNINGS
 
--- node 1 + q of the first ones is variable q
+-- node 1 + q is that of variable q
 pub variable_there : (vars q : ℕ) → q < vars → slice_get (at_first vars).nodes (suc q) ≡ Some (variable_node vars q)
 variable_there vars q lt =
     let e = slice_get-get_or (range_with_len 0 vars) q 0 (let l = length-range_with_len 0 vars in omega arith) in
@@ -255,7 +255,7 @@ variable_there vars q lt =
 pub first_pair : (q : ℕ) → q < 32 → slice_index first_pairs q ≡ suc q
 first_pair q lt = get_or-range_with_len 1 32 q 0 lt ∙ omega arith
 
--- each of the nodes of variables is one
+-- each of the variables' nodes is that of a variable
 variable_is : (vars a n k : ℕ) (x : Node) → slice_get (map (variable_node vars) (range_with_len a n)) k ≡ Some x →
     (i : ℕ) × (i < a + n) × (variable_node vars i ≡ x)
 variable_is vars a zero k x e = cc
@@ -270,7 +270,7 @@ module _ (F : List Node) where
   first_fine vars few (suc k) x e = let r = variable_is vars 0 vars k x e in
       subst (IsNode F (suc k)) r.2 (record { scope = omega arith; shape = omega (arith, r.1) })
 
-  -- the memory's node
+  -- the memory's node may be named
   memory_named : (vars scope n : ℕ) → 0 < n → Starts (at_first vars).nodes F → MayName F n scope true 0
   memory_named vars scope n lt s = record {
     lower = lt;
@@ -280,7 +280,7 @@ module _ (F : List Node) where
     scope_within = omega arith;
   }
 
-  -- where a block begins, what is known is named
+  -- the invariant within a block holds where the block begins
   pub begun_lawful : (vars b : ℕ) (w : Noted) → vars ≤ 32 → Starts (at_first vars).nodes w.nodes → Starts w.nodes F →
       AreFine F w.nodes → IsLawful F (scope_of_block vars b) (known_first vars b) (begun w)
   begun_lawful vars zero w few s t fine = record {
@@ -324,13 +324,13 @@ module _ (F : List Node) where
 
 -- ALL BLOCKS
 
--- the scope of a block is one of a node
+-- the scope of a block is a valid scope of a node
 pub scope_within : (vars b : ℕ) → vars ≤ 32 → scope_of_block vars b ≤ 128
 scope_within vars zero few = omega arith
 scope_within vars (suc b) few = omega arith
 
 module _ (F : List Node) (R : List ℕ) where
-  -- after blocks
+  -- the invariant between blocks holds after blocks
   blocks_sound : (vars cells blocks b : ℕ) (w : Noted) (xs : Blocks) → vars ≤ 32 → cells ≤ 1024 →
       RowsAreFine vars cells blocks b xs → Starts (at_first vars).nodes w.nodes →
       Starts (blocks_noted vars b w xs).nodes F → Starts (blocks_noted vars b w xs).rows R → IsSound F R w →
@@ -349,7 +349,7 @@ module _ (F : List Node) (R : List ℕ) where
       (begun_lawful F vars b w few s (starts_trans w.nodes v.nodes F wg.nodes hn) h.fine)
       (record { rows = h.covered.rows; chain = h.covered.chain }))
 
--- what is noted of well formed blocks is sound
+-- the notes of well formed blocks are sound
 pub noted_sound : (vars cells : ℕ) (bs : Blocks) → cells ≤ 1024 → vars ≤ 32 → IsWell vars cells bs →
     let v = blocks_noted vars 0 (at_first vars) bs in IsSound v.nodes v.rows v
 noted_sound vars cells bs small few h =

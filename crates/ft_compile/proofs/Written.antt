@@ -1,4 +1,4 @@
--- If an object stands for a program, outputs have the same lines by the object's cells as by the program's names.
+-- If an object stands for a program, outputs have the same lines by the object's cell names as by the program's.
 use Rattle.std.proofs.Common.{◌≡◌, ℕ, ◌+◌, ◌*◌, ◌-◌, ◌≤◌, List, [], ◌∷◌, None, refl, sym, ap, ◌∙◌, subst, slice_get}
 use Rattle.std.proofs.Common.{map}
 use Rattle.std.specs.Option.{unwrap_or}
@@ -18,7 +18,7 @@ use Rattle.ft_meaning.specs.Meaning.{State, Ended, Cut, outputs, meaning}
 use Rattle.ft_compile.specs.StandsFor.{StandsFor}
 use Rattle.ft_compile.specs.Laws.{object_lines, LinesBegin}
 
--- the line of an output
+-- the line of one output
 same_line : (o : Object) (names : List (List ℕ)) → map name_of o.cells ≡ names → (x : Output) → line_at o x
     ≡ line_of names x
 same_line o names e x =
@@ -37,7 +37,7 @@ pub same_lines : (p : Program) (o : Object) → StandsFor p o → (xs : List Out
     ≡ output_lines p.names xs
 same_lines p o h xs = lines_by_names o p.names h.names xs
 
--- lines are a prefix of lines if outputs are a prefix of outputs
+-- the lines of a prefix of outputs are a prefix of their lines
 lines_begin : (names : List (List ℕ)) (xs ys : List Output) → Begins xs ys →
     LinesBegin (output_lines names xs) (output_lines names ys)
 lines_begin names xs ys h = (
@@ -61,7 +61,7 @@ running_lines p o h n r =
     (sym (same_lines p o h (outputs_after o None [] n)))
     (lines_begin p.names (outputs_after o None [] n) (outputs (meaning p n)) (h.run.running n r))
 
--- if the meaning ends, the run does so with its lines
+-- if the meaning ends, the run ends with its lines
 pub ended_lines : (p : Program) (o : Object) → StandsFor p o → (n t : ℕ) (s : State) → meaning p t ≡ Ended s →
     16 * s.work + 320 ≤ n → (status_after o None [] n ≡ Done)
     × (object_lines o (outputs_after o None [] n) ≡ output_lines p.names s.out)

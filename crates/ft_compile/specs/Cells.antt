@@ -9,7 +9,7 @@ pub record IsCellName (n : List ℕ) : Type 0 where
   pub bytes : is_name n ≡ true
   pub short : length n ≤ 40
 
--- at most 1,024 different names, and as many words
+-- at most 1,024 cells, with different names and as many words
 pub record AreCells (names : List (List ℕ)) (inits : List ℕ) : Type 0 where
   pub lawful : All IsCellName names
   pub differ : AllPairs (λ x y. x ≢ y) names

@@ -1,4 +1,4 @@
--- The object of a flow: its blocks' instructions, with the nodes, code types and substitutions that let the rows apply.
+-- The object of a flow: its blocks' instructions, with the nodes, code types and substitutions by which they are typed.
 use Rattle.std.specs.Prelude.{◌≡◌, ℕ, ◌+◌, ◌≤◌, List, [], ◌∷◌, ◌++◌, map, length}
 use Rattle.std.specs.List.{range_with_len, zip}
 use Rattle.ft_isa.specs.declared.colour.Colour.TheVariants.{Green, Blue}
@@ -25,7 +25,7 @@ use Rattle.ft_compile.specs.Noted.{Noted, node, first_pairs, blocks_noted}
 abbrev pub variable_node : ℕ → ℕ → Node
 variable_node vars i = node vars (shape.Var i)
 
--- the notes before the first block: the memory variable, and the variables
+-- the notes before the first block: the memory variable and the integer variables
 abbrev pub at_first : ℕ → Noted
 at_first vars = record { nodes = node 0 shape.Memory ∷ map (variable_node vars) (range_with_len 0 vars); rows = []; substs = []; pairs = first_pairs; memory = 0 }
 
@@ -45,7 +45,7 @@ substs_left (instr.JmpB rd t) (u ∷ us) = us
 substs_left (instr.BzB rz rd t) (u ∷ us) = us
 substs_left i us = us
 
--- the instructions with these substitutions in turn
+-- the instructions, with these substitutions given to them in order
 abbrev pub placed : List Subst → List Instr → List Instr
 placed us [] = []
 placed us (i ∷ is) = with_subst i us ∷ placed (substs_left i us) is
@@ -65,7 +65,7 @@ entry_type = record { ints = 0; regs = []; queue = []; memory = 0 }
 abbrev pub variables_type : ℕ → CodeType
 variables_type vars = record { ints = vars; regs = map green_row (range_with_len 0 vars) ++ map blue_row (range_with_len 0 vars); queue = []; memory = 0 }
 
--- the blocks at these places: the first is of code type 0, and the others of code type 1
+-- the blocks that start at these places: the first has code type 0, the others code type 1
 abbrev pub block_from : ℕ → Block
 block_from s = record { start = s; code_type = 1 }
 
@@ -77,7 +77,7 @@ blocks_at (s ∷ ss) = record { start = s; code_type = 0 } ∷ map block_from ss
 abbrev pub cell_from : List ℕ × ℕ → Cell
 cell_from x = record { name = x.0; basic = int; init = x.1 }
 
--- the object of blocks, over cells with these names and initial words
+-- the object of these blocks, over cells with these names and initial words
 abbrev pub emitted : List (List ℕ) → List ℕ → ℕ → Blocks → Object
 emitted names inits vars bs = record {
   cells = map cell_from (zip names inits);
@@ -89,9 +89,9 @@ emitted names inits vars bs = record {
   entry = 0;
 }
 
--- the object is that of a flow of the program, over the program's cells and at most 32 variables: its blocks are well
--- formed, their run commits what the program means and ends when that does, and they become at most as many
--- instructions as the program weighs and name pairs below its need
+-- the object is that of a flow of the program, over the program's cells and at most 32 variables: the flow's blocks are
+-- well formed, their run commits what the program means and ends when that does, they become at most as many
+-- instructions as the program weighs, and all their pairs are below its need
 pub record IsEmitted (p : Program) (o : Object) : Type 0 where
   pub flow : Blocks
   pub few : p.vars ≤ 32

@@ -23,11 +23,11 @@ use Rattle.ft_compile.specs.Emitted.{emitted, IsEmitted}
 use Rattle.ft_exchange.specs.Scheduled.{ComesFrom}
 use Rattle.ft_modules.specs.Linkable.{IsModule}
 
--- an object that carries the blocks to which a program was lowered, with its initial words, runs as the program means
+-- an object that carries the blocks to which a program is lowered, with its initial words, runs as the program means
 abbrev pub CarriedBlocksRunAsMeant : Type 0
 CarriedBlocksRunAsMeant = (p : Program) (vars cells : ℕ) (bs : Blocks) (o : Object) → Lowers p bs → RunsAs vars cells bs → Carries o cells bs → words_of o ≡ p.inits → RunsAsMeant p o
 
--- an object carries these blocks over cells of type `int` with these names and initial words, and is spellable and
+-- an object that carries these blocks over cells of type `int` with these names and initial words, and is spellable and
 -- accepted
 pub record IsEmission (names : List (List ℕ)) (inits : List ℕ) (bs : Blocks) (o : Object) : Type 0 where
   pub names_are : map name_of o.cells ≡ names
@@ -38,7 +38,7 @@ pub record IsEmission (names : List (List ℕ)) (inits : List ℕ) (bs : Blocks)
   pub carries : Carries o (length inits) bs
   pub instrs : length o.instrs ≡ blocks_size bs
 
--- the object made from well formed blocks over at most 32 variables is such an object
+-- the object of well formed blocks over at most 32 variables is such an object
 abbrev pub EmittedObjectsAreAccepted : Type 0
 EmittedObjectsAreAccepted = (names : List (List ℕ)) (inits : List ℕ) (vars : ℕ) (bs : Blocks) → AreCells names inits → vars ≤ 32 → IsWell vars (length inits) bs → IsEmission names inits bs (emitted names inits vars bs)
 
@@ -46,7 +46,7 @@ EmittedObjectsAreAccepted = (names : List (List ℕ)) (inits : List ℕ) (vars :
 abbrev pub ProgramsHaveCells : Type 0
 ProgramsHaveCells = (text : List ℕ) (p : Program) → IsProgramOf text p → AreCells p.names p.inits
 
--- each program of a text has an object that stands for it, which is that of a flow of the program
+-- each program of a text has an object that stands for it and is the object of a flow of the program
 abbrev pub ProgramsHaveObjects : Type 0
 ProgramsHaveObjects = (text : List ℕ) (p : Program) → IsProgramOf text p → (o : Object) × (StandsFor p o × IsEmitted p o)
 
@@ -58,15 +58,15 @@ CompiledObjectsAreModules = (text : List ℕ) (p : Program) (o : Object) → IsP
 abbrev pub SchedulesOfCompiledObjectsAreModules : Type 0
 SchedulesOfCompiledObjectsAreModules = (text : List ℕ) (p : Program) (o s : Object) → IsProgramOf text p → IsEmitted p o → ComesFrom o s → IsModule s.cells s
 
--- the lines of outputs by the names of an object's cells, one for each
+-- the lines of these outputs, one for each, by the names of an object's cells
 abbrev pub object_lines : Object → List Output → List (List ℕ)
 object_lines o xs = map (line_at o) xs
 
--- one list of lines is a prefix of the other
+-- the first list of lines is a prefix of the second
 abbrev pub LinesBegin : List (List ℕ) → List (List ℕ) → Type 0
 LinesBegin front all = (rest : List (List ℕ)) × (front ++ rest ≡ all)
 
--- if an object stands for a program, outputs have the same lines whether named by the object's cells or by the program
+-- if an object stands for a program, outputs have the same lines by the object's cell names as by the program's
 abbrev pub LinesAreByTheProgramsNames : Type 0
 LinesAreByTheProgramsNames = (p : Program) (o : Object) → StandsFor p o → (xs : List Output) → object_lines o xs ≡ output_lines p.names xs
 

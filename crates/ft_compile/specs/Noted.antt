@@ -1,4 +1,4 @@
--- What is noted along the steps of a flow: the nodes that mirror its instructions, and the substitutions of its jumps.
+-- The notes along the steps of a flow: the nodes that mirror its instructions, and the substitutions of its jumps.
 use Rattle.std.specs.Prelude.{ℕ, zero, suc, ◌+◌, List, [], ◌∷◌, ◌++◌, length, take, slice_index, slice_set}
 use Rattle.std.specs.List.{range_with_len}
 use Rattle.ft_isa.specs.Words.{cell_address}
@@ -11,8 +11,8 @@ use Rattle.ft_lower.specs.declared.step3.Step3.{Step3}
 use Rattle.ft_lower.specs.declared.step3.Step3.TheVariants.{Put, Copy, Op, Load, Store, LoadAt, StoreAt, Exit, Go, Stop}
 use Rattle.ft_lower.specs.Flow.{Blocks}
 
--- the notes along the steps: the nodes, substitution rows and substitutions so far, the node of each pair's integer,
--- and the node of the memory
+-- the notes so far: the nodes, substitution rows and substitutions, the node of each pair's integer, and the node of
+-- the memory
 pub record Noted : Type 0 where
   pub nodes : List Node
   pub rows : List ℕ
@@ -32,11 +32,11 @@ pair_node w q = slice_index w.pairs q
 abbrev pub with_node : ℕ → Shape → Noted → Noted
 with_node scope x w = record w { nodes = w.nodes ++ node scope x ∷ [] }
 
--- the notes with one more node, which is a pair's integer
+-- the notes with one more node, which becomes a pair's integer
 abbrev pub with_pair_node : ℕ → ℕ → Shape → Noted → Noted
 with_pair_node scope p x w = record w { nodes = w.nodes ++ node scope x ∷ []; pairs = slice_set w.pairs p (length w.nodes) }
 
--- the notes with one more node, which is the memory
+-- the notes with one more node, which becomes the memory
 abbrev pub with_memory_node : ℕ → Shape → Noted → Noted
 with_memory_node scope x w = record w { nodes = w.nodes ++ node scope x ∷ []; memory = length w.nodes }
 
@@ -46,7 +46,7 @@ with_address_nodes scope start many q w =
     with_node scope (shape.Op Add (length w.nodes) (length w.nodes + 1))
     (with_node scope (shape.Rem (pair_node w q) many) (with_node scope (shape.Word (cell_address start)) w))
 
--- the substitution of a jump: the variables' integers as they are, and the memory
+-- the substitution of a jump: the current integers of the variables, and the memory
 abbrev pub jump_subst : ℕ → Noted → Subst
 jump_subst vars w = record { first = length w.rows; past = length w.rows + vars; memory = w.memory }
 
@@ -80,7 +80,7 @@ first_pairs = range_with_len 1 32
 abbrev pub begun : Noted → Noted
 begun w = record w { pairs = first_pairs; memory = 0 }
 
--- the scope of block b: the entry has no variable
+-- the scope of block b: the entry has no variables
 abbrev pub scope_of_block : ℕ → ℕ → ℕ
 scope_of_block vars zero = 0
 scope_of_block vars (suc b) = vars

@@ -8,7 +8,7 @@ use ft_isa::{Colour, INT};
 use ft_types::{CodeType, RegType, Table};
 use std::alloc::{AllocError, Global};
 
-/// Adds the rows of the variables in green.
+/// Adds a row for each variable, in green.
 fn put_green(regs: &mut Vec<RegType>, vars: u8) -> Result<(), AllocError>
     requires { vars ≤ 32 }
     ensures { OnOk result (regs.new.items ≡ regs.old.items ++ map green_row (range_with_len 0 vars)) }
@@ -24,7 +24,7 @@ fn put_green(regs: &mut Vec<RegType>, vars: u8) -> Result<(), AllocError>
     Ok(())
 }
 
-/// Adds the rows of the variables in blue.
+/// Adds a row for each variable, in blue.
 fn put_blue(regs: &mut Vec<RegType>, vars: u8) -> Result<(), AllocError>
     requires { vars ≤ 32 }
     ensures { OnOk result (regs.new.items ≡ regs.old.items ++ map blue_row (range_with_len 0 vars)) }

@@ -1,4 +1,4 @@
-//! From a text to its object.
+//! Compiles a text to an object.
 ghost use Rattle.std.specs.Prelude.{◌≡◌, ◌≢◌, IfOk, IfErr};
 ghost use Rattle.ft_syntax.specs.declared.source_error.SourceError.TheVariants as errors;
 ghost use Rattle.ft_scope.specs.Outcome.{IsProgramOf, IsRefusalOf};
@@ -31,16 +31,17 @@ fn compile_program(alloc: Global, prog: &Prog<'_>) -> Result<Object, NoMemory>
     Ok(object)
 }
 
-/// Compiles a source: the object stands for the source's program. It has the program's cells, of type `int`, with their
-/// names and initial words; it is spellable and accepted, and has at most as many instructions as the program weighs.
-/// Without a fault its run is never detected, its outputs are a prefix of those of the meaning, and if the meaning
-/// ends, it ends with them. It is the object of a well formed flow of this program: one whose run commits what the
-/// program means and ends when that does, with no more instructions than the program weighs and no pair at or above its
-/// need. Code type 0 is the entry's, and code type 1, with a row for each variable in both colours, that of all other
-/// blocks. And it is a module: the linker refuses it neither for its cells and rows nor for its code addresses.
+/// Compiles a source to an object that stands for its program. The object has the program's cells, of type `int`, with
+/// their names and initial words; it is spellable and accepted, and has at most as many instructions as the program
+/// weighs. Without a fault its run is never detected, and its outputs are a prefix of those of the meaning; if the
+/// meaning ends, the run ends with the same outputs. It is the object of a well formed flow of this program: one whose
+/// run commits what the program means and ends when that does, with no more instructions than the program weighs and no
+/// pair at or above its need. The entry has code type 0; all other blocks have code type 1, with a row for each
+/// variable in both colours. The object is also a module: the linker refuses neither its cells and rows nor its code
+/// addresses.
 ///
-/// A text that is not a program is refused with its first refusal, as `parse` and `resolve` say. The error `NoMemory`,
-/// out of memory, may come in place of any result.
+/// A text that is not a program is refused with its first refusal, as `parse` and `resolve` say. If memory runs out,
+/// the error `NoMemory` is returned instead of any other result.
 pub fn compile(alloc: Global, text: &[u8]) -> Result<Object, SourceError>
     ensures ok { IfOk result (λ o. (p : Program) × IsProgramOf text.now p × StandsFor p o) }
     ensures emitted { IfOk result (λ o. (p : Program) × IsProgramOf text.now p × IsEmitted p o) }

@@ -1,4 +1,4 @@
-//! The object of a flow.
+//! Emits the object of a flow.
 ghost use Rattle.std.specs.Prelude.{◌≡◌, ◌≤◌, length, IfOk};
 ghost use Rattle.ft_scope.specs.ProgramOf.{program_of};
 ghost use Rattle.ft_lower.specs.Flow.{blocks_of};
@@ -18,7 +18,7 @@ use ft_scope::Prog;
 use ft_types::{Object, Table};
 use std::alloc::Global;
 
-/// The object of a program's flow and its doubled code.
+/// The object of a program, from its flow and the doubled code of the flow.
 pub fn emit(alloc: Global, prog: &Prog<'_>, flow: &Flow, code: Doubled) -> Result<Object, NoMemory>
     requires names { length (program_of prog.now).names ≡ length prog.now.inits.items }
     requires vars { flow.now.vars ≤ 32 }

@@ -1,20 +1,20 @@
 //! Laws of the definitions, each the contract of a function that does nothing.
 ghost use Rattle.ft_compile.specs.Laws.{CarriedBlocksRunAsMeant, CompiledObjectsAreModules, CutMeaningsBeginTheRun, DoneRunsWriteTheMeaning, EmittedObjectsAreAccepted, EndedMeaningsAreWritten, LinesAreByTheProgramsNames, ProgramsHaveCells, ProgramsHaveObjects, RunningRunsBeginTheMeaning, SchedulesOfCompiledObjectsAreModules};
 
-/// An object that carries the blocks to which a program was lowered, with the program's initial words,
-/// runs as the program means.
+/// An object that carries the blocks to which a program is lowered, with the program's initial words, runs as the
+/// program means.
 pub fn carried_blocks_run_as_meant()
     ensures { CarriedBlocksRunAsMeant }
 {}
 
-/// The object of well formed blocks, over at most 1,024 cells with valid names, carries the blocks, and is spellable
+/// The object of well formed blocks, over at most 1,024 cells with valid names, carries these blocks, and is spellable
 /// and accepted.
 pub fn emitted_objects_are_accepted()
     ensures { EmittedObjectsAreAccepted }
 {}
 
 /// The cells of a text's program have different names of 1 to 38 bytes that are valid in objects, and there are at most
-/// 1,024.
+/// 1,024 cells.
 pub fn programs_have_cells()
     ensures { ProgramsHaveCells }
 {}
@@ -24,19 +24,19 @@ pub fn programs_have_objects()
     ensures { ProgramsHaveObjects }
 {}
 
-/// The object that a text is compiled to is a module that the linker accepts: it is spellable and accepted, its cells
-/// and rows have the base `int`, and the walk that traces code addresses fails in none of its blocks. So is its
-/// schedule.
+/// The object to which a text is compiled is a module that the linker accepts: it is spellable and accepted, its cells
+/// and rows have the base `int`, and the walk that traces code addresses fails in none of its blocks. The same holds
+/// for its schedule.
 pub fn compiled_objects_are_modules()
     ensures compiled { CompiledObjectsAreModules }
     ensures scheduled { SchedulesOfCompiledObjectsAreModules }
 {}
 
-/// If an object stands for a program, outputs have the same lines whether named by the object's cells, as for a run,
-/// or by the program, as for a meaning. So the run and the meaning write the same if both end: a run that is done
-/// after n steps has the lines of the meaning with n turns, and a run of at least 16 times the work plus 320 steps is
-/// done, with the lines of the meaning. If one of them is cut short, its lines are a prefix of the other's: the lines
-/// of a run that is running after n steps are a prefix of those of the meaning with n turns, and the lines of a
+/// If an object stands for a program, outputs have the same lines whether their cells are named by the object, as for a
+/// run, or by the program, as for a meaning. So the run and the meaning write the same lines if both end: a run that is
+/// done after n steps has the lines of the meaning with n turns, and a run of at least 16 times the work plus 320 steps
+/// is done, with the lines of the meaning. If one of them is cut short, its lines are a prefix of the other's: the
+/// lines of a run that is running after n steps are a prefix of those of the meaning with n turns, and the lines of a
 /// meaning that is cut are a prefix of those of a run of at least 16 times its work plus 320 steps.
 pub fn runs_and_meanings_write_the_same_lines()
     ensures lines { LinesAreByTheProgramsNames }

@@ -1,4 +1,4 @@
-//! What is noted along the steps of a flow.
+//! The notes that a walk along the steps of a flow makes: the nodes and substitutions of its object.
 ghost use Rattle.std.specs.Prelude.{◌≡◌, ◌≤◌, ◌<◌, ◌+◌, ◌*◌, length, IfOk, OnOk, [], map};
 ghost use Rattle.std.specs.List.{All};
 ghost use Rattle.ft_lower.specs.Size.{pairs_of, size};
@@ -10,17 +10,16 @@ use ft_isa::Subst;
 use ft_static::{Node, Shape};
 use std::alloc::{AllocError, Global};
 
-/// How many pairs there are.
+/// The number of pairs.
 const PAIRS: usize = 32;
 
-/// The nodes of the pairs at the start of a block: variable i has the node 1 + i.
+/// The nodes of the pairs at the start of a block: variable i has node 1 + i.
 const FIRST_PAIRS: [u32; PAIRS] = [
     1, 2, 3, 4, 5, 6, 7, 8, 9, 10, 11, 12, 13, 14, 15, 16, 17, 18, 19, 20, 21, 22, 23, 24, 25, 26,
     27, 28, 29, 30, 31, 32,
 ];
 
-/// The nodes, substitution rows and substitutions so far, the node of each pair's integer, and the node
-/// of the memory.
+/// The nodes, substitution rows and substitutions so far, the node of each pair's integer, and the node of the memory.
 #[derive(Drop)]
 pub struct Notes {
     pub nodes: Vec<Node>,
@@ -31,8 +30,8 @@ pub struct Notes {
 }
 
 impl Notes {
-    /// The memory variable, and this many variables. There is room for what is noted along this many instructions: no
-    /// step has more nodes than instructions, and a jump has four.
+    /// Notes with only the memory variable and this many integer variables. There is room for the notes of this many
+    /// instructions: no step has more nodes than instructions, and a jump has four instructions.
     pub fn new(alloc: Global, vars: u8, instrs: usize) -> Result<Notes, AllocError>
         ensures { IfOk result (λ n. noted_of n ≡ at_first vars) }
     {
@@ -59,7 +58,7 @@ impl Notes {
         })
     }
 
-    /// A block begins.
+    /// Begins a block.
     pub fn begin(&mut self)
         ensures { noted_of self.new ≡ begun (noted_of self.old) }
     {
@@ -78,7 +77,7 @@ impl Notes {
         Ok(number)
     }
 
-    /// Adds a node, which is pair `p`'s integer.
+    /// Adds a node, which becomes pair `p`'s integer.
     pub fn set_pair(&mut self, scope: u8, p: u8, shape: Shape) -> Result<(), AllocError>
         requires pair { p < 32 }
         requires room { length self.old.nodes.items < 1048576 }
@@ -89,7 +88,7 @@ impl Notes {
         Ok(())
     }
 
-    /// Adds a node, which is the memory.
+    /// Adds a node, which becomes the memory.
     pub fn set_memory(&mut self, scope: u8, shape: Shape) -> Result<(), AllocError>
         requires { length self.old.nodes.items < 1048576 }
         ensures { OnOk result (noted_of self.new ≡ with_memory_node scope shape (noted_of self.old)) }
@@ -99,7 +98,7 @@ impl Notes {
         Ok(())
     }
 
-    /// Adds a jump's substitution: the variables' integers as they are, and the memory.
+    /// Adds a jump's substitution: the current integers of the variables, and the memory.
     pub fn jump(&mut self, vars: u8) -> Result<(), AllocError>
         requires vars { vars ≤ 32 }
         requires room { length self.old.rows.items + 32 ≤ 1048576 }

@@ -1,4 +1,4 @@
-//! Substitutions put in their places, and blocks at theirs.
+//! Places substitutions in their instructions, and lists the blocks.
 ghost use Rattle.std.specs.Prelude.{◌≡◌, IfOk};
 ghost use Rattle.ft_compile.specs.Emitted.{blocks_at, placed, substs_left, with_subst};
 
@@ -22,7 +22,7 @@ fn place_next<'a>(instr: &mut Instr, left: &'a [Subst]) -> &'a [Subst]
     &left[1..]
 }
 
-/// Gives the instructions these substitutions in turn.
+/// Gives these substitutions to the instructions, in order.
 pub fn place(instrs: &mut [Instr], substs: &[Subst])
     ensures { instrs.new ≡ placed substs.now instrs.old }
 {
@@ -32,7 +32,7 @@ pub fn place(instrs: &mut [Instr], substs: &[Subst])
     }
 }
 
-/// The blocks at these places: the first is of code type 0, and the others of code type 1.
+/// The blocks that start at these places: the first has code type 0, the others code type 1.
 pub fn blocks_from(alloc: Global, starts: &[u32]) -> Result<Vec<Block>, AllocError>
     ensures { IfOk result (λ v. v.items ≡ blocks_at starts.now) }
 {

@@ -1,4 +1,4 @@
-//! The walk along the steps of a flow.
+//! Walks along the steps of a flow and notes the nodes and substitutions.
 ghost use Rattle.std.specs.Prelude.{◌≡◌, ◌≤◌, ◌<◌, ◌+◌, ℕ, length, IfOk, OnOk};
 ghost use Rattle.std.specs.List.{All};
 ghost use Rattle.ft_lower.specs.Flow.{blocks_of};
@@ -34,7 +34,7 @@ fn note_copy(notes: &mut Notes, scope: u8, p: u8, q: u8) -> Result<(), AllocErro
     Ok(())
 }
 
-/// Notes an operation on the pairs `q` and `s`, for pair `p`.
+/// Notes an operation on the pairs `q` and `s`, with its result in pair `p`.
 fn note_operation(
     notes: &mut Notes,
     scope: u8,
@@ -55,7 +55,7 @@ fn note_operation(
     Ok(())
 }
 
-/// Notes a load of a cell to pair `p`.
+/// Notes a load of a cell into pair `p`.
 fn note_load(notes: &mut Notes, scope: u8, p: u8, cell: u32) -> Result<(), AllocError>
     requires p { p < 32 }
     requires room { length notes.old.nodes.items + 2 ≤ 1048576 }
@@ -80,7 +80,7 @@ fn note_store(notes: &mut Notes, scope: u8, cell: u32, q: u8) -> Result<(), Allo
     Ok(())
 }
 
-/// Notes the address of the array cell that the word of pair `q` selects, and returns its node.
+/// Notes the address of the array cell that the word of pair `q` selects. Returns the node of the address.
 fn note_address(
     notes: &mut Notes,
     scope: u8,
@@ -113,7 +113,7 @@ fn note_address(
     Ok(address)
 }
 
-/// Notes a load of the array cell that pair `q` selects, to pair `p`.
+/// Notes a load, into pair `p`, of the array cell that pair `q` selects.
 fn note_load_at(
     notes: &mut Notes,
     scope: u8,
@@ -133,7 +133,7 @@ fn note_load_at(
     Ok(())
 }
 
-/// Notes a store of pair `q` to the array cell that pair `i` selects.
+/// Notes a store of pair `q` into the array cell that pair `i` selects.
 fn note_store_at(
     notes: &mut Notes,
     scope: u8,
@@ -154,7 +154,7 @@ fn note_store_at(
     Ok(())
 }
 
-/// Notes a step of a block of this scope, in a flow with this many variables.
+/// Notes a step of a block with this scope, in a flow with this many variables.
 fn note_step(notes: &mut Notes, vars: u8, scope: u8, step: Step3) -> Result<(), AllocError>
     requires vars { vars ≤ 32 }
     requires pairs { All (λ p. p < 32) (pairs_of step) }
@@ -186,7 +186,7 @@ fn note_step(notes: &mut Notes, vars: u8, scope: u8, step: Step3) -> Result<(), 
     Ok(())
 }
 
-/// Notes the steps of a block of this scope.
+/// Notes the steps of a block with this scope.
 fn note_row(notes: &mut Notes, vars: u8, scope: u8, steps: &[Step3]) -> Result<(), AllocError>
     requires vars { vars ≤ 32 }
     requires pairs { All (λ i. All (λ p. p < 32) (pairs_of i)) steps.now }
@@ -199,8 +199,8 @@ fn note_row(notes: &mut Notes, vars: u8, scope: u8, steps: &[Step3]) -> Result<(
     Ok(())
 }
 
-/// Notes all blocks of a flow, which become this many instructions: the entry has no variable, and the others have
-/// those of the flow.
+/// Notes all blocks of a flow, whose code has this many instructions. The entry has no variables; the others have those
+/// of the flow.
 pub fn note_flow(alloc: Global, flow: &Flow, instrs: usize) -> Result<Notes, AllocError>
     requires vars { flow.now.vars ≤ 32 }
     requires pairs { PairsBelow 32 (blocks_of flow.now) }

@@ -16,7 +16,7 @@ use Rattle.ft_contexts.specs.Contexts.{AreOwn, HoldsVariables}
 use Rattle.ft_contexts.proofs.Kept.{memory_stays, updates_found}
 use Rattle.ft_contexts.proofs.Spelled.{type_there}
 
--- the steps of one node's tree
+-- the bound covers the tree of one node
 pub tree_steps : (o : Object) (n u s t : ℕ) → n < length o.nodes → t ≤ s + (n + 1) * (1 + u + n) → t ≤ s + tree_cost o u
 unfolding tree_cost
 tree_steps o n u s t l h =
@@ -25,26 +25,26 @@ tree_steps o n u s t l h =
     mul-le-mul_left (length o.nodes) (omega arith) in
     omega (arith, h, a, b)
 
--- more updates cost more
+-- the bound rises with the number of updates
 pub cost_rises : (o : Object) (u v : ℕ) → u ≤ v → tree_cost o u ≤ tree_cost o v
 unfolding tree_cost
 cost_rises o u v l = mul-le-mul_left (length o.nodes) (omega arith)
 
--- n trees and one more
+-- the bound for one more tree
 pub one_tree : (s t r i j c : ℕ) → s ≤ i + j * c → t ≤ s + c → r ≡ j + 1 → t ≤ i + r * c
 one_tree s t r i j c h k e = rw e (let m : (j + 1) * c ≡ j * c + c = omega arith in rw m (omega (arith, h, k)))
 
--- no more trees than rows
+-- the bound for at most r trees
 pub some_trees : (s i j r c : ℕ) → s ≤ i + j * c → j ≤ r → s ≤ i + r * c
 some_trees s i j r c h l = let m : j * c ≤ r * c = mul-le-mul_right c l in omega (arith, h, m)
 
--- rows of registers that increase are at most 64
+-- there are at most 64 register rows whose numbers increase
 rows_few : (least : ℕ) (rs : List RegType) → AreRising least rs → least ≤ 64 → length rs + least ≤ 64
 rows_few least [] h l = omega arith
 rows_few least (r ∷ rs) h l = let b = r.reg.in_range in let k = rows_few (suc r.reg.number) rs h.1 (omega arith) in
     let m = h.0 in omega arith
 
--- the register rows of a code type are at most 64
+-- a code type has at most 64 register rows
 pub few_reg_rows : (o : Object) (t : ℕ) → IsSpellable o → t < length o.types → length (reg_rows o t) ≤ 64
 few_reg_rows o t h l =
     let x = type_there o t l in
@@ -52,7 +52,7 @@ few_reg_rows o t h l =
     let rows : reg_rows o t ≡ x.0.regs = ap (λ (y : Option CodeType). unwrap_or (option_map regs_of y) []) x.1 in
     rw rows (let w = rows_few 0 x.0.regs k.rising (omega arith) in omega (arith, w))
 
--- the queue rows of a code type are at most 8
+-- a code type has at most 8 queue rows
 pub few_queue_rows : (o : Object) (t : ℕ) → IsSpellable o → t < length o.types → length (queue_rows o t) ≤ 8
 few_queue_rows o t h l =
     let x = type_there o t l in
@@ -60,17 +60,17 @@ few_queue_rows o t h l =
     let rows : queue_rows o t ≡ x.0.queue = ap (λ (y : Option CodeType). unwrap_or (option_map queue_of y) []) x.1 in
     rw rows k.queue_length
 
--- the steps of a tree with the variables as they are
+-- the bound for a tree with the variables unchanged
 pub own_steps : (o : Object) (fs : List Normal) (n : ℕ) (v : Variables) (s t : ℕ) → AreOwn fs n v →
     t ≤ s + tree_cost o (updates (updates_held fs v.memory)) → t ≤ s + tree_cost o 0
 own_steps o fs n v s t own h = let z = updates_found fs v.memory unchanged own.memory in rw z at h
 
--- the steps of a tree after a substitution for the variables, in a longer list of forms
+-- the bound for a tree under a substitution, after the list of forms has grown
 pub put_steps : (o : Object) (fs gs : List Normal) (v : Variables) (s t : ℕ) → Keeps fs gs → HoldsVariables fs v →
     t ≤ s + tree_cost o (updates (updates_held gs v.memory)) → t ≤ s + tree_cost o (updates (updates_held fs v.memory))
 put_steps o fs gs v s t k w h = let z = memory_stays fs gs v.memory k w.memory in rw z at h
 
--- two trees
+-- the bound for two more trees
 pub two_trees : (s t r i j c : ℕ) → s ≤ i + j * (2 * c) → t ≤ s + c → r ≤ t + c → r ≤ i + (j + 1) * (2 * c)
 two_trees s t r i j c h k l = let m : (j + 1) * (2 * c) ≡ j * (2 * c) + 2 * c = omega arith in
     rw m (omega (arith, h, k, l))

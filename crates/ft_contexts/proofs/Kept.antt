@@ -1,4 +1,4 @@
--- What is held stays, and says the same, if the list of forms grows.
+-- What is held stays held, with the same meaning, when the list of forms grows.
 use Rattle.std.proofs.Common.{◌≡◌, ℕ, suc, List, [], ◌∷◌, map, Option, None, Some, refl, ap}
 use Rattle.std.specs.Option.{unwrap_or}
 use Rattle.ft_static.specs.Form.{Form as Normal, integer_form, memory_form, polynomial_of, updates_of, Polynomial}
@@ -19,34 +19,34 @@ use Rattle.ft_contexts.specs.Contexts.{typed_in, registers_in, d_in, pair_in, co
 use Rattle.ft_contexts.specs.Contexts.{HoldsVariables, AreOwn, HoldsOwn, RemembersUnder, HoldsD, HoldsRegisters}
 use Rattle.ft_contexts.specs.Contexts.{HoldsQueue, HoldsForms}
 
--- the polynomial of a form that is held as this one
+-- a form that is held as p has the polynomial p
 pub polynomial_found : (fs : List Normal) (f : Form) (p : Polynomial) → held fs f ≡ Some (integer_form p) →
     polynomial fs f ≡ p
 polynomial_found fs f p h = ap (λ (x : Option Normal). polynomial_of (unwrap_or x (integer_form nought))) h
 
--- the updates of a form that is held as these
+-- a form that is held as u has the updates u
 pub updates_found : (fs : List Normal) (f : Form) (u : Updates) → held fs f ≡ Some (memory_form u) → updates_held fs f
     ≡ u
 updates_found fs f u h = ap (λ (x : Option Normal). updates_of (unwrap_or x (integer_form nought))) h
 
--- an integer's form stays the same polynomial
+-- an integer's form keeps its polynomial
 pub integer_stays : (fs gs : List Normal) (f : Form) → Keeps fs gs → IsInteger fs f → polynomial gs f ≡ polynomial fs f
 integer_stays fs gs f k h = k.polynomials_stay f h
 
--- an integer's form stays an integer's
+-- an integer's form remains one
 pub integer_kept : (fs gs : List Normal) (f : Form) → Keeps fs gs → IsInteger fs f → IsInteger gs f
 integer_kept fs gs f k h = k.integers_stay f h
 
--- a memory's form stays the same updates
+-- a memory's form keeps its updates
 pub memory_stays : (fs gs : List Normal) (f : Form) → Keeps fs gs → IsMemory fs f → updates_held gs f
     ≡ updates_held fs f
 memory_stays fs gs f k h = k.updates_stay f h
 
--- a memory's form stays a memory's
+-- a memory's form remains one
 pub memory_kept : (fs gs : List Normal) (f : Form) → Keeps fs gs → IsMemory fs f → IsMemory gs f
 memory_kept fs gs f k h = k.memories_stay f h
 
--- a list keeps itself
+-- a list keeps its own forms
 pub keeps_itself : (fs : List Normal) → Keeps fs fs
 keeps_itself fs = record {
   forms_stay = λ f x h. h;
@@ -58,19 +58,19 @@ keeps_itself fs = record {
 
 -- VARIABLES
 
--- each form in an empty list is an integer's
+-- an empty list has only forms of integers
 pub none_held : (fs : List Normal) (xs : List Form) → xs ≡ [] → AreIntegers fs xs
 none_held fs [] e i f h = cc
 none_held fs (x ∷ xs) e i f h = cc
 
--- the forms of variables are held
+-- the forms of variables remain held
 pub variables_kept : (fs gs : List Normal) (v : Variables) → Keeps fs gs → HoldsVariables fs v → HoldsVariables gs v
 variables_kept fs gs v k h = record {
   integers = λ i f e. integer_kept fs gs f k (h.integers i f e);
   memory = memory_kept fs gs v.memory k h.memory;
 }
 
--- what is substituted for variables stays
+-- what is substituted for variables is unchanged
 pub replacement_stays : (fs gs : List Normal) (v : Variables) → Keeps fs gs → HoldsVariables fs v → replacement_in gs v
     ≡ replacement_in fs v
 replacement_stays fs gs v k h =
@@ -78,7 +78,7 @@ replacement_stays fs gs v k h =
     let u = memory_stays fs gs v.memory k h.memory in
     λ i. record { integers = p i; memory = u i }
 
--- the forms of the variables themselves stay those
+-- `AreOwn` is preserved
 pub own_kept : (fs gs : List Normal) (n : ℕ) (v : Variables) → Keeps fs gs → AreOwn fs n v → AreOwn gs n v
 own_kept fs gs n v k h = record {
   count = h.count;
@@ -93,12 +93,12 @@ own_held fs n v h = record {
   memory = memory_from fs v.memory _ h.memory;
 }
 
--- what is remembered under variables stays right
+-- what is remembered under a substitution remains right
 pub under_kept : (o : Object) (fs gs : List Normal) (v : Variables) (m : Memo) → Keeps fs gs → HoldsVariables fs v →
     RemembersUnder o fs v m → RemembersUnder o gs v m
 under_kept o fs gs v m k h r = remembers_kept o.nodes fs gs v.integers v.memory m k h.integers h.memory r
 
--- what is held of the variables themselves stays right
+-- `HoldsOwn` is preserved
 pub owned_kept : (o : Object) (fs gs : List Normal) (v : OwnVariables) → Keeps fs gs → HoldsOwn o fs v → HoldsOwn o gs v
 owned_kept o fs gs v k h = record {
   own = own_kept fs gs 128 v.variables k h.own;
@@ -107,18 +107,18 @@ owned_kept o fs gs v k h = record {
 
 -- CONTEXTS
 
--- what is known of a register stays
+-- what is known of a register is unchanged
 pub typed_stays : (fs gs : List Normal) (x : RegForm) → Keeps fs gs → IsInteger fs x.form → typed_in gs x
     ≡ typed_in fs x
 typed_stays fs gs x k h = let e = integer_stays fs gs x.form k h in
     λ i. record { colour = x.colour; basic = x.basic; form = e i }
 
--- the forms of registers are held
+-- the forms of registers remain held
 pub registers_kept : (fs gs : List Normal) (xs : List (Option RegForm)) → Keeps fs gs → HoldsRegisters fs xs →
     HoldsRegisters gs xs
 registers_kept fs gs xs k h r x e = integer_kept fs gs x.form k (h r x e)
 
--- what is known of registers stays
+-- what is known of registers is unchanged
 pub registers_stay : (fs gs : List Normal) (n : ℕ) (xs : List (Option RegForm)) → Keeps fs gs → HoldsRegisters fs xs →
     registers_in gs n xs ≡ registers_in fs n xs
 unfolding registers_in
@@ -129,23 +129,23 @@ registers_stay fs gs n (Some y ∷ xs) k h = rw (
   typed_stays fs gs y k (h 0 y refl),
 ) refl
 
--- the forms of d's state are held
+-- the forms of d's state remain held
 pub d_kept : (fs gs : List Normal) (d : StateD) → Keeps fs gs → HoldsD fs d → HoldsD gs d
 d_kept fs gs Zero k h = tt
 d_kept fs gs (Code t f) k h = integer_kept fs gs f k h
 d_kept fs gs (Conditional z t f) k h = (integer_kept fs gs z k h.0, integer_kept fs gs f k h.1)
 
--- what is known of d stays
+-- what is known of d is unchanged
 pub d_stays : (fs gs : List Normal) (d : StateD) → Keeps fs gs → HoldsD fs d → d_in gs d ≡ d_in fs d
 d_stays fs gs Zero k h = refl
 d_stays fs gs (Code t f) k h = rw (integer_stays fs gs f k h) refl
 d_stays fs gs (Conditional z t f) k h = rw (integer_stays fs gs z k h.0, integer_stays fs gs f k h.1) refl
 
--- the forms of pairs are held
+-- the forms of pairs remain held
 pub queue_kept : (fs gs : List Normal) (q : List (Form × Form)) → Keeps fs gs → HoldsQueue fs q → HoldsQueue gs q
 queue_kept fs gs q k h i p e = (integer_kept fs gs p.0 k (h i p e).0, integer_kept fs gs p.1 k (h i p e).1)
 
--- what the pairs are stays
+-- the pairs' meaning is unchanged
 pub queue_stays : (fs gs : List Normal) (q : List (Form × Form)) → Keeps fs gs → HoldsQueue fs q → map (pair_in gs) q
     ≡ map (pair_in fs) q
 queue_stays fs gs [] k h = refl
@@ -154,7 +154,7 @@ queue_stays fs gs (p ∷ q) k h =
     rw (integer_stays fs gs p.0 k x.0, integer_stays fs gs p.1 k x.1, queue_stays fs gs q k (λ i y e. h (suc i) y e))
     refl
 
--- the forms of a context are held
+-- the forms of a context remain held
 pub forms_kept : (fs gs : List Normal) (c : Context) → Keeps fs gs → HoldsForms fs c → HoldsForms gs c
 forms_kept fs gs c k h = record {
   registers = registers_kept fs gs c.registers k h.registers;
@@ -163,7 +163,7 @@ forms_kept fs gs c k h = record {
   memory = memory_kept fs gs c.memory k h.memory;
 }
 
--- a context stays
+-- a context's meaning is unchanged
 pub context_stays : (fs gs : List Normal) (c : Context) → Keeps fs gs → HoldsForms fs c → context_in gs c
     ≡ context_in fs c
 context_stays fs gs c k h =

@@ -1,4 +1,4 @@
--- The forms of nodes, after a substitution for the variables and with the variables as they are.
+-- The forms of nodes, under a substitution and with the variables unchanged.
 use Rattle.std.proofs.Common.{◌≡◌, ℕ, zero, suc, ◌<◌, true, false, List, [], ◌∷◌, length, slice_get, slice_index_or}
 use Rattle.std.proofs.Common.{Some, refl, ap, subst, arith}
 use Rattle.ft_static.specs.Expression.{HasVariablesBelow}
@@ -19,19 +19,19 @@ use Rattle.ft_contexts.specs.declared.variables.Variables.{Variables}
 use Rattle.ft_contexts.specs.Contexts.{replacement_in, AreOwn}
 use Rattle.ft_contexts.proofs.Kept.{polynomial_found, updates_found}
 
--- the form of an integer's node after a substitution for the variables
+-- the form of an integer node under a substitution
 pub integer_under : (o : Object) (x : Replacement) (scope n : ℕ) → AreNodes o.nodes → IsNodeIn o.nodes scope false n →
     form_under x.integers x.memory (tree_at o.nodes n) ≡ integer_form (integer_form_after o x n)
 unfolding integer_form_after
 integer_under o x scope n h k = ap (form_under x.integers x.memory) (integer_in o.nodes scope n h k)
 
--- the form of a memory's node after a substitution for the variables
+-- the form of a memory node under a substitution
 pub memory_under : (o : Object) (x : Replacement) (scope n : ℕ) → AreNodes o.nodes → IsNodeIn o.nodes scope true n →
     form_under x.integers x.memory (tree_at o.nodes n) ≡ memory_form (memory_form_after o x n)
 unfolding memory_form_after
 memory_under o x scope n h k = ap (form_under x.integers x.memory) (memory_in o.nodes scope n h k)
 
--- the polynomial in a place of these
+-- the polynomial at an index
 polynomial_in : (fs : List Normal) (xs : List Form) (i : ℕ) (p : Polynomial) → i < length xs →
     ((f : Form) → slice_get xs i ≡ Some f → held fs f ≡ Some (integer_form p)) →
     slice_index_or (polynomials fs xs) i nought ≡ p
@@ -39,7 +39,7 @@ polynomial_in fs [] i p l h = absurd (omega arith)
 polynomial_in fs (x ∷ xs) zero p l h = polynomial_found fs x p (h x refl)
 polynomial_in fs (x ∷ xs) (suc i) p l h = polynomial_in fs xs i p (omega arith) h
 
--- with the variables as they are, an integer's node has its own form
+-- with the variables unchanged, an integer node has its own form
 pub own_integer : (o : Object) (fs : List Normal) (ints : ℕ) (v : Variables) (n : ℕ) → AreNodes o.nodes →
     AreOwn fs ints v → IsNodeIn o.nodes (length v.integers) false n → integer_form_after o (replacement_in fs v) n
     ≡ integer_form_of o n
@@ -52,7 +52,7 @@ own_integer o fs ints v n h own k =
     polynomial_in fs v.integers i (alone (variable_atom i)) (omega (arith, k.scope_within)) (own.integers i))).0
     (integer_at (trees o.nodes) n) w)
 
--- with the variables as they are, a memory's node has its own form
+-- with the variables unchanged, a memory node has its own form
 pub own_memory : (o : Object) (fs : List Normal) (ints : ℕ) (v : Variables) (n : ℕ) → AreNodes o.nodes →
     AreOwn fs ints v → IsNodeIn o.nodes (length v.integers) true n → memory_form_after o (replacement_in fs v) n
     ≡ memory_form_of o n

@@ -1,4 +1,4 @@
--- The array of registers and the finite map that it is.
+-- The array of registers and the finite map that it represents.
 use Rattle.std.proofs.Common.{◌≡◌, ◌≢◌, ◌<◌, ◌+◌, ℕ, zero, suc, Bool, true, false, cond, eqb, eqb-true, eq-eqb, List}
 use Rattle.std.proofs.Common.{[], ◌∷◌, length, get_or, slice_get, Option, None, Some, refl, sym, ap, ◌∙◌, subst, arith}
 use Rattle.std.specs.Option.{option_map}
@@ -14,7 +14,7 @@ use Rattle.ft_types.specs.Spellable.{IsBase}
 use Rattle.ft_contexts.specs.declared.register.RegForm.{RegForm}
 use Rattle.ft_contexts.specs.Contexts.{typed_in, with_known, registers_in, HoldsRegisters, RegistersNameTypes}
 
--- numbers that are different
+-- different numbers fail the test for equality
 pub apart : (q n : ℕ) → q ≢ n → eqb q n ≡ false
 apart q n h = by_test (eqb q n) refl
   where
@@ -22,12 +22,12 @@ apart q n h = by_test (eqb q n) refl
     by_test true e = absurd (h (eqb-true q n e))
     by_test false e = e
 
--- another register's entry
+-- another register's entry after an insertion
 get_other : (m : TypedRegisters) (n q : ℕ) (t : Typed) → q ≢ n → finite.get (finite.insert m n t) q ≡ finite.get m q
 get_other m n q t h = finite.get-insert nat_cmp_total m n t q
     ∙ ap (λ b. cond b (Some t) (finite.get m q)) (unsigned_tied q n ∙ apart q n h)
 
--- the register's own
+-- the register's own entry after an insertion
 get_same : (m : TypedRegisters) (n : ℕ) (t : Typed) → finite.get (finite.insert m n t) n ≡ Some t
 get_same m n t = finite.get-insert nat_cmp_total m n t n ∙ ap (λ b. cond b (Some t) (finite.get m n)) (unsigned_tied n n
     ∙ eq-eqb n n refl)
@@ -54,7 +54,7 @@ get_below fs n (x ∷ xs) q h =
     get_unchanged (option_map (typed_in fs) x) (registers_in fs (suc n) xs) n q ne
     ∙ get_below fs (suc n) xs q (omega arith)
 
--- what is known of a register is what is in its place
+-- what is known of a register is what the array has at its index
 pub get_at : (fs : List Normal) (n : ℕ) (xs : List (Option RegForm)) (r q : ℕ) → q ≡ n + r →
     finite.get (registers_in fs n xs) q ≡ option_map (typed_in fs) (get_or xs r None)
 unfolding registers_in
@@ -73,7 +73,7 @@ pub known_of : (fs : List Normal) (xs : List (Option RegForm)) (r : ℕ) → fin
     ≡ option_map (typed_in fs) (get_or xs r None)
 known_of fs xs r = get_at fs 0 xs r r (omega arith)
 
--- one that is noted anew, at each register
+-- each register after one was noted anew
 get_set : (fs : List Normal) (xs : List (Option RegForm)) (r : ℕ) (k : RegForm) (q : ℕ) → r < length xs →
     finite.get (registers_in fs 0 (set xs r (Some k))) q
     ≡ finite.get (finite.insert (registers_in fs 0 xs) r (typed_in fs k)) q
@@ -91,20 +91,20 @@ get_set fs xs r k q h = by_test (eqb q r) refl
         known_of fs (set xs r (Some k)) q ∙ ap (option_map (typed_in fs)) (get_or-set_other xs r q (Some k) None ne)
         ∙ sym (known_of fs xs q) ∙ sym (get_other (registers_in fs 0 xs) r q (typed_in fs k) ne)
 
--- to note what is known of a register is to put it into the array
+-- noting what is known of a register sets the array's entry
 pub registers_set : (fs : List Normal) (xs : List (Option RegForm)) (r : ℕ) (k : RegForm) → r < length xs →
     registers_in fs 0 (set xs r (Some k)) ≡ finite.insert (registers_in fs 0 xs) r (typed_in fs k)
 registers_set fs xs r k h = finite.same_map nat_cmp_total finite.nat_cmp-IsAntisymmetric _ _ (λ q.
     get_set fs xs r k q h)
 
--- what is in a place exists
+-- an entry that was found exists
 pub there_from_get_or : (xs : List (Option RegForm)) (r : ℕ) (x : RegForm) → get_or xs r None ≡ Some x → slice_get xs r
     ≡ Some (Some x)
 there_from_get_or [] r x e = cc
 there_from_get_or (y ∷ xs) zero x e = ap Some e
 there_from_get_or (y ∷ xs) (suc r) x e = there_from_get_or xs r x e
 
--- a place that was written holds what was written, and another what it held
+-- the entry that was set holds what was set, and the others are unchanged
 set_cases : (xs : List (Option RegForm)) (r : ℕ) (k : RegForm) (q : ℕ) (x : RegForm) → slice_get (set xs r (Some k)) q
     ≡ Some (Some x) → (P : RegForm → Type 0) → P k → (slice_get xs q ≡ Some (Some x) → P x) → P x
 set_cases [] r k q x e P h l = l e
@@ -113,12 +113,12 @@ set_cases (y ∷ xs) zero k (suc q) x e P h l = l e
 set_cases (y ∷ xs) (suc r) k zero x e P h l = l e
 set_cases (y ∷ xs) (suc r) k (suc q) x e P h l = set_cases xs r k q x e P h l
 
--- the forms of registers are held after one that is
+-- the forms of registers are held after one with a held form is noted
 pub registers_held_set : (fs : List Normal) (xs : List (Option RegForm)) (r : ℕ) (k : RegForm) → HoldsRegisters fs xs →
     IsInteger fs k.form → HoldsRegisters fs (set xs r (Some k))
 registers_held_set fs xs r k h i q x e = set_cases xs r k q x e (λ y. IsInteger fs y.form) i (λ f. h q x f)
 
--- the code types of registers are named after one that is
+-- the registers name existing code types after one with an existing code type is noted
 pub registers_typed_set : (types : ℕ) (xs : List (Option RegForm)) (r : ℕ) (k : RegForm) → RegistersNameTypes types xs →
     IsBase types k.basic.base → RegistersNameTypes types (set xs r (Some k))
 registers_typed_set types xs r k h i q x e = set_cases xs r k q x e (λ y. IsBase types y.basic.base) i (λ f. h q x f)

@@ -1,4 +1,4 @@
--- Equal forms are the same in the order of forms.
+-- Forms are held as the same exactly when they are equal.
 use Rattle.std.proofs.Common.{◌≡◌, ◌↔◌, Bool, true, false, List, Some, refl, ap, sym, ◌∙◌, IsTrue}
 use Rattle.ft_static.specs.Form.{Form as Normal, integer_form, memory_form, Polynomial, Updates, same_polynomial}
 use Rattle.ft_static.specs.Form.{same_updates}
@@ -6,14 +6,14 @@ use Rattle.ft_static.proofs.Equal.{equal_polynomials, equal_updates}
 use Rattle.ft_norm.specs.declared.form.Form.{Form}
 use Rattle.ft_norm.specs.Held.{held, polynomial, updates_held, IsInteger, IsMemory}
 
--- two tests of one fact are equal
+-- two tests of the same fact agree
 pub same_tests : (a b : Bool) (P : Type 0) → IsTrue a ↔ P → (b ≡ true) ↔ P → a ≡ b
 same_tests true true P h k = refl
 same_tests true false P h k = sym (k.1 (h.0 refl))
 same_tests false true P h k = h.1 (k.0 refl)
 same_tests false false P h k = refl
 
--- two integers that are held are held as the same exactly when their polynomials are
+-- two integers are held as the same exactly when their polynomials are equal
 pub held_integers : (fs : List Normal) (a b : Form) → IsInteger fs a → IsInteger fs b →
     (same_polynomial (polynomial fs a) (polynomial fs b) ≡ true) ↔ (held fs a ≡ held fs b)
 held_integers fs a b h k =
@@ -24,7 +24,7 @@ held_integers fs a b h k =
           ∙ k.found in cc),
     )
 
--- two memories that are held are held as the same exactly when their updates are
+-- two memories are held as the same exactly when their updates are equal
 pub held_memories : (fs : List Normal) (a b : Form) → IsMemory fs a → IsMemory fs b →
     (same_updates (updates_held fs a) (updates_held fs b) ≡ true) ↔ (held fs a ≡ held fs b)
 held_memories fs a b h k =

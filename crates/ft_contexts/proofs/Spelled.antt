@@ -1,4 +1,4 @@
--- What a spellable object says of its rows and of its instructions.
+-- What holds of the rows and the instructions of a spellable object.
 use Rattle.std.proofs.Common.{◌≡◌, ℕ, zero, suc, Bool, true, ◌<◌, List, [], ◌∷◌, length, slice_get, Option, None, Some}
 use Rattle.std.proofs.Common.{refl, sym, ap, ◌∙◌, subst, arith}
 use Rattle.std.specs.Option.{option_map, unwrap_or}
@@ -14,7 +14,7 @@ use Rattle.ft_types.specs.Objects.{memory_of_type}
 use Rattle.ft_types.specs.Spellable.{IsSpellable, IsCodeType, IsRegRow, IsQueueRow, IsNodeIn, IsInstr, IsSubst, Cover}
 use Rattle.ft_types.specs.Spellable.{before, subst_of, substs_of}
 
--- a code type that is there
+-- a code type with this number exists
 pub type_there : (o : Object) (t : ℕ) → t < length o.types → (x : CodeType) × (slice_get o.types t ≡ Some x)
 type_there o t h = there o.types t h
   where
@@ -86,7 +86,7 @@ pub subst_spelled : (o : Object) (k : ℕ) (i : Instr) (u : Subst) → IsSpellab
     subst_of i ≡ Some u → IsSubst o.nodes (length o.substs) u.first u
 subst_spelled o k i u h e s = covered o.nodes (length o.substs) 0 o.instrs k i u h.covered e s
 
--- a node within the scope of a code type's variables is within that of the most
+-- a node within the scope of a code type's variables is within the maximum scope
 pub most_scope : (o : Object) (t n : ℕ) (b : Bool) → IsSpellable o → t < length o.types →
     IsNodeIn o.nodes (ints_of o t) b n → IsNodeIn o.nodes 128 b n
 most_scope o t n b h l k =

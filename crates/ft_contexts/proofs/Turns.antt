@@ -1,4 +1,4 @@
--- One turn of each loop, and its end.
+-- One iteration of each loop, and its end.
 use Rattle.std.proofs.Common.{◌≡◌, ◌≢◌, ◌+◌, ◌<◌, ◌≤◌, ℕ, zero, suc, Bool, true, false, ◌&&◌, List, [], ◌∷◌, length}
 use Rattle.std.proofs.Common.{map, drop, slice_get, Option, None, Some, refl, ap, ◌∙◌, arith}
 use Rattle.std.specs.Option.{option_map, unwrap_or}
@@ -43,19 +43,19 @@ pending_end fs m q j l =
 
 -- THE START OF A BLOCK
 
--- an array that knows nothing
+-- in an array without entries, nothing is known
 pub registers_none : (fs : List Normal) (n k : ℕ) → registers_in fs n (replicate k None) ≡ finite.empty
 unfolding registers_in
 registers_none fs n zero = refl
 registers_none fs n (suc k) = registers_none fs (suc n) k
 
--- nothing in it is held
+-- such an array has no known element
 pub none_there : (k r : ℕ) (x : RegForm) (P : Type 0) → slice_get (replicate k None) r ≡ Some (Some x) → P
 none_there zero r x P e = cc
 none_there (suc k) zero x P e = cc
 none_there (suc k) (suc r) x P e = none_there k r x P e
 
--- a register row
+-- the next register row
 pub registers_turn : (o : Object) (m : TypedRegisters) (rows : List RegType) (j : ℕ) (r : RegType) → slice_get rows j
     ≡ Some r → registers_after o m (drop j rows) ≡ registers_after o (finite.insert m r.reg.number (typed_row o r))
     (drop (j + 1) rows)
@@ -68,7 +68,7 @@ pub registers_end : (o : Object) (m : TypedRegisters) (rows : List RegType) (j :
 unfolding registers_after
 registers_end o m rows j l = rw (drop_all j rows l) refl
 
--- the registers with a row's
+-- the registers after a row was noted
 pub registers_noted : (o : Object) (fs gs : List Normal) (xs : List (Option RegForm)) (n : ℕ) (row : RegType) (f : Form)
     → Keeps fs gs → HoldsRegisters fs xs → n < length xs → n ≡ row.reg.number → held gs f
     ≡ Some (integer_form (integer_form_of o row.expr))
@@ -105,14 +105,14 @@ head_says o t x e = says (slice_get o.types t) e
 
 -- LIKENESS
 
--- a register that is typed like its row
+-- a register that is typed as its row requires
 pub like_typed : (o : Object) (x : Replacement) (k : Option Typed) (t : Typed) (r : RegType) → k ≡ Some t →
     (same_colour t.colour r.colour && is_seen_as t.basic r.basic) ≡ true → is_like o x k r
     ≡ same_polynomial t.form (integer_form_after o x r.expr)
 unfolding is_like
 like_typed o x k t r e h = rw (e, h) refl
 
--- two queues of different lengths
+-- queues of different lengths
 pub unlike_lengths : (o : Object) (x : Replacement) (q : List FormPair) (rows : List (ℕ × ℕ)) → length q ≢ length rows →
     is_queue_like o x q rows ≡ false
 unfolding is_queue_like
@@ -125,7 +125,7 @@ unlike_lengths o x (e ∷ q) (r ∷ rs) h = rw (unlike_lengths o x q rs (λ s. h
     and_false true = refl
     and_false false = refl
 
--- a pair and a row
+-- the next pair and its row
 pub queue_turn : (o : Object) (x : Replacement) (q : List FormPair) (rows : List (ℕ × ℕ)) (j : ℕ) (e : FormPair) (r : ℕ
     × ℕ) (b : Bool) → slice_get q j ≡ Some e → slice_get rows j ≡ Some r → b
     ≡ (same_polynomial e.0 (integer_form_after o x r.0) && same_polynomial e.1 (integer_form_after o x r.1))

@@ -1,4 +1,4 @@
--- Which context a context of the code stands for, given the normal forms that an interner holds.
+-- Which defined context a context of the code represents, given the normal forms that an interner holds.
 use Rattle.std.specs.Prelude.{◌≡◌, ◌<◌, ℕ, suc, List, [], ◌∷◌, map, length, Option, None, Some, slice_get}
 use Rattle.std.specs.Option.{option_map}
 use Rattle.std.specs.FinMap as finite
@@ -30,7 +30,7 @@ abbrev pub with_known : ℕ → Option Typed → TypedRegisters → TypedRegiste
 with_known n None m = m
 with_known n (Some t) m = finite.insert m n t
 
--- what is known of the registers, counted from n
+-- what is known of the registers from number n on
 unfoldable pub registers_in : List Normal → ℕ → List (Option RegForm) → TypedRegisters
 registers_in fs n [] = finite.empty
 registers_in fs n (x ∷ xs) = with_known n (option_map (typed_in fs) x) (registers_in fs (suc n) xs)
@@ -45,7 +45,7 @@ d_in fs (Conditional z t f) = d_conditional (polynomial fs z) t (polynomial fs f
 abbrev pub pair_in : List Normal → Form × Form → FormPair
 pair_in fs p = (polynomial fs p.0, polynomial fs p.1)
 
--- the context that a context of the code stands for
+-- the defined context that a context of the code represents
 abbrev pub context_in : List Normal → Context → defined.Context
 context_in fs c = record {
   ints = c.ints;
@@ -63,7 +63,7 @@ variable_count c = c.ints
 abbrev pub pending_count : Context → ℕ
 pending_count c = length c.queue
 
--- what is substituted for variables
+-- what is substituted for the variables
 abbrev pub replacement_in : List Normal → Variables → Replacement
 replacement_in fs v = record { integers = polynomials fs v.integers; memory = updates_held fs v.memory }
 
@@ -110,19 +110,19 @@ pub record HoldsForms (fs : List Normal) (c : Context) : Type 0 where
   pub queue : HoldsQueue fs c.queue
   pub memory : IsMemory fs c.memory
 
--- THE CODE TYPES THAT ARE NAMED
+-- THE NAMED CODE TYPES
 
--- the code type that d's state names, if any, is one of this many
+-- the code type that d's state names, if any, is below this number
 abbrev pub DNamesType : ℕ → StateD → Type 0
 DNamesType types Zero = Unit {0}
 DNamesType types (Code t f) = t < types
 DNamesType types (Conditional z t f) = t < types
 
--- the code types that the basic types of registers name are among this many
+-- the code types that the registers' basic types name are below this number
 abbrev pub RegistersNameTypes : ℕ → List (Option RegForm) → Type 0
 RegistersNameTypes types xs = (r : ℕ) (x : RegForm) → slice_get xs r ≡ Some (Some x) → IsBase types x.basic.base
 
--- every code type that is named in a context is the object's
+-- every code type named in a context is the object's
 pub record NamesTypes (o : Object) (c : Context) : Type 0 where
   pub registers : RegistersNameTypes (length o.types) c.registers
   pub d : DNamesType (length o.types) c.d

@@ -19,9 +19,9 @@ use ft_types::Program;
 use std::alloc::Global;
 use std::sync::ledger::Ledger;
 
-/// What is known at a place of a block: the number of the block's integer variables, what is known of
-/// each register and of d, the static queue, oldest first, and the form of the memory. Its forms are
-/// those of the interner with which it was made.
+/// What is known at a place in a block: the number of the block's integer variables, what is known of each register and
+/// of d, the static queue with the oldest pair first, and the form of the memory. Its forms belong to the interner with
+/// which it was made.
 #[derive(Drop)]
 pub struct Context {
     pub(crate) alloc: Global,
@@ -36,8 +36,8 @@ impl Context {
     ghost use Rattle.ft_types.specs.declared.object.Object.{Object};
     ghost use Rattle.ft_contexts.specs.Contexts.{DNamesType, HoldsD, HoldsForms, HoldsOwn, NamesTypes, context_in, d_in, pair_in, pending_count, typed_in};
 
-    /// The context where a block of code type `t` begins: the type's registers, queue and memory with
-    /// its variables as they are, and d is 0.
+    /// The context at the start of a block of code type `t`: the type's registers, queue and memory, with its variables
+    /// unchanged, and 0 in d.
     pub fn start<P: Program, L: Ledger>(
         alloc: Global,
         program: &P,
@@ -59,7 +59,7 @@ impl Context {
         Context::start_over(alloc, program, t, &mut own, forms, steps)
     }
 
-    /// The same context, over variables that other blocks may have used before.
+    /// The same context, over variables that earlier blocks may have used.
     pub fn start_over<P: Program, L: Ledger>(
         alloc: Global,
         program: &P,
@@ -156,7 +156,7 @@ impl Context {
         self.queue.len()
     }
 
-    /// The forms of the address and of the value of pair `i`, counted from the oldest as 0.
+    /// The forms of the address and the value of pair `i`; pair 0 is the oldest.
     pub fn queue_at(&self, i: usize) -> (Form, Form)
         requires { i < pending_count self.now }
         ensures pair { (fs : List Normal) → slice_get (context_in fs self.now).queue i ≡ Some (pair_in fs result) }
@@ -173,7 +173,7 @@ impl Context {
         self.memory
     }
 
-    /// The form of the memory after the pending stores, the oldest first.
+    /// The form of the memory after the pending stores, oldest first.
     fn pending<L: Ledger>(
         &self,
         forms: &mut Interner,
@@ -194,7 +194,7 @@ impl Context {
         Ok(memory)
     }
 
-    /// The form of the memory that a load of this colour sees: a green one sees the pending stores. Each update that is
+    /// The form of the memory that a load of this colour sees: a green load sees the pending stores. Each update
     /// applied counts as a step.
     pub fn seen<L: Ledger>(
         &self,
@@ -242,7 +242,7 @@ impl Context {
         self.queue.push(pair)
     }
 
-    /// The oldest pair leaves the static queue, and the memory has this form.
+    /// Removes the oldest pair from the static queue, and sets the form of the memory.
     pub fn commit(&mut self, memory: Form)
         requires { 0 < pending_count self.old }
         ensures context { (fs : List Normal) → context_in fs self.new ≡ record (context_in fs self.old) { queue = drop 1 (context_in fs self.old).queue; memory = updates_held fs memory } }

@@ -1,8 +1,8 @@
 //! What is known of the destination register.
 use ft_norm::Form;
 
-/// What a context says about d: it is 0; it is a code address of a code type, of this form; or it is that if the tested
-/// form denotes 0, and 0 otherwise.
+/// What a context says about d: it is 0; it is a code address of a code type, of this form; or it is such an address if
+/// the tested form denotes 0, and 0 otherwise.
 #[derive(Clone, Copy, Debug)]
 pub enum StateD {
     Zero,

@@ -1,10 +1,9 @@
-//! Typing contexts, with numbers for forms.
+//! Typing contexts, with numbers in place of forms.
 //!
-//! A `Context` is the context of the typing rules (`Context` in `ft_typing/specs`), with an array of
-//! registers, and numbers in place of forms. `specs/Contexts.antt` says which defined context it stands
-//! for, given an interner's forms. The crate promises that `Context::start` is a code type's starting
-//! context, that each change of a context is the definition's, and that the comparisons of a context with
-//! the target of a transfer are exact.
+//! A `Context` represents a context of the typing rules (`Context` in `ft_typing/specs`), with an array of registers
+//! and with numbers in place of forms. `specs/Contexts.antt` says which defined context it represents, given an
+//! interner's forms. The crate promises that `Context::start` is a code type's starting context, that each operation
+//! changes a context as defined, and that the comparisons of a context with the target of a transfer are exact.
 #![tactic(auto)]
 
 mod context;

@@ -1,4 +1,4 @@
-//! What a target requires: whether what holds here is as its code type says, after a substitution.
+//! Whether a context meets the requirements of a transfer's target, after a substitution.
 ghost use Rattle.std.specs.Prelude.{◌≡◌, ◌+◌, ◌*◌, ◌<◌, ◌≤◌, ◌&&◌, IfOk, length, nat_le};
 ghost use Rattle.std.specs.List.{list_all};
 ghost use Rattle.ft_static.specs.Form.{updates, same_polynomial};
@@ -51,7 +51,7 @@ fn is_typed_like(known: RegForm, row: RegType) -> bool
     same_colour(known.colour, row.colour) && is_seen_as(known.basic, row.basic)
 }
 
-/// Whether a pair of the static queue is as a row of the target requires.
+/// Whether a pair of the static queue meets a row of the target.
 fn pair_is_like<P: Program, L: Ledger>(
     pair: (Form, Form),
     put: &Variables,
@@ -104,7 +104,7 @@ impl Context {
             && is_within(program, self.ints, subst.memory)
     }
 
-    /// Whether a register is as a row of the target requires.
+    /// Whether a register meets a row of the target.
     #[tactic(auto, unfolding(ft_typing::specs::RowWords::is_like))]
     fn register_is_like<P: Program, L: Ledger>(
         &self,
@@ -136,8 +136,7 @@ impl Context {
         Ok(same_integers(forms, known.form, wanted))
     }
 
-    /// Whether each register that code type `t` types is as its row requires, if these are substituted for the type's
-    /// variables.
+    /// Whether each register that code type `t` types meets its row, with these substituted for the type's variables.
     pub fn registers_are_like<P: Program, L: Ledger>(
         &self,
         put: &Variables,
@@ -168,7 +167,7 @@ impl Context {
         Ok(true)
     }
 
-    /// Whether the static queue is as code type `t` requires, if these are substituted for the type's variables.
+    /// Whether the static queue is as code type `t` requires, with these substituted for the type's variables.
     pub fn queue_is_like<P: Program, L: Ledger>(
         &self,
         put: &Variables,
@@ -211,7 +210,7 @@ impl Context {
         Ok(true)
     }
 
-    /// Whether the memory is as code type `t` requires, if these are substituted for the type's variables.
+    /// Whether the memory is as code type `t` requires, with these substituted for the type's variables.
     pub fn memory_is_like<P: Program, L: Ledger>(
         &self,
         put: &Variables,

@@ -1,4 +1,4 @@
-//! Lists that grow, which contracts see as lists.
+//! Growable lists, which contracts see as plain lists.
 ghost use Rattle.std.specs.Prelude.{◌≡◌, ◌<◌, ◌++◌, ◌∷◌, [], Some, drop, length, slice_get, IfOk, OnOk, OnErr};
 
 use ft_isa::NoMemory;
@@ -41,7 +41,7 @@ impl<T: Copy> Sequence<T> {
         })
     }
 
-    /// Becomes the same values as those of another, in the room that it has.
+    /// Copies the values of another list, reusing its own memory.
     pub fn copy_from(&mut self, other: &Sequence<T>) -> Result<(), NoMemory>
         ensures { OnOk result (self.new ≡ other.now) }
     {
@@ -50,7 +50,7 @@ impl<T: Copy> Sequence<T> {
         Ok(())
     }
 
-    /// Removes all values, and keeps the room.
+    /// Removes all values, and keeps the memory.
     pub fn clear(&mut self)
         ensures { self.new ≡ [] }
     {

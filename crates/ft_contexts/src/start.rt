@@ -17,10 +17,10 @@ use ft_types::Program;
 use std::alloc::Global;
 use std::sync::ledger::Ledger;
 
-/// The maximum number of pairs of a static queue.
+/// The maximum number of pairs in a static queue.
 pub const QUEUE_ROOM: usize = 8;
 
-/// What code type `t` says about the registers, by their number.
+/// What code type `t` says about the registers, by number.
 pub fn start_registers<P: Program, L: Ledger>(
     program: &P,
     t: u32,

@@ -14,8 +14,8 @@ use ft_types::Program;
 use std::alloc::Global;
 use std::sync::ledger::Ledger;
 
-/// What the blocks of an object share: their variables, and room for what a transfer substitutes for the variables of
-/// its target, with the forms that were made of nodes under it.
+/// What the blocks of an object share: their variables; and room for what a transfer substitutes for its target's
+/// variables, with the forms made of nodes under that substitution.
 #[derive(Drop)]
 pub struct Shared {
     pub own: OwnVariables,
@@ -45,8 +45,8 @@ impl Shared {
         })
     }
 
-    /// Substitutes the rows of a substitution for the variables of its target: the forms of its nodes in the block's
-    /// own variables.
+    /// Sets what is substituted for the target's variables: the forms of the substitution's nodes, in the block's own
+    /// variables.
     pub fn replace<P: Program, L: Ledger>(
         &mut self,
         program: &P,

@@ -1,4 +1,4 @@
-//! Forms that stand for variables.
+//! Forms that are substituted for variables.
 ghost use Rattle.std.specs.Prelude.{◌≡◌, ◌+◌, ◌≤◌, IfOk, Some, false, true, length, []};
 ghost use Rattle.ft_static.specs.Form.{integer_form, memory_form, updates};
 ghost use Rattle.ft_norm.specs.Held.{Keeps, held, updates_held};
@@ -16,7 +16,7 @@ use std::sync::ledger::Ledger;
 /// The maximum number of integer variables of a code type.
 const MOST_INTS: u8 = 128;
 
-/// A form for each integer variable in turn, and one for the memory variable.
+/// A form for each integer variable, in order, and one for the memory variable.
 #[derive(Drop)]
 pub struct Variables {
     pub integers: Sequence<Form>,
@@ -26,8 +26,7 @@ pub struct Variables {
 impl Variables {
     ghost use Rattle.ft_contexts.specs.Contexts.{HoldsVariables, RemembersUnder, replacement_in};
 
-    /// The form of the integer of node `n`, if these are substituted for the variables. What was made so far is not
-    /// made again.
+    /// The form of integer node `n`, with these substituted for the variables. Forms made before are reused.
     pub fn integer<P: Program, L: Ledger>(
         &self,
         program: &P,
@@ -50,8 +49,7 @@ impl Variables {
         Ok(form)
     }
 
-    /// The form of the memory of node `n`, if these are substituted for the variables. What was made so far is not made
-    /// again.
+    /// The form of memory node `n`, with these substituted for the variables. Forms made before are reused.
     pub fn memory<P: Program, L: Ledger>(
         &self,
         program: &P,
@@ -76,8 +74,8 @@ impl Variables {
     }
 }
 
-/// As many variables as a code type may have, each substituted for itself, and the forms that were made of nodes so far
-/// with the variables as they are. They serve all blocks of an object.
+/// As many variables as a code type may have, each substituted for itself, and the forms of nodes made so far under
+/// that substitution. They serve all blocks of an object.
 #[derive(Drop)]
 pub struct OwnVariables {
     variables: Variables,
@@ -111,7 +109,7 @@ impl OwnVariables {
         self.variables.memory
     }
 
-    /// The form of the integer of node `n`, with the variables as they are.
+    /// The form of integer node `n`, with the variables unchanged.
     pub fn integer<P: Program, L: Ledger>(
         &mut self,
         program: &P,
@@ -133,7 +131,7 @@ impl OwnVariables {
         Ok(form)
     }
 
-    /// The form of the memory of node `n`, with the variables as they are.
+    /// The form of memory node `n`, with the variables unchanged.
     pub fn memory<P: Program, L: Ledger>(
         &mut self,
         program: &P,

@@ -1,4 +1,4 @@
--- Steps of the debugger, and what they put.
+-- The debugger's steps, and what they write.
 use Rattle.std.proofs.Common.{◌≡◌, ℕ, zero, suc, ◌+◌, ◌-◌, ◌<◌, ◌≤◌, Bool, true, false, not, ◌&&◌, min, List, [], ◌∷◌}
 use Rattle.std.proofs.Common.{◌++◌, map, drop, Option, Some, None, Result, Ok, Err, refl, ap, sym, ◌∙◌, subst}
 use Rattle.std.proofs.Common.{append_assoc, append-nil, arith}
@@ -26,20 +26,20 @@ use Rattle.ft_debug.specs.Sessions.{Session, Reply, present, stays, after_lines,
 use Rattle.ft_debug.specs.Inside.{Holds, IsReplied, Does, committed_lines, advances}
 use Rattle.ft_debug.proofs.Held.{holds_further}
 
--- THE EXIT OF A FAILED PUT
+-- WHEN A PUT FAILS
 
--- a fact holds in particular if the call succeeded
+-- a fact that holds in any case also holds if the call succeeded
 pub on_ok : {T E P : Type 0} (r : Result T E) → P → OnOk r P
 on_ok (Ok x) p = p
 on_ok (Err e) p = tt
 
--- a call that failed put its reply up to a put that failed
+-- a failed call has written its reply up to the put that failed
 exit : (o : Object) (w : List Wild) (q : Reply) (e : Debugger) (r : Result (Unit {0}) Failed) (old new : SinkLog)
     → IsErr r → BreaksOff q.lines old new → IsReplied o w q e r old new
 exit o w q e (Ok u) old new is h = absurd (cc)
 exit o w q e (Err f) old new is h = (tt, h)
 
--- what a failed part put is what the whole put, which would have put more
+-- if the first part of a reply fails, so does the whole reply
 pub does_err : (go whole : List Wild → Session → Reply) (o : Object) (d e : Debugger) (failed : Failed)
     (r : Result (Unit {0}) Failed) (old new : SinkLog)
     → ((w : List Wild) (s : Session) → Holds o w s d
@@ -59,7 +59,7 @@ committed_by o None status.Running = refl
 committed_by o None status.Done = refl
 committed_by o None status.Detected = refl
 
--- what was committed is what the session's step puts
+-- the lines of what was committed are the lines of the session's step
 step_puts : (o : Object) (w : List Wild) (s : Session) (d e : Debugger) (stepped : Stepped) → Holds o w s d →
     Takes (step o d.present.machine d.present.wild) e.present.machine e.present.wild stepped → committed_lines o stepped
     ≡ step_lines o (present o w s)
@@ -68,7 +68,7 @@ step_puts o w s d e stepped h t =
     ap (committed_lines o) t.answer_is ∙ committed_by o u.output u.state.status
     ∙ ap (λ (m : Moment). map (line_at o) (option_to_list (step o m.machine m.wild).output)) h.present
 
--- what an advance did to the debugger
+-- what `advance` did to the debugger
 pub record Advances (o : Object) (d e : Debugger) (stepped : Stepped) : Type 0 where
   pub full : IsFull d.history
   pub takes : Takes (step o d.present.machine d.present.wild) e.present.machine e.present.wild stepped
@@ -103,7 +103,7 @@ takes_if true b x s e = absurd (cc)
 takes_if false true x s e = refl
 takes_if false false x s e = absurd (cc)
 
--- a machine that is not to go on takes no step
+-- a machine that has stopped or halts here takes no step
 pub walk_stays : (o : Object) (w : List Wild) (halts : State → Bool) (n : ℕ) (s : Session) →
     (not (halts (present o w s).state) && is_running (present o w s).state.status) ≡ false → walks o w halts n s
     ≡ stays s
@@ -112,7 +112,7 @@ walk_stays o w halts zero s e = refl
 walk_stays o w halts (suc n) s e = stays_if (halts (present o w s).state) (is_running (present o w s).state.status)
     (after_lines (step_lines o (present o w s)) (walks o w halts n (further s))) (stays s) s e
 
--- one that is to go on takes one, and then more
+-- any other machine takes a step, and walks on
 pub walk_takes : (o : Object) (w : List Wild) (halts : State → Bool) (n : ℕ) (s : Session) → 0 < n →
     (not (halts (present o w s).state) && is_running (present o w s).state.status) ≡ true
     → walks o w halts n s ≡ after_lines (step_lines o (present o w s)) (walks o w halts (n - 1) (further s))
@@ -124,7 +124,7 @@ walk_takes o w halts (suc n) s l e =
     (after_lines (step_lines o (present o w s)) (walks o w halts n (further s))) s e
     ∙ ap (λ m. after_lines (step_lines o (present o w s)) (walks o w halts m (further s))) same
 
--- after that many of the steps, the rest of the walk is left
+-- after k of the n steps, the rest of the walk remains
 abbrev pub Walked : Object → (State → Bool) → ℕ → ℕ → Debugger → Debugger → SinkLog → SinkLog → Type 0
 Walked o halts n k d e old new =
     (w : List Wild) (s : Session) → Holds o w s d → (t : Session) × (ls : List (List ℕ)) × Holds o w t e ×
@@ -166,7 +166,7 @@ ended o w e t ls r old new h p eq =
     subst (λ (q : Reply). IsReplied o w q e (Ok tt) old new)
     (ap (λ l. record { session = t; lines = l }) (sym (append-nil ls)) ∙ sym eq) (h, p)
 
--- the walk ended if the machine is not to go on
+-- the walk has ended if the machine has stopped or halts here
 pub walk_halts : (o : Object) (halts : State → Bool) (n k : ℕ) (d e : Debugger) (old new : SinkLog)
     → (not (halts e.present.machine) && is_running e.present.machine.status) ≡ false → Walked o halts n k d e old new
     → Does (λ w. walks o w halts n) o d e (Ok tt) old new
@@ -184,7 +184,7 @@ walk_ends o halts n k d e old new l walked = λ w s h.
     ended o w e x.0 x.1 (walks o w halts n s) old new x.2 x.3
     (x.4 ∙ ap (λ m. after_lines x.1 (walks o w halts m x.0)) none ∙ ap (after_lines x.1) (none_walked o w halts x.0))
 
--- a put failed on the way
+-- a put failed during the walk
 pub walk_breaks : (o : Object) (halts : State → Bool) (n k : ℕ) (d e f : Debugger) (failed : Failed)
     (r : Result (Unit {0}) Failed) (old mid new : SinkLog) → IsErr r → k < n
     → (not (halts e.present.machine) && is_running e.present.machine.status) ≡ true

@@ -1,4 +1,4 @@
--- What each command's reply is, and that it was put.
+-- What each command replies, and that the reply is written.
 use Rattle.std.proofs.Common.{not, length, Some, None, ◌≡◌, ℕ, ◌+◌, ◌-◌, ◌<◌, ◌≤◌, Bool, true, false, List, [], ◌∷◌}
 use Rattle.std.proofs.Common.{◌++◌, Result, Ok, Err, refl, ap, sym, ◌∙◌, subst, arith}
 use Rattle.std.specs.Prelude.{slice_get, if◌then◌else◌, nat_lt, codes, IsErr}
@@ -29,7 +29,7 @@ at_there : (o : Object) (w : List Wild) (t : Session) (e : Debugger) → Holds o
     at_line e.present.position e.present.machine ≡ at_line t.position (present o w t).state
 at_there o w t e h = ap (λ (m : Moment). at_line m.position m.machine) h.present
 
--- after what was done, the position is put
+-- the position is written after the rest of the reply
 pub does_report : (go : List Wild → Session → Reply) (o : Object) (d e : Debugger) (r : Result (Unit {0}) Failed)
     (old mid new : SinkLog) → Does go o d e (Ok tt) old mid
     → Puts (end_of_puts r) (at_line e.present.position e.present.machine ∷ []) mid new
@@ -43,7 +43,7 @@ does_report go o d e r old mid new does p = λ w s h.
           (made_by r) x.1 line,
     )
 
--- a put failed before the position was put
+-- a put failed before the position was written
 pub report_breaks : (go : List Wild → Session → Reply) (o : Object) (d e : Debugger) (failed : Failed)
     (r : Result (Unit {0}) Failed) (old new : SinkLog) → IsErr r → Does go o d e (Err failed) old new
     → Does (λ w s. reports o w (go w s)) o d e r old new
@@ -53,7 +53,7 @@ report_breaks go o d e failed r old new is does =
 
 -- ONE LINE
 
--- one line was put, and the session after it is held
+-- one line was written, and the debugger holds the session after it
 pub says_line : (go : List Wild → Session → Reply) (o : Object) (d e : Debugger) (line : List ℕ)
     (next : List Wild → Session → Session) (r : Result (Unit {0}) Failed) (old new : SinkLog)
     → ((w : List Wild) (s : Session) → Holds o w s d → (go w s ≡ says line (next w s)) × Holds o w (next w s) e)
@@ -62,7 +62,7 @@ says_line go o d e line next r old new said p = λ w s h.
     let x = said w s h in
     subst (λ (q : Reply). IsReplied o w q e r old new) (sym x.0) (on_ok r x.1, p)
 
--- replies that are equal are answered alike
+-- `Does` carries over to an equal reply
 pub does_as : (go same : List Wild → Session → Reply) (o : Object) (d e : Debugger) (r : Result (Unit {0}) Failed)
     (old new : SinkLog) → ((w : List Wild) (s : Session) → Holds o w s d → same w s ≡ go w s) → Does go o d e r old new
     → Does same o d e r old new
@@ -125,7 +125,7 @@ back_taken o d e n r old new l holds p =
     not_more : (m n : ℕ) → n ≤ m → nat_lt m n ≡ false
     not_more m n le = grind (arith, nat_tests)
 
--- the answer to a command is the answer to what it is
+-- equal commands have the same answer
 pub answers : (o : Object) (d e : Debugger) (x y : read.Command) (r : Result (Unit {0}) Failed) (old new : SinkLog)
     → x ≡ y → Does (λ w. reply o w (command_of y)) o d e r old new
     → Does (λ w. reply o w (command_of x)) o d e r old new
@@ -150,7 +150,7 @@ break_nowhere o d b i r old new e p =
     says_line (λ w. reply o w (Break b i)) o d d (codes "no place\n") (λ w s. s) r old new
     (λ w s h. (ap (λ a. sets_break a s) e, h)) p
 
--- what is set, if the place exists
+-- the reply to a breakpoint at an existing place
 abbrev set_or : Bool → Bool → ℕ → Session → Reply
 set_or known room a s = if known then says (codes "break set\n") s
     else (if room then says (codes "break set\n") (with_break a s) else says (codes "too many breaks\n") s)
@@ -201,7 +201,7 @@ break_added o d e b i a r old new there known room ep eh eb p =
       holds_break o w s d e a h ep eh eb,
     )) p
 
--- whether there is room, by the test of there being none
+-- there is room unless the breakpoints are full
 pub room_is : (full room b : Bool) → full ≡ not room → full ≡ b → room ≡ not b
 room_is full true b e f = ap not (sym e ∙ f)
 room_is full false b e f = ap not (sym e ∙ f)

@@ -1,4 +1,4 @@
--- What a session shows is what the machine's runs have.
+-- A session shows the states of the machine's runs.
 use Rattle.std.proofs.Common.{◌≡◌, ℕ, zero, suc, List, [], ◌∷◌, Option, Some, None, refl, ap}
 use Rattle.ft_isa.specs.declared.plan.Wild.{Wild}
 use Rattle.ft_isa.specs.declared.plan.Strike.{Strike}
@@ -8,7 +8,7 @@ use Rattle.ft_semantics.specs.Strike.{struck_before}
 use Rattle.ft_semantics.specs.Run.{Ran, run}
 use Rattle.ft_debug.specs.Sessions.{Shown, shown, led_to}
 
--- what a run has at a position
+-- what a session shows of a run at a position
 abbrev of_run : ℕ → Option Strike → Ran → Shown
 of_run n strike r = record { state = struck_before strike n r.state; wild = r.wild }
 

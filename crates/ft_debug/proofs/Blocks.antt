@@ -1,4 +1,4 @@
--- Blocks that are counted, and places in them.
+-- Counting blocks, and places in them.
 use Rattle.std.proofs.Common.{◌≡◌, ℕ, zero, suc, ◌+◌, ◌-◌, ◌≤◌, Bool, true, false, List, [], ◌++◌, length, take, Some}
 use Rattle.std.proofs.Common.{decimal, codes, nat_lt, nat_eq, refl, ap, sym, ◌∙◌, arith}
 use Rattle.std.specs.Prelude.{count_by, slice_get, if◌then◌else◌}
@@ -10,7 +10,7 @@ use Rattle.ft_types.specs.declared.object.Object.{Object}
 use Rattle.ft_types.specs.Objects.{block_start}
 use Rattle.ft_debug.specs.Sessions.{block_of, block_text, counters_text}
 
--- one more element is counted, or is not
+-- the next element is counted if it passes the test, and not otherwise
 pub counted_yes : {X : Type 0} (p : X → Bool) (xs : List X) (i n : ℕ) (x : X) → slice_get xs i ≡ Some x → p x ≡ true → n
     ≡ count_by p (take i xs) → n + 1 ≡ count_by p (take (i + 1) xs)
 counted_yes p xs i n x e t h = ap (λ m. m + 1) h ∙ sym
@@ -21,7 +21,7 @@ pub counted_no : {X : Type 0} (p : X → Bool) (xs : List X) (i n : ℕ) (x : X)
 counted_no p xs i n x e t h = h ∙ sym (count_by_more_no p xs i x (slice_get_within xs i x e)
     (ap p (get_or_from_slice_get xs i x x e) ∙ t))
 
--- where the counters are, if they are equal and in the code
+-- the text of the counters' place, if they are equal and in the code
 pub counters_in_code : (o : Object) (green blue i b x : ℕ) → green ≡ blue → ¬ (green ≡ 0) → green ≤ length o.instrs → i
     ≡ green - 1 → b ≡ block_of o i → x ≡ i - block_start o (block_of o i) → codes " block " ++ decimal b
     ++ codes " index " ++ decimal x ≡ counters_text o green blue

@@ -1,4 +1,4 @@
--- What the debugger holds, after each of its acts.
+-- What the debugger holds after each of its actions.
 use Rattle.std.proofs.Common.{◌≡◌, ℕ, zero, suc, ◌+◌, ◌-◌, ◌<◌, ◌≤◌, Bool, true, false, min, List, [], ◌∷◌, ◌++◌}
 use Rattle.std.proofs.Common.{length, take, drop, Some, refl, ap, sym, ◌∙◌, subst, arith, ⊎_elim}
 use Rattle.std.specs.Prelude.{slice_get, if◌then◌else◌, All, codes}
@@ -27,7 +27,7 @@ use Rattle.ft_debug.proofs.Shown.{made_later, made_push}
 
 -- THE RING
 
--- the ring after one more moment was put at its end, in place of the first
+-- the ring after a moment was added at its end and the first one dropped
 turned_last : {X : Type 0} (xs : List X) (x : X) (n i : ℕ) → length xs ≡ suc n → i ≡ n →
     slice_get (drop 1 xs ++ x ∷ []) i ≡ Some x
 turned_last xs x n i e l = slice_get-last (drop 1 xs) x i (omega (arith, length-drop 1 xs))
@@ -96,7 +96,7 @@ holds_further o w s d e full h em ew ep ei ec eb =
 
 -- STEPS BACK
 
--- the debugger after n steps back, before later strikes are forgotten
+-- the debugger after k steps back, before the later strikes are forgotten
 pub record Rewound (o : Object) (w : List Wild) (s : Session) (k : ℕ) (d : Debugger) : Type 0 where
   pub present : d.present ≡ moment_at o w s.strikes (s.position - k)
   pub kept : s.low + d.history.count + k ≡ s.position
@@ -150,7 +150,7 @@ rewound_more o w s k d e full some h newest items counted eb =
         ≡ p - (k + 1) + i - 4096
     earlier_place p k low n i e l m = omega arith
 
--- later strikes are forgotten
+-- the later strikes are forgotten
 pub holds_earlier : (o : Object) (w : List Wild) (s : Session) (k : ℕ) (d : Debugger) → IsFull d.history →
     Rewound o w s k d → Holds o w (earlier k s) d
 holds_earlier o w s k d full h =
@@ -223,7 +223,7 @@ holds_struck o w s d e site value full h em ew ep eh eb =
 
 -- CELLS
 
--- the ring's machines have the cells of the present one
+-- the machines in the ring have the same cells as the present one
 pub same_cells : (o : Object) (d : Debugger) → Ready o d → All (HasCellsOf d.present) d.history.moments.items
 same_cells o d h = All-weaker (HasMomentCells (length o.cells)) (HasCellsOf d.present) (λ x i a. i a
     ∙ sym (h.cells a)) d.history.moments.items h.past

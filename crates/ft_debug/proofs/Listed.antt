@@ -1,4 +1,4 @@
--- Cells by name, and entries of the store queue.
+-- Finding cells by name, and writing the store queue.
 use Rattle.std.proofs.Common.{◌≡◌, ℕ, suc, ◌+◌, ◌<◌, ◌≤◌, Bool, true, false, cond, List, [], ◌∷◌, ◌++◌, length, map}
 use Rattle.std.proofs.Common.{take, drop, get_or, Option, Some, None, nat_lt, refl, ap, sym, ◌∙◌, subst, ⊎_elim, arith}
 use Rattle.std.specs.Prelude.{slice_get}
@@ -25,7 +25,7 @@ use Rattle.ft_debug.specs.Sessions.{is_named, named_cell, entry_line, queue_line
 
 -- CELLS
 
--- the first k cells do not have the name
+-- none of the first k cells has the name
 abbrev pub NoneNamed : Object → List ℕ → ℕ → Type 0
 NoneNamed o name k = (j : ℕ) (d : Cell) → j < k → is_named name (get_or o.cells j d) ≡ false
 
@@ -84,7 +84,7 @@ no_name o name k le none =
 
 -- THE QUEUE
 
--- the lines of the first i entries were put
+-- the lines of the first i entries were written
 abbrev pub PutsEntries : Pending → ℕ → SinkLog → SinkLog → Type 0
 PutsEntries q i old new = new ≡ with_lines (map entry_line (take i q)) old
 

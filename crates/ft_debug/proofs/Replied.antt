@@ -1,4 +1,4 @@
--- Replies one after the other, and how far they come.
+-- Replies one after another, and how far they advance the position.
 use Rattle.std.proofs.Common.{◌≡◌, ℕ, zero, suc, ◌+◌, ◌-◌, ◌*◌, ◌<◌, ◌≤◌, Bool, true, false, List, [], ◌∷◌, ◌++◌}
 use Rattle.std.proofs.Common.{length, map, take, drop, get_or, Option, Some, None, Ok, Err, refl, ap, sym, ◌∙◌, subst}
 use Rattle.std.proofs.Common.{append_assoc, append-nil, arith}
@@ -25,7 +25,7 @@ use Rattle.ft_debug.specs.Inside.{Holds, Does, IsSmall}
 
 -- HOW FAR
 
--- a reply leaves the position at most n steps further
+-- a reply advances the position by at most n
 abbrev pub Within : ℕ → Session → Reply → Type 0
 Within n s r = r.session.position ≤ s.position + n
 
@@ -67,7 +67,7 @@ break_within (Some a) s =
     either_within (is_set s.breaks a) s _ _ (omega arith)
     (either_within (nat_lt (length s.breaks) 64) s (says _ (with_break a s)) (says _ s) (omega arith) (omega arith))
 
--- a command takes the position at most 1,000,000 steps further
+-- a command advances the position by at most 1,000,000
 pub reply_within : (o : Object) (w : List Wild) (c : Command) (s : Session) → IsSmall c →
     Within 1000000 s (reply o w c s)
 reply_within o w (Step n) s h = let far = walk_within o w never n s in omega arith
@@ -83,9 +83,9 @@ reply_within o w Where s h = omega arith
 reply_within o w (Break b i) s h = break_within (break_address o b i) s
 reply_within o w Bad s h = omega arith
 
--- ONE AFTER THE OTHER
+-- ONE AFTER ANOTHER
 
--- after the first of some commands: the session that is held, what was put, and what the rest put
+-- after the first i commands: the session held, the lines written, and what the remaining commands write
 pub record Replied (o : Object) (w : List Wild) (xs : List read.Command) (i : ℕ) (d : Debugger)
     (old new : SinkLog) : Type 0 where
   pub session : Session
@@ -150,7 +150,7 @@ pub replied_all : (o : Object) (w : List Wild) (xs : List read.Command) (i : ℕ
 replied_all o w xs i d old new le h =
     h.puts ∙ ap (λ ls. with_lines ls old) (sym (all_lines o w xs i h.session h.lines le h.rest))
 
--- a put failed in the answer to a command
+-- a put failed while a command was answered
 pub replied_breaks : (o : Object) (w : List Wild) (xs : List read.Command) (i : ℕ) (x : read.Command) (d e : Debugger)
     (failed : Failed) (old mid new : SinkLog) → i < length xs → x ≡ get_or xs i x
     → Replied o w xs i d old mid → Does (λ v. reply o v (command_of x)) o d e (Err failed) mid new
@@ -181,7 +181,7 @@ small_command Where line h = tt
 small_command (Break b i) line h = tt
 small_command Bad line h = tt
 
--- commands that lines give take at most 1,000,000 steps each
+-- commands read from lines take at most 1,000,000 steps each
 pub small_commands : (lines : List (List ℕ)) (cs : List Command) → AllZip Gives lines cs → AllByRecursion IsSmall cs
 small_commands [] [] h = tt
 small_commands [] (c ∷ cs) h = absurd h

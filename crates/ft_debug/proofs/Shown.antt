@@ -1,4 +1,4 @@
--- What is shown at a position, by the strikes that were made.
+-- What is shown at a position, depending on the strikes made.
 use Rattle.std.proofs.Common.{◌≡◌, ℕ, zero, suc, ◌+◌, ◌<◌, ◌≤◌, ◌==◌, Bool, true, false, cond, List, [], ◌∷◌, ◌++◌}
 use Rattle.std.proofs.Common.{Some, nat_le, refl, ap, sym, ◌∙◌, add-one, arith}
 use Rattle.std.specs.Prelude.{filter, if◌then◌else◌}
@@ -29,20 +29,20 @@ shown-add_one o w xs p = rw add-one refl
 before-other : (x : Strike) (q : ℕ) (s : State) → (x.step == q) ≡ false → struck_before (Some x) q s ≡ s
 before-other x q s e = ap (λ t. if t then struck_state s x.site x.value else s) e
 
--- strikes that were made before change nothing later
+-- strikes made at earlier positions change nothing here
 pub struck_later : (p q : ℕ) (xs : List Strike) (s : State) → p < q → AllByRecursion (IsMadeBy p) xs → struck_at q xs s
     ≡ s
 struck_later p q [] s l h = refl
 struck_later p q (x ∷ xs) s l h = let at : x.step ≤ p = h.0 in
     ap (struck_at q xs) (before-other x q s (ne_eqb x.step q (λ e. absurd (omega arith)))) ∙ struck_later p q xs s l h.1
 
--- one more strike is made after the others
+-- a strike added at the end is made last
 struck-push : (p : ℕ) (xs : List Strike) (x : Strike) (s : State) → struck_at p (xs ++ x ∷ []) s
     ≡ struck_before (Some x) p (struck_at p xs s)
 struck-push p [] x s = refl
 struck-push p (y ∷ xs) x s = struck-push p xs x (struck_before (Some y) p s)
 
--- the next position shows the step from this one
+-- the next position shows the state after a step from this one
 pub shown_next : (o : Object) (w : List Wild) (xs : List Strike) (p : ℕ) → AllByRecursion (IsMadeBy p) xs
     → shown o w xs (p + 1) ≡ record {
       state = (step o (shown o w xs p).state (shown o w xs p).wild).state;
@@ -53,7 +53,7 @@ shown_next o w xs p h =
     shown-add_one o w xs p ∙ ap (λ (s : State). record { state = s; wild = t.wild })
     (struck_later p (p + 1) xs t.state (omega arith) h)
 
--- lists that strike alike up to a position show the same there
+-- two lists of strikes with the same effects up to a position show the same there
 same_shown : (o : Object) (w : List Wild) (xs ys : List Strike) (q : ℕ) →
     ((r : ℕ) → r ≤ q → (s : State) → struck_at r xs s ≡ struck_at r ys s) → shown o w xs q ≡ shown o w ys q
 unfolding shown
@@ -64,7 +64,7 @@ same_shown o w xs ys (suc q) h =
     ap (λ (m : Shown). led_to (suc q) xs (step o m.state m.wild)) before
     ∙ ap (λ (s : State). record { state = s; wild = t.wild }) (h (suc q) (omega arith) t.state)
 
--- what is shown before a strike stays
+-- a strike leaves what is shown before it unchanged
 pub shown_before : (o : Object) (w : List Wild) (xs : List Strike) (x : Strike) (q : ℕ) → q < x.step →
     shown o w (xs ++ x ∷ []) q ≡ shown o w xs q
 shown_before o w xs x q l = same_shown o w (xs ++ x ∷ []) xs q (λ r le s. struck-push r xs x s
@@ -78,7 +78,7 @@ struck_now : (o : Object) (w : List Wild) (xs : List Strike) (x : Strike) (t : S
 struck_now o w xs x t = ap (λ (s : State). record { state = s; wild = t.wild }) (struck-push x.step xs x t.state
     ∙ struck_there x (struck_at x.step xs t.state))
 
--- what is shown at a strike is struck
+-- at the position of a strike, the struck state is shown
 pub shown_struck : (o : Object) (w : List Wild) (xs : List Strike) (p : ℕ) (site : Site) (value : ℕ)
     → shown o w (xs ++ record { step = p; site = site; value = value } ∷ []) p
     ≡ record { state = struck_state (shown o w xs p).state site value; wild = (shown o w xs p).wild }
@@ -102,7 +102,7 @@ filter_step p r x xs s true l e h = h (struck_before (Some x) r s)
 filter_step p r x xs s false l e h = h s ∙ ap (struck_at r xs)
     (sym (before-other x r s (ne_eqb x.step r (λ i. grind (arith, leb_tells x.step p)))))
 
--- strikes after a position are not made up to there
+-- dropping the strikes after a position changes nothing up to there
 struck_filtered : (p r : ℕ) (xs : List Strike) (s : State) → r ≤ p → struck_at r (filter (is_by p) xs) s
     ≡ struck_at r xs s
 struck_filtered p r [] s l = refl
@@ -118,7 +118,7 @@ made_step : (p : ℕ) (x : Strike) (xs : List Strike) (t : Bool) → is_by p x �
 made_step p x xs true e h = (leb-true x.step p e, h)
 made_step p x xs false e h = h
 
--- those that are left were made by then
+-- the strikes that remain were made by then
 pub made_filtered : (p : ℕ) (xs : List Strike) → AllByRecursion (IsMadeBy p) (filter (is_by p) xs)
 made_filtered p [] = tt
 made_filtered p (x ∷ xs) = made_step p x (filter (is_by p) xs) (is_by p x) refl (made_filtered p xs)

@@ -9,13 +9,13 @@ use Rattle.ft_debug.specs.declared.debug_end.DebugEnd.{DebugEnd}
 use Rattle.ft_debug.specs.declared.debug_end.DebugEnd.TheVariants.{Ended, WriteFault, NoMemory}
 use Rattle.ft_debug.specs.Sessions.{session_lines}
 
--- the lines of the session were put, up to this end
+-- the session's lines were written, up to this end
 pub record PutsSession (e : PutEnd) (o : Object) (w : List Wild) (script : List ℕ) (old new : SinkLog) : Type 0 where
   pub commands : List Command
   pub given : AreCommands script commands
   pub lines : Puts e (session_lines o w commands) old new
 
--- how a session ended: all its lines were put, or a put of them failed, or nothing was put
+-- how a session ended: all its lines were written, or a put failed, or nothing was written
 abbrev pub EndsAs : DebugEnd → Object → List Wild → List ℕ → SinkLog → SinkLog → Type 0
 EndsAs Ended o w script old new = PutsSession AllPut o w script old new
 EndsAs WriteFault o w script old new = PutsSession PutFailed o w script old new

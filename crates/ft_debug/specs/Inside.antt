@@ -1,4 +1,4 @@
--- What the debugger's parts hold, compared with the defined session: private to the code.
+-- How the debugger's parts represent the defined session: private to the code.
 use Rattle.std.specs.Prelude.{◌≡◌, ℕ, ◌+◌, ◌-◌, ◌<◌, ◌≤◌, Bool, true, false, ◌&&◌, not, List, [], ◌∷◌, length, slice_get, All, Some, Result, OnOk}
 use Rattle.std.specs.List.{AllByRecursion}
 use Rattle.ft_edge.specs.declared.failed.Failed.{Failed}
@@ -43,7 +43,7 @@ committed_lines o Quiet = []
 committed_lines o Done = []
 committed_lines o Detected = []
 
--- the debugger holds a session: what it shows, what it showed at the positions from the low-water mark, and its
+-- the debugger holds a session: what it shows, what it showed at each position since the low-water mark, and its
 -- breakpoints
 pub record Holds (o : Object) (w : List Wild) (s : Session) (d : Debugger) : Type 0 where
   pub present : d.present ≡ moment_at o w s.strikes s.position
@@ -52,16 +52,16 @@ pub record Holds (o : Object) (w : List Wild) (s : Session) (d : Debugger) : Typ
   pub breaks : d.breaks ≡ s.breaks
   pub made : AllByRecursion (IsMadeBy s.position) s.strikes
 
--- a reply was put, up to a put that failed; if none failed, the session after it is held
+-- a reply was written, up to the first failed put; if none failed, the debugger holds the session after it
 abbrev pub IsReplied : Object → List Wild → Reply → Debugger → Result (Unit {0}) Failed → SinkLog → SinkLog → Type 0
 IsReplied o w r e result old new = OnOk result (Holds o w r.session e) × Puts (end_of_puts result) r.lines old new
 
--- the same, whatever session was held
+-- this reply is given, whatever session the debugger held
 abbrev pub Does : (List Wild → Session → Reply) → Object → Debugger → Debugger → Result (Unit {0}) Failed → SinkLog
     → SinkLog → Type 0
 Does go o d e result old new = (w : List Wild) (s : Session) → Holds o w s d → IsReplied o w (go w s) e result old new
 
--- one step, of a running machine
+-- one step of a running machine
 abbrev pub advances : Object → List Wild → Session → Reply
 advances o w s = record { session = further s; lines = step_lines o (present o w s) }
 
@@ -70,7 +70,7 @@ abbrev pub halting : Bool → List ℕ → State → Bool
 halting true breaks = is_at_break breaks
 halting false breaks = never
 
--- whether the machine is to take one more step
+-- whether the machine takes another step
 abbrev pub goes_on : Bool → List ℕ → State → Bool
 goes_on halts breaks s = not (halting halts breaks s) && is_running s.status
 

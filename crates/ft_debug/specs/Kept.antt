@@ -8,11 +8,11 @@ use Rattle.ft_debug.specs.declared.moment.Moment.{Moment}
 abbrev pub HasMomentCells : ℕ → Moment → Type 0
 HasMomentCells n m = HasCells n m.machine
 
--- a moment's machine has the cells of another's
+-- the machines of two moments have the same cells
 abbrev pub HasCellsOf : Moment → Moment → Type 0
 HasCellsOf m x = (a : ℕ) → is_cell x.machine.cells a ≡ is_cell m.machine.cells a
 
--- the ring is full of moments, the last of which are those that are kept
+-- the ring holds 4,096 moments, the last `count` of which are the history
 pub record IsFull (h : History) : Type 0 where
   pub length_is : length h.moments.items ≡ 4096
   pub capacity_is : h.moments.capacity ≡ 4096

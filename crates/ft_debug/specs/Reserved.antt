@@ -1,4 +1,4 @@
--- What the breakpoints keep: private to the code.
+-- The room reserved for breakpoints: private to the code.
 use Rattle.std.specs.Prelude.{◌≤◌, vec_capacity}
 use Rattle.ft_debug.specs.declared.break_places.BreakPlaces.TheInside.{Inside}
 

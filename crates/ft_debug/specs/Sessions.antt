@@ -40,12 +40,12 @@ pub record Session : Type 0 where
 abbrev pub first_session : Session
 first_session = record { position = 0; low = 0; strikes = []; breaks = [] }
 
--- what is shown: a state of the machine, and the answers that are left to wild loads
+-- what is shown: a state of the machine, and the remaining answers to wild loads
 pub record Shown : Type 0 where
   pub state : State
   pub wild : List Wild
 
--- the state after the strikes that were made at a position, in the order made
+-- the state after the strikes made at a position, in the order made
 abbrev pub struck_at : ℕ → List Strike → State → State
 struck_at p [] s = s
 struck_at p (strike ∷ strikes) s = struck_at p strikes (struck_before (Some strike) p s)
@@ -54,8 +54,8 @@ struck_at p (strike ∷ strikes) s = struck_at p strikes (struck_before (Some st
 abbrev pub led_to : ℕ → List Strike → Stepping → Shown
 led_to p strikes t = record { state = struck_at p strikes t.state; wild = t.wild }
 
--- what is shown at a position: the run up to there, where each strike is made before its step, and then the strikes
--- made there
+-- what is shown at a position: the run up to there, with each strike made before its step, and then the strikes made
+-- there
 unfoldable pub shown : Object → List Wild → List Strike → ℕ → Shown
 shown o w strikes zero = led_to 0 strikes (quiet (start o) w)
 shown o w strikes (suc p) = led_to (suc p) strikes (step o (shown o w strikes p).state (shown o w strikes p).wild)
@@ -101,7 +101,7 @@ register_line s r = coloured_line (register_text r) (coloured_in s r)
 abbrev pub entry_line : ℕ × ℕ → List ℕ
 entry_line e = decimal e.0 ++ codes " " ++ decimal e.1 ++ codes "\n"
 
--- a line for each pending store, oldest first
+-- a line for each pending store, oldest first, or `empty` if there is none
 abbrev pub queue_lines : Pending → List (List ℕ)
 queue_lines [] = codes "empty\n" ∷ []
 queue_lines (e ∷ es) = map entry_line (e ∷ es)
@@ -110,12 +110,12 @@ queue_lines (e ∷ es) = map entry_line (e ∷ es)
 abbrev pub is_named : List ℕ → Cell → Bool
 is_named name c = bytes_eq c.name name
 
--- the word of cell k, or none
+-- the line with the word of cell k, or `no cell`
 abbrev pub cell_line : List ℕ → State → Option ℕ → List ℕ
 cell_line name s None = codes "no cell\n"
 cell_line name s (Some k) = line name (unwrap_or (cell_at s.cells (cell_address k)) 0)
 
--- the cell of this name
+-- the number of the cell with this name, if there is one
 abbrev pub named_cell : Object → List ℕ → Option ℕ
 named_cell o name = position (is_named name) o.cells
 
@@ -127,39 +127,39 @@ begins_by i b = nat_le b.start i
 abbrev pub block_of : Object → ℕ → ℕ
 block_of o i = count_by (begins_by i) o.blocks - 1
 
--- a block, and the place of an instruction in it
+-- a block, and the index of instruction i in it
 abbrev pub block_text : Object → ℕ → ℕ → List ℕ
 block_text o i b = codes " block " ++ decimal b ++ codes " index " ++ decimal (i - block_start o b)
 
--- where a code address lies in the code, if it does
+-- the place of a code address, if it is in the code
 abbrev pub place_text : Object → ℕ → List ℕ
 place_text o zero = []
 place_text o (suc i) = if nat_lt i (length o.instrs) then block_text o i (block_of o i) else []
 
--- where two counters are, if they are equal
+-- the place of two program counters, if they are equal
 abbrev pub counters_text : Object → ℕ → ℕ → List ℕ
 counters_text o green blue = if green == blue then place_text o green else []
 
--- the position, the machine's status, its counters, and where they are
+-- the position, the machine's status, its program counters, and their place
 abbrev pub where_line : Object → ℕ → State → List ℕ
 where_line o p s = at_text p s ++ codes " pcg " ++ decimal s.pc_green ++ codes " pcb " ++ decimal s.pc_blue ++ counters_text o s.pc_green s.pc_blue ++ codes "\n"
 
 -- WHAT A COMMAND DOES
 
--- what a command does: the session after it, and the lines that it puts
+-- what a command does: the session after it, and the lines it writes
 pub record Reply : Type 0 where
   pub session : Session
   pub lines : List (List ℕ)
 
--- nothing changes and nothing is put
+-- nothing changes and nothing is written
 abbrev pub stays : Session → Reply
 stays s = record { session = s; lines = [] }
 
--- one line is put
+-- one line is written
 abbrev pub says : List ℕ → Session → Reply
 says text s = record { session = s; lines = text ∷ [] }
 
--- some lines are put before those of a reply
+-- some lines are written before those of a reply
 abbrev pub after_lines : List (List ℕ) → Reply → Reply
 after_lines before r = record { session = r.session; lines = before ++ r.lines }
 
@@ -175,16 +175,16 @@ step_lines o now = map (line_at o) (option_to_list (step o now.state now.wild).o
 abbrev pub takes_step : Object → List Wild → (Session → Reply) → Session → Reply
 takes_step o w more s = if is_running (present o w s).state.status then after_lines (step_lines o (present o w s)) (more (further s)) else stays s
 
--- at most n steps, up to the stop, and none from a state at which the machine is to halt
+-- at most n steps, until the machine stops or `halts` holds
 unfoldable pub walks : Object → List Wild → (State → Bool) → ℕ → Session → Reply
 walks o w halts zero s = stays s
 walks o w halts (suc n) s = if halts (present o w s).state then stays s else takes_step o w (walks o w halts n) s
 
--- the machine is to halt at no state
+-- halts nowhere
 abbrev pub never : State → Bool
 never s = false
 
--- whether an address is one of these
+-- whether an address is one of the breakpoints
 abbrev pub is_set : List ℕ → ℕ → Bool
 is_set breaks a = list_any (λ b. b == a) breaks
 
@@ -192,12 +192,12 @@ is_set breaks a = list_any (λ b. b == a) breaks
 abbrev pub is_at_break : List ℕ → State → Bool
 is_at_break breaks s = is_none s.fetched && (s.pc_green == s.pc_blue) && is_set breaks s.pc_green
 
--- at most n steps, up to the stop; only the first may be taken at a breakpoint
+-- at most n steps, until the machine stops or is at a breakpoint; the first step may start at one
 abbrev pub goes : Object → List Wild → ℕ → Session → Reply
 goes o w zero s = stays s
 goes o w (suc n) s = takes_step o w (walks o w (is_at_break s.breaks) n) s
 
--- a reply, after which the position is put
+-- a reply, followed by the position
 abbrev pub reports : Object → List Wild → Reply → Reply
 reports o w r = record { session = r.session; lines = r.lines ++ at_line r.session.position (present o w r.session).state ∷ [] }
 
@@ -213,7 +213,7 @@ goes_back o w n s = if nat_lt (s.position - s.low) n then says (codes "no histor
 abbrev pub with_strike : Site → ℕ → Session → Session
 with_strike site value s = record s { strikes = s.strikes ++ record { step = s.position; site = site; value = value } ∷ [] }
 
--- a strike, if the site exists
+-- a strike, if the machine is running and the site exists
 abbrev pub zaps : Object → List Wild → Site → ℕ → Session → Reply
 zaps o w site value s = if is_there (present o w s).state site then says (codes "zapped\n") (with_strike site value s) else says (codes "nothing there\n") s
 
@@ -225,7 +225,7 @@ break_address o b i = if nat_lt b (length o.blocks) && nat_lt (block_start o b +
 abbrev pub with_break : ℕ → Session → Session
 with_break a s = record s { breaks = s.breaks ++ a ∷ [] }
 
--- a breakpoint, unless it would be the 65th
+-- a breakpoint, if the instruction exists, and unless it is set already or would be the 65th
 abbrev pub sets_break : Option ℕ → Session → Reply
 sets_break None s = says (codes "no place\n") s
 sets_break (Some a) s = if is_set s.breaks a then says (codes "break set\n") s else (if nat_lt (length s.breaks) 64 then says (codes "break set\n") (with_break a s) else says (codes "too many breaks\n") s)
@@ -243,7 +243,7 @@ reply o w commands.Where s = says (where_line o s.position (present o w s).state
 reply o w (commands.Break b i) s = sets_break (break_address o b i) s
 reply o w commands.Bad s = says (codes "bad command\n") s
 
--- what these commands put, one after the other
+-- the lines that these commands write, one after another
 abbrev pub replies : Object → List Wild → List Command → Session → List (List ℕ)
 replies o w [] s = []
 replies o w (c ∷ cs) s = (reply o w c s).lines ++ replies o w cs (reply o w c s).session

@@ -18,7 +18,7 @@ use ft_queue::StoreQueue;
 use ft_script::{Command, Register};
 use ft_types::Program;
 
-/// The number of the cell of a name, if there is one; it looks at each cell.
+/// The number of the cell with a name, if there is one, found by linear search.
 fn named_cell<P: Program>(program: &P, name: &[u8]) -> Option<u32>
     requires { IsSpellable (P.object program.now) }
     ensures found { result ≡ named_cell (P.object program.now) name.now }
@@ -33,7 +33,7 @@ fn named_cell<P: Program>(program: &P, name: &[u8]) -> Option<u32>
     None
 }
 
-/// Puts a line for each pending store, oldest first.
+/// Writes a line for each pending store, oldest first, or `empty`.
 fn put_queue<K: Sink>(queue: &StoreQueue, out: &mut K) -> Result<(), Failed>
     ensures { Puts (end_of_puts result) (queue_lines queue.now) (K.log out.old) (K.log out.new) }
 {
@@ -72,7 +72,7 @@ impl<'w> Debugger<'w> {
         }
     }
 
-    /// Puts the position.
+    /// Writes the position.
     fn put_at<K: Sink>(&self, out: &mut K) -> Result<(), Failed>
         ensures { Puts (end_of_puts result) (at_line self.now.present.position self.now.present.machine ∷ [])
             (K.log out.old) (K.log out.new) }
@@ -80,7 +80,7 @@ impl<'w> Debugger<'w> {
         put_line(at_line(&self.present).as_bytes(), out)
     }
 
-    /// Takes at most `count` steps, up to the stop.
+    /// Takes at most `count` steps, until the machine stops.
     fn answer_step<P: Program, K: Sink>(
         &mut self,
         program: &P,
@@ -98,7 +98,7 @@ impl<'w> Debugger<'w> {
         self.put_at(out)
     }
 
-    /// Takes at most `count` steps, up to the stop or a breakpoint.
+    /// Takes at most `count` steps, until the machine stops or is at a breakpoint.
     fn answer_go<P: Program, K: Sink>(
         &mut self,
         program: &P,
@@ -116,7 +116,7 @@ impl<'w> Debugger<'w> {
         self.put_at(out)
     }
 
-    /// Goes back `count` steps, if they are kept.
+    /// Goes back `count` steps, if that many are kept.
     fn answer_back<K: Sink>(&mut self, count: u64, out: &mut K) -> Result<(), Failed>
         requires { IsFull self.old.history }
         ensures ready { (o : Object) → Ready o self.old → Ready o self.new }
@@ -130,7 +130,7 @@ impl<'w> Debugger<'w> {
         self.put_at(out)
     }
 
-    /// Strikes the machine now, if the site exists.
+    /// Strikes the machine now, if it is running and the site exists.
     fn answer_zap<K: Sink>(&mut self, site: Site, value: u64, out: &mut K) -> Result<(), Failed>
         requires { IsFull self.old.history }
         ensures ready { (o : Object) → Ready o self.old → Ready o self.new }
@@ -161,7 +161,7 @@ impl<'w> Debugger<'w> {
         put_queue(self.present.machine.queue(), out)
     }
 
-    /// Shows the cell of a name.
+    /// Shows the cell with a name.
     fn answer_cell<P: Program, K: Sink>(
         &self,
         program: &P,
@@ -218,7 +218,7 @@ impl<'w> Debugger<'w> {
         put_line(b"break set\n", out)
     }
 
-    /// Does what a command asks, and writes its answer. After a put that failed nothing is put.
+    /// Executes a command, and writes its answer. Nothing is written after a failed put.
     pub fn answer<P: Program, K: Sink>(
         &mut self,
         program: &P,

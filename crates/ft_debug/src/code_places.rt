@@ -1,4 +1,4 @@
-//! Places in the code: blocks, and instructions of them.
+//! Places in the code: instructions in blocks.
 ghost use Rattle.std.specs.Prelude.{◌≡◌, ◌-◌, ◌<◌, ◌≤◌, ℕ, length, count_by, take};
 ghost use Rattle.ft_types.specs.Spellable.{IsSpellable};
 ghost use Rattle.ft_types.specs.Objects.{block_start};
@@ -7,7 +7,7 @@ ghost use Rattle.ft_debug.specs.Places.{shown_place};
 
 use ft_types::Program;
 
-/// An instruction of a block, both counted from 0.
+/// An instruction in a block; both are counted from 0.
 #[derive(Clone, Copy)]
 pub struct Place {
     pub block: u32,
@@ -41,7 +41,7 @@ fn place_in_block<P: Program>(program: &P, i: u32) -> Place
     }
 }
 
-/// Where two counters are, if they are equal and in the code.
+/// The place of two program counters, if they are equal and in the code.
 pub fn place_of<P: Program>(program: &P, green: u64, blue: u64) -> Option<Place>
     requires { IsSpellable (P.object program.now) }
     ensures { shown_place result ≡ counters_text (P.object program.now) green blue }

@@ -59,14 +59,14 @@ impl<'w> Debugger<'w> {
             && self.breaks.contains(address)
     }
 
-    /// Whether the machine runs.
+    /// Whether the machine is running.
     fn is_running(&self) -> bool
         ensures { result ≡ is_running self.now.present.machine.status }
     {
         self.present.machine.status() == Status::Running
     }
 
-    /// Whether the machine is to take one more step.
+    /// Whether the machine takes another step.
     fn goes_on(&self, halts: bool) -> bool
         ensures { result ≡ goes_on halts self.now.breaks self.now.present.machine }
     {
@@ -76,7 +76,7 @@ impl<'w> Debugger<'w> {
         self.is_running()
     }
 
-    /// Takes one step of a running machine, and puts what it commits.
+    /// Steps a running machine once, and writes what it commits.
     fn advance<P: Program, K: Sink>(&mut self, program: &P, out: &mut K) -> Result<(), Failed>
         requires spellable { IsSpellable (P.object program.now) }
         requires ready { Ready (P.object program.now) self.old }
@@ -92,7 +92,7 @@ impl<'w> Debugger<'w> {
         put_output(program, stepped, out)
     }
 
-    /// Takes at most `count` steps, up to the stop, and none from a state at which it is to halt.
+    /// Takes at most `count` steps, until the machine stops or, if `halts`, is at a breakpoint.
     pub fn walk<P: Program, K: Sink>(
         &mut self,
         program: &P,
@@ -116,7 +116,7 @@ impl<'w> Debugger<'w> {
         Ok(())
     }
 
-    /// Takes at most `count` steps, up to the stop; only the first may be taken at a breakpoint.
+    /// Takes at most `count` steps, until the machine stops or is at a breakpoint; the first step may start at one.
     pub fn go<P: Program, K: Sink>(
         &mut self,
         program: &P,
@@ -151,7 +151,8 @@ impl<'w> Debugger<'w> {
         }
     }
 
-    /// Strikes the machine now; `false` exactly if the site does not exist.
+    /// Strikes the machine now. Returns `false`, with nothing changed, exactly if the machine has stopped or the site
+    /// does not exist.
     pub fn zap(&mut self, site: Site, value: u64) -> bool
         requires { IsFull self.old.history }
         ensures there { result ≡ is_there self.old.present.machine site }
@@ -162,7 +163,7 @@ impl<'w> Debugger<'w> {
     }
 }
 
-/// Puts what a step committed, if it committed anything.
+/// Writes what a step committed, if it committed anything.
 fn put_output<P: Program, K: Sink>(program: &P, stepped: Stepped, out: &mut K) -> Result<(), Failed>
     requires spellable { IsSpellable (P.object program.now) }
     requires low { (output : outputs.Output) → stepped ≡ Stepped.Commit output → 1048576 ≤ output.addr }

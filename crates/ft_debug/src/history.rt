@@ -13,8 +13,8 @@ use std::mem;
 /// The maximum number of past moments that are kept.
 const ROOM: usize = 4_096;
 
-/// The last moments of a session, up to 4,096, in a ring that is always full: its last `count` moments are those that
-/// are kept, and the others are there to be filled.
+/// The last moments of a session, up to 4,096, in a ring that is always full: its last `count` moments are the history,
+/// and the others are spare.
 #[derive(Drop)]
 pub struct History<'w> {
     moments: HeapCircularBuffer<Moment<'w>>,
@@ -69,7 +69,7 @@ impl<'w> History<'w> {
         self.count = ROOM.min(self.count + 1);
     }
 
-    /// Makes the newest moment that is kept the present one; it is no longer kept.
+    /// Makes the newest moment of the history the present one, and removes it from the history.
     pub fn take_back(&mut self, present: &mut Moment<'w>)
         requires full { IsFull self.old }
         requires some { 0 < self.old.count }

@@ -7,9 +7,10 @@ ghost use Rattle.ft_semantics.specs.Strike.{struck_before};
 ghost use Rattle.ft_semantics.specs.Run.{state_after, wild_after};
 ghost use Rattle.ft_debug.specs.Sessions.{shown};
 
-/// What a session shows at a position is the state of a run of the machine after as many steps. Without strikes it is
-/// the run without a plan; with one strike it is the run whose plan has that strike, and at the strike's own position
-/// the state is struck already, while the run strikes it with its next step.
+/// With at most one strike, a session shows at each position the state of a run of the machine after that many steps,
+/// and the answers left to wild loads: without a strike, those of the run without a fault; with one, those of the run
+/// whose plan has that strike. At the strike's own position the state shown is already struck, while the run makes the
+/// strike in its next step.
 pub fn sessions_show_runs()
     ensures state { (o : Object) (w : List Wild) (n : ℕ) → (shown o w [] n).state ≡ state_after o None w n }
     ensures wild { (o : Object) (w : List Wild) (n : ℕ) → (shown o w [] n).wild ≡ wild_after o None w n }

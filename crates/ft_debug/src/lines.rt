@@ -50,7 +50,7 @@ pub fn at_line(moment: &Moment<'_>) -> Line
     line
 }
 
-/// The line of a cell's name and a word.
+/// The line with a cell's name and a word.
 pub fn word_line(name: &[u8], word: u64) -> Line
     requires { length name.now ≤ 40 }
     ensures { result ≡ line name.now word }
@@ -74,7 +74,7 @@ pub fn output_line<P: Program>(program: &P, output: Output) -> Line
     word_line(name, output.value)
 }
 
-/// The line of an entry of the store queue.
+/// The line of a store queue entry.
 pub fn entry_line(entry: (u64, u64)) -> Line
     ensures { result ≡ entry_line entry }
 {
@@ -115,7 +115,7 @@ fn colour_text(colour: Colour) -> &'static [u8]
     }
 }
 
-/// The line of a register that holds this.
+/// The line of a register and what it holds.
 pub fn register_line(register: Register, held: Coloured) -> Line
     ensures { result ≡ coloured_line (register_text register) held }
 {
@@ -146,7 +146,7 @@ pub fn where_line<P: Program>(program: &P, moment: &Moment<'_>) -> Line
     line
 }
 
-/// Adds a block and an instruction of it, if the counters are at one: at most 54 bytes.
+/// Adds a place, if there is one: at most 54 bytes.
 fn add_place(line: &mut Line, place: Option<Place>)
     requires { length line.old ≤ 100 }
     ensures added { line.new ≡ line.old ++ shown_place place }

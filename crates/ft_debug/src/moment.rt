@@ -11,7 +11,7 @@ use ft_machine::{Machine, Stepped, WildLeft};
 use ft_types::Program;
 use std::alloc::Global;
 
-/// A state of the machine, the answers that are left to wild loads, and how many steps led there.
+/// A state of the machine, the remaining answers to wild loads, and the number of steps that led there.
 #[derive(Drop)]
 pub struct Moment<'w> {
     pub machine: Machine,
@@ -53,7 +53,7 @@ impl<'w> Moment<'w> {
         self.machine.step(program, &mut self.wild)
     }
 
-    /// Becomes another moment of the same program, without allocating.
+    /// Copies another moment of the same program, without allocating.
     pub fn copy_from(&mut self, other: &Moment<'w>)
         requires { (a : ℕ) → is_cell self.old.machine.cells a ≡ is_cell other.now.machine.cells a }
         ensures { self.new ≡ other.now }

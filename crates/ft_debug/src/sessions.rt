@@ -16,7 +16,7 @@ use ft_script::{Command, read_script};
 use ft_types::Program;
 use std::alloc::Global;
 
-/// Answers commands one after the other, starting with the first.
+/// Answers all commands of a session, in order.
 fn answer_all<P: Program, K: Sink>(
     debugger: &mut Debugger<'_>,
     program: &P,
@@ -38,13 +38,13 @@ fn answer_all<P: Program, K: Sink>(
     Ok(())
 }
 
-/// Runs a script on a program's machine from its start, with the answers to wild loads: writes each line of the session
-/// with one put. `WriteFault` comes only if a put failed, and nothing is put after it; `NoMemory` comes before the
-/// first put.
+/// Runs a script on a program's machine from its start, with these answers to wild loads, and writes each line of the
+/// session with one put. It returns `WriteFault` only after a failed put, which was the last; it returns `NoMemory`
+/// only before the first put.
 ///
 /// A line of the script is `step N`, `go N`, `back N`, `zap SITE V`, `reg R`, `queue`, `cell NAME`, `where` or `break B
-/// I`; N is at most 1,000,000. The state and the last 4,096 before it are kept: only they, the commands and room for 64
-/// breakpoints take memory. A step costs one machine step and one copy of a state.
+/// I`; N is at most 1,000,000. The present state and the last 4,096 before it are kept: only they, the commands and
+/// room for 64 breakpoints take memory. A step costs one machine step and one copy of a state.
 pub fn session<P: Program, K: Sink>(
     alloc: Global,
     program: &P,

@@ -1,4 +1,4 @@
--- The object of a number of turns is accepted.
+-- The sample object is accepted.
 use Rattle.std.proofs.Common.{◌≡◌, ℕ, zero, suc, List, [], ◌∷◌, ◌++◌, length, Some, refl, sym, subst, arith, slice_get}
 use Rattle.std.proofs.lemmas.Grind.{common_steps}
 use Rattle.std.specs.Prelude.{slice_range}
@@ -32,7 +32,7 @@ known k b f = record { colour = k; basic = b; form = f }
 abbrev place : Polynomial
 place = constant 1048576
 
--- what is known between two turns: both colours hold the address of `out` and one value, and nothing is pending
+-- what is known between two turns: both colours hold the address of `out` and the same value, and nothing is pending
 record Holds (c : Context) (f : Polynomial) : Type 0 where
   green_address : typed c 0 ≡ Some (known Green (ref int) place)
   blue_address : typed c 32 ≡ Some (known Blue (ref int) place)
@@ -74,7 +74,7 @@ with_pending f c = record c { queue = c.queue ++ (place, f) ∷ [] }
 abbrev with_stored : Polynomial → Context → Context
 with_stored f c = record c { queue = []; memory = norm_upd c.memory place f }
 
--- a turn applies, and raises the value
+-- the rules apply to a turn, which raises the value
 turn_applies : (o : Object) (c : Context) (f : Polynomial) (i : ℕ) (is : List Instr) → Holds c f
     → Applies o (with_stored (raised i f) (with_values i f c)) is → Applies o c (turn i ++ is)
 unfolding for_typed need same_colour for_ref_over for_oldest is_seen_as same_basic
@@ -91,7 +91,7 @@ turn_applies o c f i is h rest =
     (next_row (with_stored (raised i f) (with_values i f c)) (simp (k.blue_address, k.blue_value, k.queue, same_itself))
     rest)))))
 
--- n turns apply, whatever the value
+-- the rules apply to n turns, whatever the value
 turns_apply : (o : Object) (n i : ℕ) (c : Context) (f : Polynomial) → Holds c f → Applies o c (turns_from i n)
 unfolding for_zero need is_empty
 turns_apply o zero i c f h = last_row (rw (h.d, h.queue) refl)
@@ -113,7 +113,7 @@ opened c =
     with_type 33 (known Blue int (constant 0)) (with_type 1 (known Green int (constant 0))
     (with_type 32 (known Blue (ref int) place) (with_type 0 (known Green (ref int) place) c)))
 
--- the opening applies from the start of a block about whose registers nothing is known
+-- the rules apply to the opening, at the start of a block whose registers are unknown
 opening_applies : (n : ℕ) (c : Context) (is : List Instr) → Applies (sample_object n) (opened c) is →
     Applies (sample_object n) c (opening ++ is)
 unfolding need has_type cell_of same_basic
@@ -124,11 +124,11 @@ opening_applies n c is rest =
     (with_type 32 (known Blue (ref int) place) (with_type 0 (known Green (ref int) place) c))) refl
     (next_row (opened c) refl rest)))
 
--- a list from its first value to its last
+-- the part from a list's first value to its last is the list
 whole_range : (is : List Instr) → slice_range is 0 (length is) ≡ is
 whole_range is = grind (arith, common_steps)
 
--- the one block applies
+-- the rules apply to the only block
 block_applies : (n : ℕ) (b : ℕ) (x : Block) → slice_get (sample_object n).blocks b ≡ Some x →
     Applies (sample_object n) (start_context (sample_object n) x.code_type) (block_instrs (sample_object n) b)
 unfolding registers_after memory_form_of
@@ -148,7 +148,7 @@ block_applies n zero x e =
     }))))
 block_applies n (suc b) x e = absurd cc
 
--- the one cell's word is an integer's
+-- the word of the only cell has the cell's type
 cell_is_typed : (n : ℕ) (k : ℕ) (x : Cell) → slice_get (sample_object n).cells k ≡ Some x →
     HasType (sample_object n) x.init x.basic
 cell_is_typed n zero x e = subst (λ y. HasType (sample_object n) y.init y.basic) (same_Some _ _ e) tt

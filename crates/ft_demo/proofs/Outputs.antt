@@ -17,7 +17,7 @@ last_more : (value : ℕ) (outputs : List Output) (output : Output) → last_val
 last_more value [] output = refl
 last_more value (x ∷ xs) output = last_more x.value xs output
 
--- the tally of one output more
+-- the tally after one more output
 pub tally_more : (first old new : Tally) (before : List Output) (x : Output) → TalliesMore first before old → new.count
     ≡ (old.count + 1) % 2 ^ 64 → new.last ≡ x.value → TalliesMore first (before ++ x ∷ []) new
 tally_more first old new before x h count last = record {

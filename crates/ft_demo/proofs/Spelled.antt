@@ -1,4 +1,4 @@
--- The object of a number of turns is spellable.
+-- The sample object is spellable.
 use Rattle.std.proofs.Common.{◌≡◌, ℕ, zero, suc, ◌+◌, ◌*◌, ◌≤◌, List, [], ◌∷◌, ◌++◌, length, refl, sym, subst, arith}
 use Rattle.std.specs.Prelude.{All, Some, codes, false, slice_get}
 use Rattle.std.specs.List.{AllByRecursion}
@@ -17,11 +17,11 @@ use Rattle.ft_isa.specs.BasicTypes.{int, ref}
 use Rattle.ft_isa.proofs.Lists.{all_of_one}
 use Rattle.ft_demo.specs.Sample.{opening, turns_from, sample_object}
 
--- the one node
+-- the only node
 abbrev one_node : List Node
 one_node = record { scope = 0; shape = shape.Memory } ∷ []
 
--- six instructions a turn, and the end
+-- there are six instructions for each turn, and one for the end
 turns_many : (n i : ℕ) → length (turns_from i n) ≡ 6 * n + 1
 turns_many zero i = refl
 turns_many (suc n) i = let h = turns_many n (suc i) in omega (arith, h)
@@ -31,16 +31,16 @@ turns_bare : (n i : ℕ) → substs_of (turns_from i n) ≡ []
 turns_bare zero i = refl
 turns_bare (suc n) i = turns_bare n (suc i)
 
--- a word that is small
+-- a small number is a word
 small : (w : ℕ) → w ≤ 2000000 → IsWord w
 small w le = omega (arith, le)
 
--- what holds of each value in turn holds of all
+-- what holds by recursion holds of all
 all_in_turn : {X : Type 0} (P : X → Type 0) (xs : List X) → AllByRecursion P xs → All P xs
 all_in_turn P [] h = All-nil P
 all_in_turn P (x ∷ xs) h = All-cons P x xs h.0 (all_in_turn P xs h.1)
 
--- the words of the turns are words
+-- the numbers in the turns are words
 turns_fit : (n i : ℕ) → i + n ≤ 20000 → AllByRecursion (IsInstr 1 1) (turns_from i n)
 turns_fit zero i h = (tt, tt)
 turns_fit (suc n) i h =
@@ -48,7 +48,7 @@ turns_fit (suc n) i h =
     let turn_number = small i (omega (arith, h)) in
     (three, (turn_number, (three, (turn_number, (tt, (tt, turns_fit n (suc i) (omega (arith, h))))))))
 
--- the words of the opening are words
+-- the numbers in the opening are words
 opening_fits : (is : List Instr) → AllByRecursion (IsInstr 1 1) is → All (IsInstr 1 1) (opening ++ is)
 opening_fits is more =
     let out = small 1048576 (omega arith) in
@@ -57,7 +57,7 @@ opening_fits is more =
     let plain : IsBasic 1 int = record { refs = omega arith; base = tt } in
     all_in_turn (IsInstr 1 1) (opening ++ is) ((out, ref_int), ((out, ref_int), ((none, plain), ((none, plain), more))))
 
--- the one node obeys its rules
+-- the only node obeys its rules
 node_is_lawful : (n : ℕ) (x : Node) → slice_get (one_node) n ≡ Some x → IsNode one_node n x
 node_is_lawful zero x e = subst (IsNode one_node 0) (same_Some _ _ e) (record { scope = omega arith; shape = tt })
 node_is_lawful (suc n) x e = absurd cc

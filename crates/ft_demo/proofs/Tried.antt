@@ -9,7 +9,7 @@ use Rattle.ft_isa.specs.declared.plan.Site.TheVariants.{R}
 use Rattle.ft_isa.specs.declared.plan.Strike.{Strike}
 use Rattle.ft_demo.specs.Demonstrations.{fault, first_faults}
 
--- a fault by its register
+-- a fault, given its register
 pub fault_is : (j : ℕ) (register : Reg) → register.number ≡ j → fault j
     ≡ Some (record { step = 16 * j; site = R register; value = j })
 fault_is j register e =
@@ -20,7 +20,7 @@ pub no_faults : first_faults 0 ≡ []
 unfolding first_faults
 no_faults = refl
 
--- one fault more
+-- one more fault
 pub more_faults : (n : ℕ) (x : Strike) → fault n ≡ Some x → first_faults (n + 1) ≡ first_faults n ++ x ∷ []
 unfolding first_faults
 more_faults n x e = let next : n + 1 ≡ suc n = omega arith in
@@ -30,7 +30,7 @@ at_most_one : (f : Option Strike) → length (option_to_list f) ≤ 1
 at_most_one None = omega arith
 at_most_one (Some x) = omega arith
 
--- there are no more faults than registers that were asked for
+-- the list of the first n faults has at most n elements
 pub few_faults : (n : ℕ) → length (first_faults n) ≤ n
 unfolding first_faults
 few_faults zero = omega arith

@@ -1,10 +1,10 @@
--- Turns one after the other.
+-- Turns, one after another.
 use Rattle.std.proofs.Common.{◌≡◌, ℕ, suc, ◌<◌, ◌-◌, ◌+◌, List, ◌++◌, sym, ap, ◌∙◌, arith}
 use Rattle.std.proofs.Common.{append_assoc}
 use Rattle.ft_isa.specs.declared.instr.Instr.{Instr}
 use Rattle.ft_demo.specs.Sample.{turn, turns_from}
 
--- turns that are left begin with the next one
+-- the turns that are left begin with the next one
 pub more_turns : (xs ys zs : List Instr) (i n : ℕ) → i < n → ys ≡ xs ++ turn (i + 1) → xs ++ turns_from (i + 1) (n - i)
     ≡ zs
     → ys ++ turns_from (i + 1 + 1) (n - (i + 1)) ≡ zs

@@ -1,4 +1,4 @@
--- What a demonstration writes: the outputs of the run of the object of n turns, and how many of 64 faults have each verdict.
+-- What a demonstration writes: the outputs of a run of the sample object, and how many of 64 faults have each verdict.
 use Rattle.std.specs.Prelude.{◌≡◌, ℕ, zero, suc, ◌*◌, List, [], ◌∷◌, ◌++◌, length, codes, decimal, count_by, Option, None}
 use Rattle.std.specs.Option.{option_map, option_to_list}
 use Rattle.ft_edge.specs.Logs.{SinkLog}
@@ -47,14 +47,14 @@ AreDemoVerdicts o verdicts = AreVerdicts o (first_faults 64) [] 131072 verdicts
 abbrev pub demo_lines : Object → List Verdict → List (List ℕ)
 demo_lines o verdicts = run_line o ∷ end_line 64 (totals_of verdicts) ∷ []
 
--- a demonstration finished: no verdict is corrupt, and both lines were put
+-- a demonstration finished: no verdict is corrupt, and both lines were written
 pub record Finishes (n : ℕ) (old new : SinkLog) : Type 0 where
   pub found : List Verdict
   pub verdicts : AreDemoVerdicts (sample_object n) found
   pub uncorrupted : count_by is_corrupt found ≡ 0
   pub lines : new ≡ with_lines (demo_lines (sample_object n) found) old
 
--- a put of a demonstration's lines failed
+-- a demonstration stopped: no verdict is corrupt, and the put of a line failed
 pub record Stops (n : ℕ) (old new : SinkLog) : Type 0 where
   pub found : List Verdict
   pub verdicts : AreDemoVerdicts (sample_object n) found

@@ -23,6 +23,6 @@ abbrev pub turns_from : ℕ → ℕ → List Instr
 turns_from i zero = Halt ∷ []
 turns_from i (suc n) = turn i ++ turns_from (suc i) n
 
--- the object of n turns: one block over the one cell `out`
+-- the object of n turns: one block, and the single cell `out`
 abbrev pub sample_object : ℕ → Object
 sample_object n = one_block 0 (opening ++ turns_from 1 n)

@@ -1,4 +1,4 @@
--- What is found before anything is put: private to the crate.
+-- What is found before anything is written: private to the crate.
 use Rattle.std.specs.Prelude.{◌≡◌, ◌+◌, ◌^◌, ◌<◌, List, [], length, count_by, None}
 use Rattle.std.proofs.Common.{refl, sym, add-zero}
 use Rattle.ft_isa.specs.declared.output.Output.{Output}
@@ -18,7 +18,7 @@ pub record Tallies (tally : Tally) (outputs : List Output) : Type 0 where
   pub count : tally.count ≡ length outputs
   pub last : tally.last ≡ last_value_or 0 outputs
 
--- the tally after these outputs, if their number fits: private to the crate
+-- the tally after these outputs, if their number fits
 pub record TalliesMore (old : Tally) (outputs : List Output) (new : Tally) : Type 0 where
   pub count : old.count + length outputs < 2 ^ 64 → new.count ≡ old.count + length outputs
   pub last : new.last ≡ last_value_or old.last outputs
@@ -26,7 +26,7 @@ pub record TalliesMore (old : Tally) (outputs : List Output) (new : Tally) : Typ
 pub tallies_none : (tally : Tally) → TalliesMore tally [] tally
 tallies_none tally = record { count = λ few. sym (add-zero tally.count); last = refl }
 
--- these are the totals of verdicts none of which is corrupt
+-- these are the totals of the faults' verdicts, none of which is corrupt
 pub record AreTotals (o : Object) (faults : List Strike) (totals : Totals) : Type 0 where
   pub found : List Verdict
   pub verdicts : AreVerdicts o faults [] 131072 found

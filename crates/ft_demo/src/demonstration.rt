@@ -33,7 +33,7 @@ pub(crate) struct Shown {
     pub(crate) totals: Totals,
 }
 
-/// The totals of a campaign whose lines are dropped.
+/// The totals of a campaign whose lines are discarded.
 fn totals_of<P: Program, L: Ledger>(
     alloc: Global,
     checked: &Checked<P>,
@@ -69,7 +69,7 @@ fn show_checked<P: Program, L: Ledger>(
     Ok(Shown { tally, totals })
 }
 
-/// What is shown of an accepted program, with a counter of steps of its own.
+/// What is shown of an accepted program, with its own step counter.
 fn show<P: Program, L: Ledger>(alloc: Global, program: &P, blank: Blank) -> Result<Shown, NoMemory>
     requires name { blank.name ≡ L.name }
     requires parts { blank.parts ≡ L.parts }
@@ -113,7 +113,7 @@ fn view_of(bytes: &[u8]) -> View<'_>
     }
 }
 
-/// What is shown of the object of `turns` turns, which is run in place in its bytes, like an object that was loaded.
+/// What is shown of the object of `turns` turns, which is run in place from its bytes, as a loaded object is.
 fn show_sample(alloc: Global, turns: u32) -> Result<Shown, NoMemory>
     requires some { 1 ≤ turns }
     requires few { turns ≤ 10921 }
@@ -126,7 +126,8 @@ fn show_sample(alloc: Global, turns: u32) -> Result<Shown, NoMemory>
 
 /// Makes the object of `turns` turns, from 1 to 10,921, checks it, runs it without a fault for at most 131,072 steps,
 /// and tries 64 faults on it. Writes a line of the outputs and then the last line of the campaign; no verdict is
-/// `Corrupt`. `NoMemory` puts nothing. `WriteFault` comes only if a put failed, and nothing is put after it.
+/// `Corrupt`. If it returns `NoMemory`, nothing was written. It returns `WriteFault` only after a failed put, which was
+/// the last.
 pub fn demo<K: Sink>(alloc: Global, turns: u32, out: &mut K) -> DemoEnd
     requires some { 1 ≤ turns }
     requires few { turns ≤ 10921 }

@@ -1,4 +1,4 @@
-//! The object of a number of turns.
+//! Makes the sample object.
 ghost use Rattle.std.specs.Prelude.{◌≡◌, ◌≤◌, ◌++◌, ◌∷◌, [], IfOk, OnOk};
 ghost use Rattle.ft_demo.specs.Sample.{opening, sample_object, turn, turns_from};
 ghost use Rattle.ft_typing.specs.Accepted.{IsAccepted};
@@ -61,7 +61,7 @@ fn blue(word: u64) -> Coloured
     }
 }
 
-/// Adds two instructions.
+/// Appends two instructions.
 fn put_pair(code: &mut Vec<Instr>, first: Instr, second: Instr) -> Result<(), AllocError>
     ensures { OnOk result (code.new.items ≡ code.old.items ++ first ∷ second ∷ []) }
 {
@@ -102,7 +102,7 @@ fn put_opening(code: &mut Vec<Instr>) -> Result<(), AllocError>
     )
 }
 
-/// Adds the instructions that multiply a register by three and add one more word.
+/// Appends the instructions that multiply a register by three and add a word.
 fn put_value(
     code: &mut Vec<Instr>,
     register: Reg,
@@ -128,7 +128,7 @@ fn put_value(
     )
 }
 
-/// Adds turn `i`.
+/// Appends turn `i`.
 fn put_turn(code: &mut Vec<Instr>, i: u64) -> Result<(), AllocError>
     ensures { OnOk result (code.new.items ≡ code.old.items ++ turn i) }
 {
@@ -171,7 +171,7 @@ fn one<T: Drop>(alloc: Global, value: T) -> Result<Table<T>, AllocError>
     Ok(Table::from_vec(values))
 }
 
-/// The object of `n` turns, whatever their number.
+/// The object of `n` turns, for any `n`.
 fn made(alloc: Global, n: u32) -> Result<Object, AllocError>
     ensures { IfOk result (λ o. o ≡ sample_object n) }
 {
@@ -209,8 +209,8 @@ fn made(alloc: Global, n: u32) -> Result<Object, AllocError>
     })
 }
 
-/// The object of `n` turns, from 1 to 10,921: each triples a value, adds the number of the turn, and
-/// stores it in the cell `out`. It has 6n + 5 instructions, and its run ends after 12n + 10 steps.
+/// The object of `n` turns, from 1 to 10,921: each turn triples a value, adds the number of the turn, and stores it in
+/// the cell `out`. It has 6n + 5 instructions, and its run ends after 12n + 10 steps.
 pub fn sample(alloc: Global, n: u32) -> Result<Object, NoMemory>
     requires some { 1 ≤ n }
     requires few { n ≤ 10921 }

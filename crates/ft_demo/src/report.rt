@@ -22,7 +22,7 @@ fn outputs_line(tally: Tally) -> Line
     line
 }
 
-/// Puts the line of the outputs and the line of the totals of the 64 faults.
+/// Writes the line of the outputs and the line of the totals of the 64 faults.
 pub(crate) fn put_lines<K: Sink>(tally: Tally, totals: Totals, out: &mut K) -> Result<(), Failed>
     ensures { Puts (end_of_puts result) (outputs_line tally.count tally.last ∷ campaign_line 64 totals ∷ []) (K.log out.old) (K.log out.new) }
 {

@@ -1,4 +1,4 @@
--- Each flow step by its instructions.
+-- Each flow step, as its instructions execute it.
 use Rattle.std.proofs.Common.{◌≡◌, ◌≢◌, ℕ, suc, ◌+◌, ◌<◌, true, List, [], ◌∷◌, length, map, Some, refl, ap, ◌∙◌, subst}
 use Rattle.std.proofs.Common.{arith, slice_get, slice_index}
 use Rattle.std.specs.List.{All}
@@ -29,12 +29,12 @@ use Rattle.ft_isa.proofs.Operations.{apply_is_word}
 use Rattle.ft_dup.proofs.Pairs.{add_nothing, PairsHeld, two_held, green_read, blue_read, blue_left, pair_kept}
 use Rattle.ft_dup.proofs.Pairs.{holds_learn, holds_forget, CellsHold, cell_there, cells_set}
 
--- the instructions are in the code from number i
+-- the code has these instructions from index i on
 abbrev pub HasInstrs : List Instr → ℕ → List Instr → Type 0
 HasInstrs code i [] = Unit {0}
 HasInstrs code i (J ∷ js) = (slice_get code i ≡ Some (bare J)) × HasInstrs code (suc i) js
 
--- the pairs of a step
+-- all these pairs are below 32
 abbrev pub Below : List ℕ → Type 0
 Below ps = All (λ q. q < 32) ps
 
@@ -47,7 +47,7 @@ second_pair : (p q : ℕ) (ps : List ℕ) → Below (p ∷ q ∷ ps) → q < 32
 second_pair p q ps h = first_pair q ps (All-tail (λ q. q < 32) p (q ∷ ps) h)
 
 module _ (o : Object) (w : List Wild) where
-  -- from f to g by the instructions from number i on to number t, in j steps of the machine
+  -- j steps of the machine lead from instruction i to instruction t, and from state f of the flow to state g
   pub record Row (k : Known) (j i t : ℕ) (m : Registers) (c : Cells) (f g : FlowState) : Type 0 where
     pub regs : Registers
     pub cells : Cells
@@ -55,7 +55,7 @@ module _ (o : Object) (w : List Wild) where
     pub holds : PairsHeld k regs g.pairs
     pub memory : CellsHold cells g.cells
 
-  -- moves of a word to both registers of a pair
+  -- moves of a word into both registers of a pair
   two_moves : (i p v : ℕ) (m : Registers) (c : Cells) (os : List Output) → i + 2 < 65537 →
       slice_get (map bare o.instrs) i ≡ Some (instr.Mov (green p) (col Green v) int) →
       slice_get (map bare o.instrs) (suc i) ≡ Some (instr.Mov (blue p) (col Blue v) int) →
@@ -125,8 +125,7 @@ module _ (o : Object) (w : List Wild) where
         memory = cells;
       }
 
-  -- what two loads do of the address of a cell, which two instructions before them put into both registers of their
-  -- pair
+  -- the two loads of a pair, after two instructions that leave a cell's address in both its registers
   loads_row : (k : Known) (i p n : ℕ) (m : Registers) (c : Cells) (f : FlowState) → i + 4 < 65537 → p < 32 →
       Leads o 4 (spot i m 0 [] c w f.out) (spot (suc (suc i))
       (two_held m p (col Green (cell_address n)) (col Blue (cell_address n))) 0 [] c w f.out) →
@@ -154,8 +153,7 @@ module _ (o : Object) (w : List Wild) where
         memory = cells;
       }
 
-  -- what two stores do of the address of a cell, which two instructions before them put into both registers of the
-  -- spare
+  -- the two stores through the spare pair, after two instructions that leave a cell's address in both its registers
   stores_row : (k : Known) (i n q s : ℕ) (m : Registers) (c : Cells) (f : FlowState) → i + 4 < 65537 → s < 32 →
       Leads o 4 (spot i m 0 [] c w f.out) (spot (suc (suc i))
       (two_held m s (col Green (cell_address n)) (col Blue (cell_address n))) 0 [] c w f.out) →
@@ -199,7 +197,7 @@ module _ (o : Object) (w : List Wild) where
       stores_row k i n q s m c f short (second_pair q s [] pairs)
       (two_moves i s (cell_address n) m c f.out (omega arith) has.0 has.1.0) has.1.1 there reads.0 reads.1 h cells
 
-  -- the address of the cell of an array that the word of a pair names, in both registers of another one or of the same
+  -- two `idx` put the address of the array cell that pair q selects into both registers of pair p; p may equal q
   two_indexes : (i p q x first n : ℕ) (m : Registers) (c : Cells) (os : List Output) → i + 2 < 65537 → p < 32 → q < 32 →
       slice_get (map bare o.instrs) i ≡ Some (instr.Idx (green p) (green q) first n) →
       slice_get (map bare o.instrs) (suc i) ≡ Some (instr.Idx (blue p) (blue q) first n) → held m (green q).number
@@ -240,7 +238,7 @@ module _ (o : Object) (w : List Wild) where
       (two_indexes i s x (f.pairs x) first n m c f.out (omega arith) lt X.below has.0 has.1.0 X.green X.blue) has.1.1
       there known ne h cells
 
-  -- the target's code address in both registers of the spare
+  -- two moves leave the target's code address in both registers of the spare pair
   to_spare : (i s t : ℕ) (m : Registers) (c : Cells) (os : List Output) → i + 2 < 65537 →
       slice_get (map bare o.instrs) i ≡ Some (instr.Mov (green s) (col Green (code_address t)) int) →
       slice_get (map bare o.instrs) (suc i) ≡ Some (instr.Mov (blue s) (col Blue (code_address t)) int) →
@@ -299,7 +297,7 @@ module _ (o : Object) (w : List Wild) where
         memory = cells;
       }
 
-  -- and if it does not
+  -- `Exit` by its four instructions, if the pair does not hold 0
   pub exit_other_row : (k : Known) (i q s to x : ℕ) (m : Registers) (c : Cells) (f : FlowState) (start : ℕ → ℕ) →
       i + 4 < 65537 → HasInstrs (map bare o.instrs) i (image start (Exit q s to)) → Below (pairs_of (Exit q s to)) → k q
       ≡ true → q ≢ s → f.pairs q ≡ suc x → PairsHeld k m f.pairs → CellsHold c f.cells →

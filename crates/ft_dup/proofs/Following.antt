@@ -38,7 +38,7 @@ use Rattle.ft_dup.proofs.Laying.{blocks_length, Laid, laid}
 
 -- WHAT IS KNOWN
 
--- what is known after one step more
+-- what is known after one more step
 row_known-append : (k : Known) (o : List Step3) (i : Step3) → row_known k (o ++ i ∷ []) ≡ known_after i (row_known k o)
 row_known-append k [] i = refl
 row_known-append k (x ∷ o) i = row_known-append (known_after x k) o i
@@ -47,7 +47,7 @@ row_known-append k (x ∷ o) i = row_known-append (known_after x k) o i
 pub no_known : false ≡ true → ⊥
 no_known e = cc
 
--- the cell of an array that a word names is there
+-- the array cell that a word selects exists
 named_cell : (begin many x cells : ℕ) → 0 < many → begin + many ≤ cells → cell_of_run begin many x < cells
 named_cell begin many x cells some within = omega (arith, mod-lt x some, within)
 
@@ -60,7 +60,7 @@ pub record Agrees (vars : ℕ) (bs : Blocks) (f : FlowState) (r : Ran) : Type 0 
   pub status : r.state.status ≡ cond f.done Done Running
   pub holds : f.done ≡ false → Holds (known_at vars bs f.place) f.pairs r.state
 
--- each step becomes an instruction
+-- each step becomes at least one instruction
 size_some : (s : Step3) → 1 ≤ size s
 size_some (Put p w) = omega arith
 size_some (Copy p q) = omega arith
@@ -94,7 +94,7 @@ module _ (o : Object) (vars cells : ℕ) (bs : Blocks) (W : IsWell vars cells bs
       pub words : All IsWord cs
       pub running : done ≡ false
 
-    -- a running flow is before the steps `rest` of its block, after the steps `front`, and the machine with it
+    -- a running flow is between the steps `front` and the steps `rest` of its block, and so is the machine
     pub record At (f : FlowState) (i : ℕ) (m : Registers) (c : Cells) (front rest : List Step3) (known : Known) : Type 0
       where
         pub within : f.place.block < length bs
@@ -119,11 +119,11 @@ module _ (o : Object) (vars cells : ℕ) (bs : Blocks) (W : IsWell vars cells bs
           At f i m c front rest known → Beside f (from f i m c)
       over : {r : Ran} → f.done ≡ true → Agrees vars bs f r → Beside f r
 
-    -- a step of the flow leads on, and as many of the machine as it costs
+    -- after a step of the flow and the machine steps that it costs, both are at the same place again
     data Onward (s : Step3) (f : FlowState) (r : Ran) : Type 0 where
       onward : (g : FlowState) (q : Ran) → act s f ≡ g → Leads o (2 * size s) r q → Beside g q → Onward s f r
 
-    -- after a step that goes on
+    -- after a step that continues with the next one
     goes : (f g : FlowState) (i j : ℕ) (m n : Registers) (c d : Cells) (s : Step3) (front rest : List Step3)
         (known : Known) → At f i m c front (s ∷ rest) known → IsBlock rest → g.place ≡ on f.place → j ≡ i + size s →
         PairsHeld (known_after s known) n g.pairs → CellsHold d g.cells → Fine g.cells g.done →
@@ -153,7 +153,7 @@ module _ (o : Object) (vars cells : ℕ) (bs : Blocks) (W : IsWell vars cells bs
         let l : q < vars = ltb-true q vars lt in
         h q (ap (λ b. cond b false (k q)) (ne_eqb q spare (λ e. let x = J.free in omega arith)) ∙ J.known q l)
 
-    -- after a step that goes to a block
+    -- after a step that jumps to a block
     jumps : (k : Known) (spare to : ℕ) (g : FlowState) (n : Registers) (d : Cells) → IsTarget (length bs) to →
         KeepsVariables vars k spare → g.place ≡ first to → PairsHeld (forget spare k) n g.pairs → CellsHold d g.cells →
         Fine g.cells g.done → At g (start_of bs to) n d [] (block_of bs to) (known_first vars to)
@@ -175,7 +175,7 @@ module _ (o : Object) (vars cells : ℕ) (bs : Blocks) (W : IsWell vars cells bs
           fine = fine;
         }
 
-    -- a step that goes on, with its row
+    -- a step that continues with the next one, given its row
     on_row : (f g : FlowState) (i j : ℕ) (m : Registers) (c : Cells) (s : Step3) (front rest : List Step3)
         (known : Known)
         → At f i m c front (s ∷ rest) known → IsBlock rest → act s f ≡ g → g.place ≡ on f.place → j ≡ i + size s →
@@ -185,7 +185,7 @@ module _ (o : Object) (vars cells : ℕ) (bs : Blocks) (W : IsWell vars cells bs
         (standing j R.regs R.cells (front ++ s ∷ []) rest (known_after s known)
         (goes f g i j m R.regs c R.cells s front rest known A ended place num R.holds R.memory fine))
 
-    -- a step that goes to a block, with its row
+    -- a step that jumps to a block, given its row
     to_row : (f g : FlowState) (i to spare : ℕ) (m : Registers) (c : Cells) (s : Step3) (front rest : List Step3)
         (known : Known) → At f i m c front (s ∷ rest) known → IsTarget (length bs) to →
         KeepsVariables vars known spare →
@@ -196,7 +196,7 @@ module _ (o : Object) (vars cells : ℕ) (bs : Blocks) (W : IsWell vars cells bs
         (standing (start_of bs to) R.regs R.cells [] (block_of bs to) (known_first vars to)
         (jumps known spare to g R.regs R.cells T J place R.holds R.memory fine))
 
-    -- an exit, by the word that it tests
+    -- an exit, by cases on the word that it tests
     exit_by : (v : ℕ) (f : FlowState) (i : ℕ) (m : Registers) (c : Cells) (q s to : ℕ) (front rest : List Step3)
         (known : Known) → At f i m c front (Exit q s to ∷ rest) known →
         Laid (map bare o.instrs) i (start_of bs) (Exit q s to) → i + 4 < 65537 → Below (pairs_of (Exit q s to)) →
@@ -214,7 +214,7 @@ module _ (o : Object) (vars cells : ℕ) (bs : Blocks) (W : IsWell vars cells bs
         (omega arith) A.fine
         (exit_other_row o w known i q s to v m c f (start_of bs) n L.has p r.0 r.1 is A.holds A.memory)
 
-    -- one step of the flow, by its kind
+    -- one step of the flow, by cases on its kind
     by_step : (f : FlowState) (i : ℕ) (m : Registers) (c : Cells) (s : Step3) (front rest : List Step3) (known : Known)
         →
         At f i m c front (s ∷ rest) known → Laid (map bare o.instrs) i (start_of bs) s → i + size s < 65537 →
@@ -288,7 +288,7 @@ module _ (o : Object) (vars cells : ℕ) (bs : Blocks) (W : IsWell vars cells bs
         } in
         onward g z refl T.1 (over refl agrees)
 
-    -- the code is short
+    -- the code has at most 65,536 instructions
     code_short : length (map bare o.instrs) ≤ 65536
     code_short = let x = W.short in omega (
       arith,
@@ -297,7 +297,7 @@ module _ (o : Object) (vars cells : ℕ) (bs : Blocks) (W : IsWell vars cells bs
       blocks_length (start_of bs) bs,
     )
 
-    -- one step, with what it costs
+    -- after a step and what it costs, both are at the same place
     one_by : (f : FlowState) (r : Ran) (s : Step3) → f.done ≡ false → step_at bs f.place ≡ Some s → Onward s f r →
         Beside (flow_step bs f) (iterate (machine_step o) (cost_if f.done (step_at bs f.place)) r)
     one_by f r s runs at (onward g q eq l h) =
@@ -306,7 +306,7 @@ module _ (o : Object) (vars cells : ℕ) (bs : Blocks) (W : IsWell vars cells bs
         let e = ap (λ n. iterate (machine_step o) n r) (costs bs f s runs at) ∙ l.is in
         subst (Beside (flow_step bs f)) (sym e) (subst (λ x. Beside x q) (sym to) h)
 
-    -- a running flow has a step to take, and one that is done stays
+    -- a running flow has a step to take; one that is done stays as it is
     one : (f : FlowState) (r : Ran) → Beside f r → Beside (flow_step bs f)
         (iterate (machine_step o) (cost_if f.done (step_at bs f.place)) r)
     one f _ (standing i m c front [] known A) = absurd A.ended
@@ -319,7 +319,7 @@ module _ (o : Object) (vars cells : ℕ) (bs : Blocks) (W : IsWell vars cells bs
     one f r (over d h) = subst (λ b. Beside (act_if b (step_at bs f.place) f)
         (iterate (machine_step o) (cost_if b (step_at bs f.place)) r)) (sym d) (over d h)
 
-    -- what is known at their place is held
+    -- the machine holds the pairs known at the flow's place
     held_at : (f : FlowState) (i : ℕ) (m : Registers) (c : Cells) (front rest : List Step3) (known : Known) →
         At f i m c front rest known → Holds (known_at vars bs f.place) f.pairs (from f i m c).state
     held_at f i m c front rest known A =
@@ -336,7 +336,7 @@ module _ (o : Object) (vars cells : ℕ) (bs : Blocks) (W : IsWell vars cells bs
           queue = refl;
         })
 
-    -- they agree
+    -- at the same place, they agree
     pub agrees : (f : FlowState) (r : Ran) → Beside f r → Agrees vars bs f r
     agrees f _ (standing i m c front rest known A) = record {
       out = refl;
@@ -351,7 +351,7 @@ module _ (o : Object) (vars cells : ℕ) (bs : Blocks) (W : IsWell vars cells bs
         Beside (steps bs k f) (iterate (machine_step o) (cost bs k f) r)
     follow = follows (flow_step bs) (λ f. cost_if f.done (step_at bs f.place)) (machine_step o) Beside one
 
-    -- each step of a running flow costs some
+    -- k steps of a running flow cost at least k
     pub pace : (k : ℕ) (f : FlowState) (r : Ran) → Beside f r → (steps bs k f).done ≡ false → k ≤ cost bs k f
     pace zero f r h e = omega arith
     pace (suc k) f _ (standing i m c front [] known A) e = absurd A.ended

@@ -13,7 +13,7 @@ use Rattle.ft_dup.specs.Images.{image, row_images, blocks_images, start_of, doub
 use Rattle.ft_dup.specs.Doubles.{bare}
 use Rattle.ft_dup.proofs.FlowSteps.{HasInstrs}
 
--- the images of two rows
+-- the images of two rows, one after the other
 row_images-append : (start : ℕ → ℕ) (a b : List Step3) → row_images start (a ++ b) ≡ row_images start a
     ++ row_images start b
 row_images-append start [] b = refl
@@ -22,7 +22,7 @@ row_images-append start (i ∷ a) b = ap (λ l. image start i ++ l) (row_images-
 
 -- HOW MANY INSTRUCTIONS
 
--- an image has as many instructions as its step has size
+-- the length of an image is the size of its step
 image_length : (start : ℕ → ℕ) (i : Step3) → length (image start i) ≡ size i
 image_length start (Put p w) = refl
 image_length start (Copy p q) = refl
@@ -35,13 +35,13 @@ image_length start (Exit q s to) = refl
 image_length start (Go s to) = refl
 image_length start Stop = refl
 
--- the images of a row have as many instructions as the sizes of its steps say
+-- the length of a row's images is the size of the row
 row_length : (start : ℕ → ℕ) (is : List Step3) → length (row_images start is) ≡ row_size is
 row_length start [] = refl
 row_length start (i ∷ is) = length-append (image start i) (row_images start is)
     ∙ omega (arith, image_length start i, row_length start is)
 
--- blocks have as many instructions as their size says
+-- the length of the blocks' images is the size of the blocks
 pub blocks_length : (start : ℕ → ℕ) (bs : Blocks) → length (blocks_images start bs) ≡ blocks_size bs
 blocks_length start [] = refl
 blocks_length start (b ∷ bs) = length-append (row_images start b) (blocks_images start bs)
@@ -85,12 +85,12 @@ among start (x ∷ bs) (suc b) front rest s h e =
       long = length-append row A.before ∙ omega (arith, row_length start x, A.long);
     }
 
--- two lists of instructions without their claims
+-- removing the claims from two lists, one after the other
 map_append : (a b : List Instr) → map bare (a ++ b) ≡ map bare a ++ map bare b
 map_append [] b = refl
 map_append (x ∷ a) b = ap (λ l. bare x ∷ l) (map_append a b)
 
--- a list begins where what is before it ends
+-- a list begins where the list before it ends
 has_here : (js : List Instr) (A C : List Instr) → HasInstrs (A ++ (map bare js ++ C)) (length A) js
 has_here [] A C = tt
 has_here (J ∷ js) A C =
@@ -109,7 +109,7 @@ pub record Laid (code : List Instr) (i : ℕ) (start : ℕ → ℕ) (s : Step3) 
   pub has : HasInstrs code i (image start s)
   pub short : i + size s ≤ length code
 
--- each step of a block is laid where the block begins and the steps before it end
+-- each step of a block is laid where the steps before it end
 pub laid : (bs : Blocks) (code : List Instr) (b : ℕ) (front rest : List Step3) (s : Step3) → code
     ≡ map bare (doubled bs) → b < length bs → block_of bs b ≡ front ++ s ∷ rest →
     Laid code (start_of bs b + row_size front) (start_of bs) s

@@ -21,34 +21,34 @@ use Rattle.ft_dup.proofs.Stretches.{col, held_same, held_other}
 
 -- THE REGISTERS OF A PAIR
 
--- the green register of a pair has its number
+-- the green register of pair p has number p
 green_number : (p : ℕ) → p < 32 → (green p).number ≡ p
 green_number p h =
     let l : p < 64 = omega arith in
     ap (λ (r : Option Reg). (unwrap_or r register_zero).number) (sym (some_reg p (nat_lt p 64) refl l (lt-ltb p 64 l)))
 
--- the number of the blue register of a pair is 32 more
+-- the blue register of pair p has number 32 + p
 pub blue_number : (p : ℕ) → p < 32 → (blue p).number ≡ 32 + p
 blue_number p h =
     let l : 32 + p < 64 = omega arith in
     ap (λ (r : Option Reg). (unwrap_or r register_zero).number)
     (sym (some_reg (32 + p) (nat_lt (32 + p) 64) refl l (lt-ltb (32 + p) 64 l)))
 
--- a green register is not a blue one
+-- no green register is a blue one
 green_no_blue : (p q : ℕ) → p < 32 → q < 32 → (green p).number ≢ (blue q).number
 green_no_blue p q h k e = let f : p ≡ 32 + q = sym (green_number p h) ∙ e ∙ blue_number q k in omega arith
 
--- other pairs have other green registers
+-- different pairs have different green registers
 pub greens_differ : (p q : ℕ) → p < 32 → q < 32 → q ≢ p → (green q).number ≢ (green p).number
 greens_differ p q h k ne e = ne (sym (green_number q k) ∙ e ∙ green_number p h)
 
--- other pairs have other blue registers
+-- different pairs have different blue registers
 pub blues_differ : (p q : ℕ) → p < 32 → q < 32 → q ≢ p → (blue q).number ≢ (blue p).number
 blues_differ p q h k ne e = ne (let f : 32 + q ≡ 32 + p = sym (blue_number q k) ∙ e ∙ blue_number p h in omega arith)
 
 -- WORDS
 
--- the sum of a word and 0 is the word
+-- adding 0 leaves a word unchanged
 pub add_nothing : (a : ℕ) → IsWord a → apply op.Add a 0 ≡ a
 unfolding apply
 add_nothing a h = omega arith
@@ -62,29 +62,29 @@ pub record Pair (m : Registers) (ps : ℕ → ℕ) (q : ℕ) : Type 0 where
   pub green : held m (green q).number ≡ col Green (ps q)
   pub blue : held m (blue q).number ≡ col Blue (ps q)
 
--- so do those of each known pair
+-- each known pair holds its word
 abbrev pub PairsHeld : Known → Registers → (ℕ → ℕ) → Type 0
 PairsHeld k m ps = (q : ℕ) → k q ≡ true → Pair m ps q
 
--- the registers of pair p are written
+-- the registers after pair p was written
 abbrev pub two_held : Registers → ℕ → Coloured → Coloured → Registers
 two_held m p x y = with_held (with_held m (green p).number x) (blue p).number y
 
--- what the green register of a written pair holds
+-- the green register of a written pair
 pub green_read : (m : Registers) (p : ℕ) (x y : Coloured) → p < 32 → held (two_held m p x y) (green p).number ≡ x
 green_read m p x y h = held_other (with_held m (green p).number x) (blue p).number y (green p).number
     (green_no_blue p p h h) ∙ held_same m (green p).number x
 
--- what the blue register of a written pair holds
+-- the blue register of a written pair
 pub blue_read : (m : Registers) (p : ℕ) (x y : Coloured) → held (two_held m p x y) (blue p).number ≡ y
 blue_read m p x y = held_same (with_held m (green p).number x) (blue p).number y
 
--- a green write leaves the blue registers
+-- a green write leaves the blue registers unchanged
 pub blue_left : (m : Registers) (p q : ℕ) (x : Coloured) → p < 32 → q < 32 →
     held (with_held m (green p).number x) (blue q).number ≡ held m (blue q).number
 blue_left m p q x h k = held_other m (green p).number x (blue q).number (λ e. green_no_blue p q h k (sym e))
 
--- another pair is held after the write
+-- every other pair still holds its word after the write
 pub pair_kept : (m : Registers) (ps qs : ℕ → ℕ) (p q : ℕ) (x y : Coloured) → p < 32 → q ≢ p → qs q ≡ ps q →
     Pair m ps q → Pair (two_held m p x y) qs q
 pair_kept m ps qs p q x y lt ne e h =
@@ -99,7 +99,7 @@ pair_kept m ps qs p q x y lt ne e h =
           ∙ blue_left m p q x lt b ∙ h.blue ∙ ap (col Blue) (sym e);
     }
 
--- the pair that got one word in both colours is held after the write
+-- a pair written with one word in both colours holds that word
 pair_put : (m : Registers) (qs : ℕ → ℕ) (p v : ℕ) → p < 32 → IsWord v → qs p ≡ v →
     Pair (two_held m p (col Green v) (col Blue v)) qs p
 pair_put m qs p v lt h e = record {
@@ -109,11 +109,11 @@ pair_put m qs p v lt h e = record {
   blue = blue_read m p (col Green v) (col Blue v) ∙ ap (col Blue) (sym e);
 }
 
--- another pair that is known after learning was known before
+-- any other pair that is known after p is learned was known before
 pub learned : (k : Known) (p q : ℕ) → q ≢ p → learn p k q ≡ true → k q ≡ true
 learned k p q ne h = sym (ap (λ b. cond b true (k q)) (ne_eqb q p ne)) ∙ h
 
--- a pair that is known after forgetting is another one, and was known before
+-- a pair that is known after p is forgotten is another one, and was known before
 pub forgotten : (k : Known) (p q : ℕ) → forget p k q ≡ true → (q ≢ p) × (k q ≡ true)
 forgotten k p q h = elim (cases_eq q p) [
   | inl e ↦ absurd (not_false (sym (ap (λ b. cond b false (k q)) (eq-eqb q p e))
@@ -124,7 +124,7 @@ forgotten k p q h = elim (cases_eq q p) [
     not_false : false ≡ true → ⊥
     not_false e = cc
 
--- a pair is learned if both its registers get its word
+-- a pair is learned if the same word is written to both its registers
 pub holds_learn : (k : Known) (n : Registers) (f : FlowState) (p v : ℕ) → p < 32 → IsWord v →
     ((q : ℕ) → q ≢ p → k q ≡ true → Pair n f.pairs q) →
     PairsHeld (learn p k) (two_held n p (col Green v) (col Blue v)) (with_pair p v f).pairs
@@ -136,7 +136,7 @@ holds_learn k n f p v lt h old = λ q known.
           (other_pair p v f q ne) (old q ne (learned k p q ne known))
     ]
 
--- a pair is forgotten if its registers get anything; the other known pairs are still held
+-- a pair is forgotten if anything is written to its registers; the other known pairs still hold their words
 pub holds_forget : (k : Known) (m : Registers) (f : FlowState) (p v : ℕ) (x y : Coloured) → p < 32 →
     PairsHeld k m f.pairs → PairsHeld (forget p k) (two_held m p x y) (with_pair p v f).pairs
 holds_forget k m f p v x y lt old = λ q known.
@@ -145,16 +145,16 @@ holds_forget k m f p v x y lt old = λ q known.
 
 -- CELLS
 
--- the words at the cells' addresses
+-- memory holds these words at the cells' addresses
 abbrev pub CellsHold : Cells → List ℕ → Type 0
 CellsHold m cs = (c : ℕ) → cell_at m (cell_address c) ≡ slice_get cs c
 
--- the word of a cell that is there
+-- the word of an existing cell
 pub cell_there : (m : Cells) (cs : List ℕ) (c : ℕ) → CellsHold m cs → c < length cs → cell_at m (cell_address c)
     ≡ Some (slice_index cs c)
 cell_there m cs c h lt = h c ∙ slice_get-get_or cs c 0 lt
 
--- the other elements of a list stay
+-- setting an element leaves the others unchanged
 get_set_other : (cs : List ℕ) (c v d : ℕ) → d ≢ c → slice_get (slice_set cs c v) d ≡ slice_get cs d
 get_set_other [] c v d ne = refl
 get_set_other (x ∷ cs) zero v zero ne = absurd (ne refl)
@@ -162,7 +162,7 @@ get_set_other (x ∷ cs) zero v (suc d) ne = refl
 get_set_other (x ∷ cs) (suc c) v zero ne = refl
 get_set_other (x ∷ cs) (suc c) v (suc d) ne = get_set_other cs c v d (λ e. ne (ap suc e))
 
--- a cell of both is set
+-- setting a cell in both
 pub cells_set : (m : Cells) (cs : List ℕ) (c v : ℕ) → c < length cs → CellsHold m cs →
     CellsHold (with_cell m (cell_address c) v) (slice_set cs c v)
 cells_set m cs c v lt h = λ d.

@@ -1,4 +1,4 @@
--- Stretches of a run without a strike, and what two steps of it do: a fetch and an instruction.
+-- Stretches of a run without a strike, and the effect of two steps: a fetch and an instruction.
 use Rattle.std.proofs.Common.{◌≡◌, ◌≢◌, ℕ, zero, suc, ◌+◌, ◌<◌, cond, List, [], ◌∷◌, ◌++◌, map, ◌==◌, ◌&&◌, not, Some}
 use Rattle.std.proofs.Common.{None, is_some, refl, sym, ap, ◌∙◌, subst, arith, slice_get}
 use Rattle.std.proofs.lemmas.Bool.{ne_eqb, eq-eqb}
@@ -33,7 +33,7 @@ use Rattle.ft_dup.specs.Doubles.{bare}
 abbrev pub machine_step : Object → Ran → Ran
 machine_step o r = extended r.outputs (step o r.state r.wild)
 
--- a run with no strike is steps from its start
+-- a run with no strike repeats steps from its start
 pub run_is : (o : Object) (w : List Wild) (n : ℕ) → run o None w n ≡ iterate (machine_step o) n (run o None w 0)
 unfolding run
 run_is o w zero = refl
@@ -43,11 +43,11 @@ run_is o w (suc n) = ap (machine_step o) (run_is o w n) ∙ sym (iterate_last (m
 abbrev pub Leads : Object → ℕ → Ran → Ran → Type 0
 Leads o = steps.Leads (machine_step o)
 
--- stretches in a row
+-- consecutive stretches join
 pub lead_on : (o : Object) (i j : ℕ) (r q z : Ran) → Leads o i r q → Leads o j q z → Leads o (i + j) r z
 lead_on o = steps.lead_on (machine_step o)
 
--- between two instructions, with these counters
+-- a state between two instructions, with both counters at x
 abbrev pub stands : ℕ → Registers → ℕ → Pending → Cells → State
 stands x m d q c = record {
   registers = m;
@@ -64,35 +64,35 @@ stands x m d q c = record {
 abbrev pub ran : State → List Wild → List Output → Ran
 ran s w os = record { state = s; wild = w; outputs = os }
 
--- before the instruction of number i
+-- the point before instruction i
 abbrev pub spot : ℕ → Registers → ℕ → Pending → Cells → List Wild → List Output → Ran
 spot i m d q c w os = ran (stands (suc i) m d q c) w os
 
--- the same with an instruction fetched
+-- the state there with an instruction fetched
 abbrev pub fetched_state : ℕ → Registers → ℕ → Pending → Cells → Instr → State
 fetched_state i m d q c I = record (stands (suc i) m d q c) { fetched = Some I }
 
 -- A FETCH AND AN INSTRUCTION
 
--- claims and substitutions do nothing
+-- claims and substitutions have no effect
 execute_bare : (I : Instr) (s : State) (w : List Wild) → execute I s w ≡ execute (bare I) s w
 execute_bare (instr.Mov rd v b) s w = refl
 execute_bare (instr.JmpB rd t) s w = refl
 execute_bare (instr.BzB rz rd t) s w = refl
 execute_bare I s w = refl
 
--- an instruction there without its claims
+-- the instruction of the code whose bare form this is
 get_bare : (xs : List Instr) (i : ℕ) (J : Instr) → slice_get (map bare xs) i ≡ Some J → (I : Instr)
     × (slice_get xs i ≡ Some I) × (bare I ≡ J)
 get_bare [] i J h = absurd cc
 get_bare (x ∷ xs) zero J h = (x, refl, cc)
 get_bare (x ∷ xs) (suc i) J h = get_bare xs i J h
 
--- a step without an output leaves the outputs
+-- a step without an output leaves the outputs unchanged
 quiet_ran : (os : List Output) (s : State) (w : List Wild) → extended os (quiet s w) ≡ ran s w os
 quiet_ran os s w = ap (ran s w) (append-nil os)
 
--- a fetch and the instruction, which is known except for its claims
+-- a fetch and an instruction that is known except for its claims
 pub two_any : (o : Object) (J : Instr) (i : ℕ) (m : Registers) (d : ℕ) (q : Pending) (c : Cells) (w : List Wild)
     (os : List Output) → slice_get (map bare o.instrs) i ≡ Some J → (I : Instr)
     × Leads o 2 (spot i m d q c w os) (extended os (execute J (fetched_state i m d q c I) w))
@@ -108,7 +108,7 @@ two_any o J i m d q c w os at =
     ap (extended os) (execute_bare I.0 f w) ∙ ap (λ x. extended os (execute x f w)) I.2 in
     (I.0, record { is = ap (machine_step o) a ∙ b })
 
--- the same if its result is known
+-- the same for an instruction whose result is known
 two : (o : Object) (J : Instr) (i : ℕ) (m : Registers) (d : ℕ) (q : Pending) (c : Cells) (w : List Wild)
     (os : List Output) (t : Stepping) → slice_get (map bare o.instrs) i ≡ Some J →
     ((I : Instr) → execute J (fetched_state i m d q c I) w ≡ t) → Leads o 2 (spot i m d q c w os) (extended os t)
@@ -116,24 +116,24 @@ two o J i m d q c w os t at does =
     let T = two_any o J i m d q c w os at in
     subst (λ x. Leads o 2 (spot i m d q c w os) (extended os x)) (does T.0) T.1
 
--- and if it is quiet
+-- the same for an instruction without an output
 two_quiet : (o : Object) (J : Instr) (i : ℕ) (m : Registers) (d : ℕ) (q : Pending) (c : Cells) (w : List Wild)
     (os : List Output) (s : State) → slice_get (map bare o.instrs) i ≡ Some J →
     ((I : Instr) → execute J (fetched_state i m d q c I) w ≡ quiet s w) → Leads o 2 (spot i m d q c w os) (ran s w os)
 two_quiet o J i m d q c w os s at does = subst (Leads o 2 (spot i m d q c w os)) (quiet_ran os s w)
     (two o J i m d q c w os (quiet s w) at does)
 
--- a counter in the code has a next one
+-- a counter in the code does not overflow
 next_small : (i : ℕ) → i < 65537 → next (suc i) ≡ suc (suc i)
 next_small i h = omega arith
 
 -- REGISTERS
 
--- a register that was written
+-- reading the register that was written
 pub held_same : (m : Registers) (r : ℕ) (x : Coloured) → held (with_held m r x) r ≡ x
 held_same m r x = held-with_held m r x r ∙ ap (λ b. cond b x (held m r)) (eq-eqb r r refl)
 
--- a register that was not written
+-- reading another register
 pub held_other : (m : Registers) (r : ℕ) (x : Coloured) (q : ℕ) → q ≢ r → held (with_held m r x) q ≡ held m q
 held_other m r x q ne = held-with_held m r x q ∙ ap (λ b. cond b x (held m q)) (ne_eqb q r ne)
 
@@ -173,7 +173,7 @@ module _ (o : Object) (w : List Wild) (i : ℕ) (short : i < 65537) where
       ap (λ (h : Coloured). machine.writes rd h.colour (apply op h.word y) (fetched_state i m 0 [] c I) w) es
       ∙ goes_by (with_held m rd.number (col k (apply op x y))) 0 [] c)
 
-  -- the address of the cell of a run that a register names
+  -- an `idx`: the address of the array cell that a register selects
   pub index : (m : Registers) (c : Cells) (os : List Output) (rd rs : Reg) (first n x : ℕ) (k : Colour) →
       slice_get (map bare o.instrs) i ≡ Some (instr.Idx rd rs first n) → held m rs.number ≡ col k x →
       Leads o 2 (spot i m 0 [] c w os) (spot (suc i) (with_held m rd.number (col k (cell_in_run first n x))) 0 [] c w
@@ -182,7 +182,7 @@ module _ (o : Object) (w : List Wild) (i : ℕ) (short : i < 65537) where
       ap (λ (h : Coloured). machine.writes rd h.colour (cell_in_run first n h.word) (fetched_state i m 0 [] c I) w) es
       ∙ goes_by (with_held m rd.number (col k (cell_in_run first n x))) 0 [] c)
 
-  -- what is in a cell is found if nothing is pending
+  -- a read finds what the cell holds if nothing is pending
   finds : (k : Colour) (m : Registers) (c : Cells) (a : ℕ) (I : Instr) → machine.found k (fetched_state i m 0 [] c I) a
       ≡ cell_at c a
   unfolding newest_at
@@ -209,7 +209,7 @@ module _ (o : Object) (w : List Wild) (i : ℕ) (short : i < 65537) where
       ∙ ap (λ (h : Coloured). machine.store_green a h.word s w) es
       ∙ goes_by m 0 ((a, v) ∷ []) c)
 
-  -- a blue store of the one pending entry, which is an output
+  -- a blue store that commits the only pending store as an output
   pub store_blue : (m : Registers) (c : Cells) (os : List Output) (rd rs : Reg) (a v x : ℕ) →
       slice_get (map bare o.instrs) i ≡ Some (instr.St Blue rd rs) → held m rd.number ≡ col Blue a → held m rs.number
       ≡ col Blue v → cell_at c a ≡ Some x → Leads o 2 (spot i m 0 ((a, v) ∷ []) c w os)
@@ -267,7 +267,7 @@ module _ (o : Object) (w : List Wild) (i : ℕ) (short : i < 65537) where
       ∙ ap (λ (h : Coloured). machine.jump_green h.word s w) ed
       ∙ goes_by m a [] c)
 
-  -- a green branch that is not
+  -- a green branch that is not taken
   pub branch_green_other : (m : Registers) (c : Cells) (os : List Output) (rz rd : Reg) (x : ℕ) →
       slice_get (map bare o.instrs) i ≡ Some (instr.BzG rz rd) → held m rz.number ≡ col Green (suc x) →
       Leads o 2 (spot i m 0 [] c w os) (spot (suc i) m 0 [] c w os)
@@ -288,7 +288,7 @@ module _ (o : Object) (w : List Wild) (i : ℕ) (short : i < 65537) where
       ∙ ap (λ (h : Coloured). machine.jump_blue h.word s w) ed
       ∙ jumps m c t I)
 
-  -- a blue branch that is not
+  -- a blue branch that is not taken
   pub branch_blue_other : (m : Registers) (c : Cells) (os : List Output) (rz rd : Reg) (x : ℕ) →
       slice_get (map bare o.instrs) i ≡ Some (instr.BzB rz rd empty) → held m rz.number ≡ col Blue (suc x) →
       Leads o 2 (spot i m 0 [] c w os) (spot (suc i) m 0 [] c w os)

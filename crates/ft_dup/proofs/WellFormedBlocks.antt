@@ -1,4 +1,4 @@
--- Where blocks begin, and the shape of well formed blocks.
+-- Where blocks begin, and the shape of well-formed blocks.
 use Rattle.std.proofs.Common.{◌≡◌, ℕ, zero, suc, ◌+◌, ◌<◌, List, [], ◌∷◌, ◌++◌, map, length, slice_index, get_or, refl}
 use Rattle.std.proofs.Common.{sym, ap, ◌∙◌, subst, arith}
 use Rattle.std.specs.List.{All}
@@ -13,7 +13,7 @@ use Rattle.ft_lower.specs.Well.{Known, StepFits, RowIsWell, known_after, known_f
 use Rattle.ft_dup.specs.Shape.{HasTarget, HasShape}
 use Rattle.ft_dup.specs.Images.{image, row_images, blocks_images, starts, starts_from, start_of, doubled}
 
--- what holds of each value of a function holds at an element
+-- what holds of all results of f holds of each of them
 pub all_mapped : {X Y : Type 0} (f : X → Y) (P : Y → Type 0) (xs : List X) (i : ℕ) (x : X) → i < length xs → x
     ≡ get_or xs i x → All P (map f xs) → P (f x)
 all_mapped f P xs i x h e all =
@@ -27,7 +27,7 @@ pub starts_length : (n : ℕ) (bs : Blocks) → length (starts_from n bs) ≡ le
 starts_length n [] = refl
 starts_length n (b ∷ bs) = ap suc (starts_length (n + row_size b) bs)
 
--- the start of a block that is there
+-- the start of an existing block
 pub start_at : (n : ℕ) (bs : Blocks) (b : ℕ) → b < length bs → slice_index (starts_from n bs) b ≡ n + start_of bs b
 start_at n [] b h = absurd (omega arith)
 start_at n (x ∷ bs) zero h = omega arith
@@ -35,12 +35,12 @@ start_at n (x ∷ bs) (suc b) h =
     let lt : b < length bs = omega arith in
     start_at (n + row_size x) bs b lt ∙ omega arith
 
--- the first block begins with the code
+-- the first block begins at 0
 pub first_start : (bs : Blocks) → start_of bs 0 ≡ 0
 first_start [] = refl
 first_start (x ∷ bs) = refl
 
--- IMAGES BY THE STARTS
+-- IMAGES FROM THE STARTS
 
 module _ (f g : ℕ → ℕ) (n : ℕ) (same : (b : ℕ) → b < n → f b ≡ g b) where
   -- the image of a step depends only on its target's start
@@ -63,19 +63,19 @@ module _ (f g : ℕ → ℕ) (n : ℕ) (same : (b : ℕ) → b < n → f b ≡ g
       ap (λ l. l ++ row_images f is) (image_same i (All-head (HasTarget n) i is h))
       ∙ ap (λ l. image g i ++ l) (row_same is (All-tail (HasTarget n) i is h))
 
-  -- images whose targets have the same starts are the same
+  -- blocks have the same images if their targets have the same starts
   pub blocks_same : (bs : Blocks) → All (All (HasTarget n)) bs → blocks_images f bs ≡ blocks_images g bs
   blocks_same [] h = refl
   blocks_same (b ∷ bs) h =
       ap (λ l. l ++ blocks_images f bs) (row_same b (All-head (All (HasTarget n)) b bs h))
       ∙ ap (λ l. row_images g b ++ l) (blocks_same bs (All-tail (All (HasTarget n)) b bs h))
 
--- if the starts are the definition's, a target's start exists
+-- if the starts are as defined, each target has one
 pub targets_there : (ss : List ℕ) (bs : Blocks) → ss ≡ starts bs → All (All (HasTarget (length bs))) bs →
     All (All (HasTarget (length ss))) bs
 targets_there ss bs e h = subst (λ n. All (All (HasTarget n)) bs) (sym (ap length e ∙ starts_length 0 bs)) h
 
--- and the images by them are the doubled blocks
+-- and the images computed from them are the doubled blocks
 pub images_there : (ss : List ℕ) (bs : Blocks) → ss ≡ starts bs → All (All (HasTarget (length bs))) bs →
     blocks_images (slice_index ss) bs ≡ doubled bs
 images_there ss bs e h = blocks_same (slice_index ss) (start_of bs) (length bs) (λ b lt. ap (λ l. slice_index l b) e
@@ -83,7 +83,7 @@ images_there ss bs e h = blocks_same (slice_index ss) (start_of bs) (length bs) 
 
 -- THE SHAPE
 
--- a step that fits has its target
+-- the target of a step that fits exists
 target_of : (cells blocks : ℕ) (i : Step3) → StepFits cells blocks i → HasTarget blocks i
 target_of cells blocks (Put p w) h = tt
 target_of cells blocks (Copy p q) h = tt
@@ -96,20 +96,20 @@ target_of cells blocks (Exit q spare to) h = h
 target_of cells blocks (Go spare to) h = h
 target_of cells blocks Stop h = tt
 
--- each step of a well formed row has its target
+-- the targets of the steps of a well-formed row exist
 row_targets : (vars cells blocks : ℕ) (k : Known) (is : List Step3) → RowIsWell vars cells blocks k is →
     All (HasTarget blocks) is
 row_targets vars cells blocks k [] h = All-nil (HasTarget blocks)
 row_targets vars cells blocks k (i ∷ is) h = All-cons (HasTarget blocks) i is (target_of cells blocks i h.0)
     (row_targets vars cells blocks (known_after i k) is h.2)
 
--- the block of a number is the list's element
+-- block b is element b of the list
 pub block_is : (bs : Blocks) (b : ℕ) → b < length bs → block_of bs b ≡ get_or bs b []
 block_is [] b h = absurd (omega arith)
 block_is (x ∷ bs) zero h = refl
 block_is (x ∷ bs) (suc b) h = block_is bs b (omega arith)
 
--- blocks that are well formed have the shape
+-- well-formed blocks have the shape
 pub shape_of_well : (vars cells : ℕ) (bs : Blocks) → IsWell vars cells bs → HasShape bs
 shape_of_well vars cells bs h = record {
   pairs = h.pairs;

@@ -1,4 +1,4 @@
--- Each object that carries well formed blocks runs as they do, from the start on.
+-- Each object that carries well-formed blocks runs as they do, from the start on.
 use Rattle.std.proofs.Common.{◌≡◌, ℕ, [], ◌∷◌, length, Some, None, inl, inr, refl, sym, ap, ◌∙◌, subst, arith}
 use Rattle.std.proofs.Common.{slice_get}
 use Rattle.std.specs.List.{All}
@@ -54,7 +54,7 @@ start_counter o cells bs C =
 
 -- THE WHOLE
 
--- each object that carries well formed blocks runs as they do
+-- each object that carries well-formed blocks runs as they do
 pub runs_as : (vars cells : ℕ) (bs : Blocks) → IsWell vars cells bs → RunsAs vars cells bs
 unfolding run
 runs_as vars cells bs W o C wild =

@@ -32,7 +32,7 @@ init_of_cell c = c.init
 abbrev pub words_of : Object → List ℕ
 words_of o = map init_of_cell o.cells
 
--- a cell holds any word
+-- a cell is of type `int`, so it may hold any word
 abbrev pub IsIntCell : Cell → Type 0
 IsIntCell c = c.basic ≡ int
 
@@ -46,13 +46,14 @@ pub record Carries (o : Object) (cells : ℕ) (bs : Blocks) : Type 0 where
   pub ints : All IsIntCell o.cells
   pub words : All IsWord (words_of o)
 
--- twice the number of instructions of a step that is run
+-- how many machine steps a step of the flow costs: two for each instruction, and none if the flow is done or there is
+-- no step
 abbrev pub cost_if : Bool → Option Step3 → ℕ
 cost_if true o = 0
 cost_if false None = 0
 cost_if false (Some i) = 2 * size i
 
--- twice the number of instructions of the first k steps
+-- how many machine steps the first k steps of the flow cost
 abbrev pub cost : Blocks → ℕ → FlowState → ℕ
 cost bs zero f = 0
 cost bs (suc k) f = cost_if f.done (step_at bs f.place) + cost bs k (flow_step bs f)
@@ -64,15 +65,15 @@ pub record Holds (known : Known) (pairs : ℕ → ℕ) (s : State) : Type 0 wher
   pub d : s.d ≡ 0
   pub queue : s.queue ≡ []
 
--- the machine's run, after the cost of the first k steps, is the flow's run after k steps
+-- the machine's run after n steps agrees with state f of the flow
 pub record DoublesAt (o : Object) (vars : ℕ) (wild : List Wild) (bs : Blocks) (f : FlowState) (n : ℕ) : Type 0 where
   pub out : outputs_after o None wild n ≡ f.out
   pub cells : (c : ℕ) → cell_at (state_after o None wild n).cells (cell_address c) ≡ slice_get f.cells c
   pub status : status_after o None wild n ≡ cond f.done Done Running
   pub holds : f.done ≡ false → Holds (known_at vars bs f.place) f.pairs (state_after o None wild n)
 
--- for each k, the machine's run after the cost of k steps is the flow's after k steps; while the flow is running, k is
--- at most that cost
+-- for each k, the machine's run after the cost of k steps of the flow agrees with the flow's run after k steps; while
+-- the flow is running, this cost is at least k
 pub record Doubles (o : Object) (vars : ℕ) (bs : Blocks) (wild : List Wild) : Type 0 where
   pub after : (k : ℕ) → DoublesAt o vars wild bs (flow_run bs (words_of o) k) (cost bs k (flow_start (words_of o)))
   pub pace : (k : ℕ) → (flow_run bs (words_of o) k).done ≡ false → k ≤ cost bs k (flow_start (words_of o))

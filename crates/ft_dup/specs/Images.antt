@@ -49,7 +49,7 @@ moves p w b rest = instr.Mov (green p) (green_word w) b ∷ instr.Mov (blue p) (
 abbrev pub indexes : ℕ → ℕ → ℕ → ℕ → List Instr → List Instr
 indexes p q first length rest = instr.Idx (green p) (green q) first length ∷ instr.Idx (blue p) (blue q) first length ∷ rest
 
--- green and blue loads from the addresses in both registers of a pair into these registers
+-- a green and a blue load, each from the address in a register of a pair into that register
 abbrev pub loads : ℕ → List Instr
 loads p = instr.Ld Green (green p) (green p) ∷ instr.Ld Blue (blue p) (blue p) ∷ []
 

@@ -1,4 +1,4 @@
--- The shape of blocks that are doubled.
+-- The shape of blocks that can be doubled.
 use Rattle.std.specs.Prelude.{ℕ, ◌<◌, ◌≤◌, length}
 use Rattle.std.specs.List.{All}
 use Rattle.ft_lower.specs.declared.step3.Step3.{Step3}

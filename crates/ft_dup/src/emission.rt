@@ -10,7 +10,7 @@ use ft_isa::{Base, Basic, Colour, Coloured, FIRST_CELL, INT, Instr, Op, REF_INT,
 use ft_lower::Step3;
 use std::alloc::AllocError;
 
-/// What a move of a block's address claims.
+/// The type that a move of a block's address claims.
 const CODE_ONE: Basic = Basic {
     refs: 0,
     base: Base::Code(1),
@@ -43,7 +43,7 @@ fn in_blue(word: u64) -> Coloured
     }
 }
 
-/// Appends a green instruction and its blue one.
+/// Appends a green instruction and its blue counterpart.
 fn put_pair(code: &mut Vec<Instr>, green: Instr, blue: Instr) -> Result<(), AllocError>
     ensures { OnOk result (code.new.items ≡ code.old.items ++ green ∷ blue ∷ []) }
 {
@@ -73,8 +73,8 @@ fn put_moves(code: &mut Vec<Instr>, pair: u8, word: u64, basic: Basic) -> Result
     Ok(())
 }
 
-/// Appends the instructions that put the address of the array cell that the word of pair `q` selects into both
-/// registers of pair `p`.
+/// Appends the instructions that compute, in both registers of pair `p`, the address of the array cell that the word of
+/// pair `q` selects.
 fn put_indexes(
     code: &mut Vec<Instr>,
     p: u8,
@@ -153,7 +153,7 @@ fn put_operation(code: &mut Vec<Instr>, op: Op, p: u8, q: u8, s: u8) -> Result<(
     Ok(())
 }
 
-/// Appends loads from the addresses in both registers of a pair into these registers.
+/// Appends two loads, each from the address in a register of a pair into that register.
 fn put_loads(code: &mut Vec<Instr>, pair: u8) -> Result<(), AllocError>
     requires { pair < 32 }
     ensures { OnOk result (code.new.items ≡ code.old.items ++ loads pair) }
@@ -294,7 +294,7 @@ fn put_go(code: &mut Vec<Instr>, spare: u8, start: u32) -> Result<(), AllocError
     Ok(())
 }
 
-/// Appends the instructions of a step, if `starts` has the place of each block's first instruction.
+/// Appends the instructions of a step; `starts` holds the place of each block's first instruction.
 pub(crate) fn put_step(
     code: &mut Vec<Instr>,
     starts: &[u32],

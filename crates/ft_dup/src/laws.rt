@@ -1,4 +1,4 @@
-//! Laws of the definitions, each the contract of a function that does nothing.
+//! Laws of the definitions. Each is the contract of a function that does nothing.
 ghost use Rattle.std.specs.Prelude.{◌≡◌, ℕ, [], ◌∷◌, length};
 ghost use Rattle.ft_meaning.specs.Fibonacci.{fibonacci};
 ghost use Rattle.ft_lower.specs.Flow.{Blocks};
@@ -13,7 +13,7 @@ pub fn fibonacci_program_is_doubled()
     ensures starts { starts (lowered fibonacci) ≡ 0 ∷ 16 ∷ 60 ∷ [] }
 {}
 
-/// Well formed blocks have the shape that `duplicate` requires.
+/// Well-formed blocks have the shape that `duplicate` requires.
 pub fn well_flows_have_the_shape()
     ensures { (vars cells : ℕ) (bs : Blocks) → IsWell vars cells bs → HasShape bs }
 {}

@@ -1,9 +1,9 @@
 //! Doubling: the instructions of a flow's steps, each in green and in blue.
 //!
-//! The crate promises that `duplicate` returns exactly the images of the flow's steps in order, and the
-//! blocks' starts, and that any object that carries a well formed flow's instructions runs as the flow
-//! does. Its definitions: `specs/Shape.antt` (which flows are doubled), `specs/Images.antt` (the
-//! instructions of a step), `specs/Doubles.antt` (what carries a flow and what its run does).
+//! The crate promises that `duplicate` returns exactly the images of the flow's steps, in order, and the blocks'
+//! starts, and that any object that carries a well-formed flow's instructions runs as the flow does. Its definitions:
+//! `specs/Shape.antt` (which flows are doubled), `specs/Images.antt` (the instructions of a step), `specs/Doubles.antt`
+//! (which objects carry a flow, and what their runs do).
 #![tactic(auto)]
 
 mod doubled;

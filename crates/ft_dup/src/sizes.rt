@@ -1,4 +1,4 @@
-//! How many instructions steps become, and where blocks begin.
+//! How many instructions a step becomes, and where blocks begin.
 ghost use Rattle.std.specs.Prelude.{◌≡◌, ◌≤◌, List, map, IfOk};
 ghost use Rattle.ft_lower.specs.Size.{blocks_size, row_size, size};
 ghost use Rattle.ft_dup.specs.Images.{starts};

@@ -1,4 +1,4 @@
-//! Doubling of a whole flow.
+//! Doubling a whole flow.
 ghost use Rattle.std.specs.Prelude.{◌≡◌, ◌<◌, ◌++◌, length, map, slice_index, IfOk, OnOk};
 ghost use Rattle.std.specs.List.{All};
 ghost use Rattle.ft_lower.specs.Flow.{blocks_of};
@@ -15,7 +15,7 @@ use ft_isa::{Instr, NoMemory};
 use ft_lower::{Flow, Step3};
 use std::alloc::{AllocError, Global};
 
-/// Adds the instructions of the steps of a block.
+/// Appends the instructions of a block's steps.
 fn put_block(code: &mut Vec<Instr>, starts: &[u32], steps: &[Step3]) -> Result<(), AllocError>
     requires pairs { All (λ i. All (λ p. p < 32) (pairs_of i)) steps.now }
     requires targets { All (HasTarget (length starts.now)) steps.now }
@@ -27,7 +27,7 @@ fn put_block(code: &mut Vec<Instr>, starts: &[u32], steps: &[Step3]) -> Result<(
     Ok(())
 }
 
-/// The instructions of the steps of all blocks, with room for all reserved at once.
+/// The instructions of the steps of all blocks. Room for all of them is reserved at once.
 fn put_blocks(
     alloc: Global,
     starts: &[u32],
@@ -46,8 +46,8 @@ fn put_blocks(
 }
 
 /// Doubles a flow: the instructions of its steps, each in green and in blue, block by block. The flow has only pairs
-/// below 32, each jump goes to an existing block other than the entry, each block is ended by its last step and no
-/// other, and there are at most 65,536 instructions in all. The only error is out of memory.
+/// below 32, each jump goes to an existing block other than the entry, the last step of each block ends it and no other
+/// step does, and there are at most 65,536 instructions in all. The only error is out of memory.
 pub fn duplicate(alloc: Global, flow: &Flow) -> Result<Doubled, NoMemory>
     requires { HasShape (blocks_of flow.now) }
     ensures vars { IfOk result (λ d. d.vars ≡ flow.now.vars) }

@@ -1,4 +1,4 @@
--- The first stored file of a name, against the map that the files make.
+-- The first stored file with a name is the one that the map of the files holds.
 use Rattle.std.proofs.Common.{◌≡◌, ℕ, Bool, cond, List, ◌∷◌, Some, map, ap, sym, ◌∙◌, string_bytes}
 use Rattle.std.specs.Ordering.{nat_cmp}
 use Rattle.std.specs.Cmp.Lexicographic.{slice_cmp, pointwise, texts_ties}
@@ -7,7 +7,7 @@ use Rattle.std.specs.FinMap.{find}
 use Rattle.ft_edge.specs.declared.mem_shelf.Stored.{Stored}
 use Rattle.ft_edge.specs.Stored.{entry_of}
 
--- the first file is the result if its name passes, else the rest decides
+-- the first file is the result if its name matches, otherwise the rest decides
 pub find_entry : (q : List ℕ) (s : Stored) (rest all : List Stored) (b : Bool) → all ≡ s ∷ rest → b
     ≡ pointwise nat_eq q (string_bytes s.name)
     → find (slice_cmp nat_cmp) q (map entry_of all)

@@ -1,9 +1,9 @@
--- A failed put after the buffer was flushed.
+-- A put that fails after the buffer was flushed.
 use Rattle.std.proofs.Common.{ℕ, List, ◌++◌, take, Option, Some, None, Result, Ok, Err, OnErr, ap, ◌∙◌}
 use Rattle.std.specs.Io.KnownBytes.{Keeps}
 use Rattle.ft_edge.specs.Streams.{AppendsFront}
 
--- a prefix that was added to bytes that had been kept
+-- if bytes are kept and then a prefix is appended, the prefix is appended to the original bytes
 kept_front : (a b c : Option (List ℕ)) (bs : List ℕ) → Keeps a b → AppendsFront b c bs → AppendsFront a c bs
 kept_front None b c bs k (n, h) = (n, tt)
 kept_front (Some x) None c bs k (n, h) = absurd k

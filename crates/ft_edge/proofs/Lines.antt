@@ -1,4 +1,4 @@
--- Lines that were put, some after others, as a change of a sink's record.
+-- Puts of several groups of lines, as one change of a sink's record.
 use Rattle.std.proofs.Common.{subst, ◌≡◌, ◌≢◌, ℕ, ◌≤◌, List, [], ◌∷◌, ◌++◌, Option, Result, Ok, Err, OnOk, OnErr, refl}
 use Rattle.std.proofs.Common.{ap, sym, ◌∙◌, append_assoc, append-nil}
 use Rattle.std.specs.Prelude.{IsErr}
@@ -13,7 +13,7 @@ use Rattle.ft_edge.specs.Lines.{with_lines, FailsPut, BreaksOff, PutEnd, AllPut,
 use Rattle.ft_edge.specs.Lines.{end_of_puts}
 use Rattle.ft_edge.proofs.Appended.{known_more, known_none, told_more, told_none}
 
--- two logs that record the same
+-- two records with equal parts
 pub same_log : {w w' : Option (List ℕ)} {p p' : Option (List (List ℕ))} {n n' : ℕ} → w ≡ w' → p ≡ p' → n ≡ n'
     → ◌≡◌ {A = SinkLog} (record { written = w; pieces = p; failures = n }) (record {
       written = w';
@@ -73,7 +73,7 @@ breaks_then xs ys old mid new h i = record {
   fails = subst (λ log. FailsPut i.line log new) (ap (with_lines i.done) h ∙ lines_more xs i.done old) i.fails;
 }
 
--- a put failed, and more lines would have followed
+-- a put failed, and more lines should have followed
 pub breaks_before : (xs more : List (List ℕ)) (old new : SinkLog) → BreaksOff xs old new →
     BreaksOff (xs ++ more) old new
 breaks_before xs more old new h = record {
@@ -91,19 +91,19 @@ breaks_at all done line rest old mid new e h i =
     subst (λ lines. BreaksOff lines old new) (sym e)
     (breaks_then done (line ∷ rest) old mid new h (breaks_before (line ∷ []) rest mid new i))
 
--- some lines were put, and then others were or a put of them failed
+-- some lines were put, and then the others were, or the put of one of them failed
 pub puts_then : (e : PutEnd) (xs ys : List (List ℕ)) (old mid new : SinkLog) → e ≢ NothingPut → mid
     ≡ with_lines xs old → Puts e ys mid new → Puts e (xs ++ ys) old new
 puts_then AllPut xs ys old mid new made h i = lines_then xs ys old mid new h i
 puts_then PutFailed xs ys old mid new made h i = breaks_then xs ys old mid new h i
 puts_then NothingPut xs ys old mid new made h i = absurd (made refl)
 
--- a call that returns an error if a put failed makes its puts
+-- a call that returns an error only if a put failed does not give up before its first put
 pub made_by : {A E : Type 0} (r : Result A E) → end_of_puts r ≢ NothingPut
 made_by (Ok done) e = cc
 made_by (Err failed) e = cc
 
--- what was written if a put failed is a prefix of the whole text
+-- if a put failed, what was written is a prefix of the whole text
 pub broken_text : (lines : List (List ℕ)) (old new : SinkLog) → BreaksOff lines old new →
     AddsPrefix old.written new.written (concat lines)
 broken_text lines old new h =
@@ -119,7 +119,7 @@ broken_text lines old new h =
       added = w.added ∙ known_more old.written (concat h.done) w.front;
     }
 
--- the exit of a call if a put failed
+-- how a call ends if a put failed
 pub puts_failed : {A E : Type 0} (r : Result A E) (lines : List (List ℕ)) (old new : SinkLog) → IsErr r →
     BreaksOff lines old new → Puts (end_of_puts r) lines old new
 puts_failed (Ok done) lines old new is h = absurd (cc)

@@ -1,4 +1,4 @@
--- Calls numbered from 0, the ones that must fail, and the count of failures.
+-- Calls numbered from 0, those that must fail, and the count of failures.
 use Rattle.std.specs.Prelude.{ℕ, refl, ◌+◌, ◌-◌, ◌^◌, ◌==◌, min, Bool, List, [], ◌∷◌, ◌++◌}
 use Rattle.std.specs.List.{list_any}
 use Rattle.std.specs.Coded.{Coded, code_by, coded×, coded_list, coded_ℕ}
@@ -9,13 +9,13 @@ pub record Calls : Type 0 where
   pub next : ℕ
   pub failures : ℕ
 
--- calls are stored as their three parts
+-- the encoding of calls by their three parts
 abbrev pub calls_code : Coded Calls
 calls_code =
     code_by (List ℕ × (ℕ × ℕ)) (coded× (coded_list coded_ℕ) (coded× coded_ℕ coded_ℕ)) (λ c. (c.failing, (c.next, c.failures)))
     (λ p. record { failing = p.0; next = p.1.0; failures = p.1.1 }) (λ _. refl)
 
--- no call, and none that must fail
+-- no calls yet, and none that must fail
 abbrev pub no_calls : Calls
 no_calls = record { failing = []; next = 0; failures = 0 }
 
@@ -27,7 +27,7 @@ next_count n = min (n + 1) (2 ^ 64 - 1)
 abbrev pub is_to_fail : Calls → Bool
 is_to_fail calls = list_any (λ number. number == calls.next) calls.failing
 
--- one more call must fail
+-- the calls, with this number added to those that must fail
 abbrev pub with_failing : Calls → ℕ → Calls
 with_failing calls number = record calls { failing = calls.failing ++ number ∷ [] }
 
@@ -35,10 +35,10 @@ with_failing calls number = record calls { failing = calls.failing ++ number ∷
 abbrev pub after_call : Calls → Calls
 after_call calls = record calls { next = next_count calls.next }
 
--- the calls after one more failure was counted
+-- the calls after one more failure is counted
 abbrev pub after_failure : Calls → Calls
 after_failure calls = record calls { failures = next_count calls.failures }
 
--- the calls after one more that failed
+-- the calls after one more that fails
 abbrev pub after_failed_call : Calls → Calls
 after_failed_call calls = after_failure (after_call calls)

@@ -1,11 +1,11 @@
 -- What a shelf over a folder records of its failed loads.
 use Rattle.std.specs.Prelude.{ℕ, List, Option, None}
 
--- how many there were, and the name of the last
+-- how many loads failed, and the name of the last that did
 pub record FolderFailures : Type 0 where
   pub count : ℕ
   pub failed_name : Option (List ℕ)
 
--- none failed
+-- no load has failed
 abbrev pub no_failures : FolderFailures
 no_failures = record { count = 0; failed_name = None }

@@ -3,7 +3,7 @@ use Rattle.std.specs.Prelude.{ℕ, List, Option}
 use Rattle.std.specs.Io.KnownBytes.{append_known}
 use Rattle.ft_edge.specs.declared.gathering_sink.GatheringSink.{GatheringSink}
 
--- what its writer accepted, and then the buffer, if the writer reveals its bytes
+-- the bytes that its writer accepted, followed by the buffer, if the writer reveals its bytes
 abbrev pub written_to : {W : Type 0} → (W → Option (List ℕ)) → GatheringSink W → Option (List ℕ)
 written_to contents sink = append_known (contents sink.out) sink.gathered.items
 

@@ -3,6 +3,6 @@ use Rattle.std.specs.Prelude.{ℕ, List, Option, String, string_bytes}
 use Rattle.std.specs.Option.{option_map}
 use Rattle.std.specs.declared.alloc.Global.{Global}
 
--- its bytes, if it exists
+-- the bytes of the text, if there is one
 abbrev pub known_text : Option (String Global) → Option (List ℕ)
 known_text text = option_map string_bytes text

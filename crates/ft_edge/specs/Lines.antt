@@ -10,14 +10,14 @@ use Rattle.ft_edge.specs.Logs.{SinkLog}
 abbrev pub with_lines : List (List ℕ) → SinkLog → SinkLog
 with_lines lines log = record { written = append_known log.written (concat lines); pieces = append_told log.pieces lines; failures = log.failures }
 
--- the put of a line failed: a prefix of it was added, it was the next piece, and the count of failures rose
+-- the put of a line failed: a prefix of the line was added, the line was the next piece, and the count of failures rose
 pub record FailsPut (line : List ℕ) (old new : SinkLog) : Type 0 where
   pub written : AddsPrefix old.written new.written line
   pub pieces : new.pieces ≡ append_told old.pieces (line ∷ [])
   pub count : old.failures ≤ new.failures
   pub rose : Rose old.failures new.failures
 
--- the first lines, or none, were put; the put of the next one failed, and was the last
+-- the first lines, if any, were put; the put of the next one failed, and no other followed
 pub record BreaksOff (lines : List (List ℕ)) (old new : SinkLog) : Type 0 where
   pub done : List (List ℕ)
   pub line : List ℕ
@@ -25,7 +25,7 @@ pub record BreaksOff (lines : List (List ℕ)) (old new : SinkLog) : Type 0 wher
   pub whole : lines ≡ done ++ line ∷ rest
   pub fails : FailsPut line (with_lines done old) new
 
--- how a call that writes lines ends: all were put, or the put of one failed, or the call gave up before the first put
+-- how a call that writes lines ends: all were put, the put of one failed, or the call gave up before the first put
 pub data PutEnd : Type 0 where
   AllPut : PutEnd
   PutFailed : PutEnd
@@ -37,7 +37,7 @@ Puts AllPut lines old new = new ≡ with_lines lines old
 Puts PutFailed lines old new = BreaksOff lines old new
 Puts NothingPut lines old new = new ≡ old
 
--- the end of a call that returns an error exactly if a put failed
+-- how a call ends, if it returns an error exactly when a put failed
 abbrev pub end_of_puts : {A E : Type 0} → Result A E → PutEnd
 end_of_puts (Ok done) = AllPut
 end_of_puts (Err failed) = PutFailed

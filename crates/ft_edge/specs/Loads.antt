@@ -23,7 +23,7 @@ Loads files name limit into (Ok Whole) = (length into ≤ limit) × IfSome files
 Loads files name limit into (Ok TooLong) = (into ≡ []) × IfSome files (λ fs. IsLonger fs name limit)
 Loads files name limit into (Err e) = into ≡ []
 
--- the same for a load from one stream, if it reveals its bytes
+-- likewise for a load from one stream, if it reveals its bytes
 abbrev pub LoadsStream : Option (List ℕ) → ℕ → List ℕ → Result Load LoadFault → Type 0
 LoadsStream known limit into (Ok Whole) = (length into ≤ limit) × IfSome known (λ bytes. into ≡ bytes)
 LoadsStream known limit into (Ok TooLong) = (into ≡ []) × IfSome known (λ bytes. limit < length bytes)

@@ -21,7 +21,7 @@ pub record ShelfLog : Type 0 where
   pub failures : ℕ
   pub failed_name : Option (List ℕ)
 
--- the load of this file failed: it was the last that did, and the count of failures rose
+-- the load of this file failed: its name is recorded as the last that failed, and the count of failures rose
 abbrev pub LoadFails : List ℕ → ShelfLog → ShelfLog → Type 0
 LoadFails name old new = Rose old.failures new.failures × (new.failed_name ≡ Some name)
 
@@ -29,7 +29,7 @@ LoadFails name old new = Rose old.failures new.failures × (new.failed_name ≡ 
 abbrev pub NoLoadFails : ShelfLog → ShelfLog → Type 0
 NoLoadFails old new = (new.failures ≡ old.failures) × (new.failed_name ≡ old.failed_name)
 
--- a failure shows in the count and is recorded as the last; any other result leaves both unchanged
+-- `Failed` raises the count and records the name as the last that failed; any other result leaves both unchanged
 abbrev pub LoadCause : ShelfLog → ShelfLog → List ℕ → Result Load LoadFault → Type 0
 LoadCause old new name (Err Failed) = LoadFails name old new
 LoadCause old new name (Err NoMemory) = NoLoadFails old new

@@ -3,17 +3,17 @@ use Rattle.std.specs.Prelude.{ℕ, ◌+◌, nat_lt, Bool, ◌||◌, List, [], �
 use Rattle.ft_edge.specs.declared.failed.Failed.{Failed}
 use Rattle.ft_edge.specs.Calls.{Calls, no_calls, is_to_fail, with_failing, after_call, after_failed_call}
 
--- the bytes that were written, the room for all of them, and the puts
+-- the bytes written, the room for all of them, and the puts as calls
 pub record MemorySink : Type 0 where
   pub written : List ℕ
   pub room : ℕ
   pub calls : Calls
 
--- nothing is written, and there is this room
+-- nothing is written yet, and there is this much room
 abbrev pub empty_sink : ℕ → MemorySink
 empty_sink room = record { written = []; room = room; calls = no_calls }
 
--- one more put must fail
+-- the sink, with this number added to the puts that must fail
 abbrev pub with_failing_put : MemorySink → ℕ → MemorySink
 with_failing_put sink number = record sink { calls = with_failing sink.calls number }
 

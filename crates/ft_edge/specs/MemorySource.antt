@@ -3,16 +3,16 @@ use Rattle.std.specs.Prelude.{ℕ, List, drop, Result, Ok, Err}
 use Rattle.ft_edge.specs.declared.failed.Failed.{Failed}
 use Rattle.ft_edge.specs.Calls.{Calls, no_calls, with_failing, after_call, after_failed_call}
 
--- the bytes that are left, and the takes
+-- the bytes that are left, and the takes as calls
 pub record MemorySource : Type 0 where
   pub left : List ℕ
   pub calls : Calls
 
--- these bytes are left, and nothing was taken
+-- these bytes are left, and nothing has been taken
 abbrev pub source_of_bytes : List ℕ → MemorySource
 source_of_bytes bytes = record { left = bytes; calls = no_calls }
 
--- one more take must fail
+-- the source, with this number added to the takes that must fail
 abbrev pub with_failing_take : MemorySource → ℕ → MemorySource
 with_failing_take source number = record source { calls = with_failing source.calls number }
 

@@ -2,6 +2,6 @@
 use Rattle.std.specs.Prelude.{ℕ, List, string_bytes}
 use Rattle.ft_edge.specs.declared.mem_shelf.Stored.{Stored}
 
--- its name and its bytes
+-- the name and the bytes of the file
 abbrev pub entry_of : Stored → List ℕ × List ℕ
 entry_of file = (string_bytes file.name, file.bytes.items)

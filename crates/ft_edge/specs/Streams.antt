@@ -21,7 +21,7 @@ given (Err e) = 0
 abbrev pub IsFrugal : List ℕ → Type 0
 IsFrugal sizes = All (λ count. 0 < count) (take (length sizes - 1) sizes)
 
--- at most `most` bytes were taken, by takes of these sizes, and nothing after an empty take
+-- takes of these sizes took at most `most` bytes in all, and none came after an empty take
 pub record TakesAtMost (most : ℕ) (old new : SourceLog) : Type 0 where
   pub bytes : List ℕ
   pub sizes : List ℕ

@@ -5,7 +5,7 @@ use ft_isa::NoMemory;
 use std::alloc::Global;
 use std::marker::Model;
 
-/// The calls on an object in memory: which of them must fail, how many there were, and how many of them failed. Both
+/// The calls on an object in memory: which of them must fail, how many were made, and how many of these failed. Both
 /// counts saturate at 2^64 - 1.
 #[derive(Drop)]
 pub(crate) struct Counter {
@@ -25,7 +25,7 @@ impl Model for Counter {
 impl Counter {
     ghost use Rattle.ft_edge.specs.Calls.{no_calls, is_to_fail, with_failing, after_call, after_failure};
 
-    /// No call, and none that must fail.
+    /// No calls yet, and none that must fail.
     pub(crate) fn new(alloc: Global) -> Counter
         ensures { result ≡ no_calls }
     {
@@ -45,7 +45,7 @@ impl Counter {
         Ok(())
     }
 
-    /// Numbers the next call, and returns whether it must fail.
+    /// Gives the next call its number, and returns whether it must fail.
     pub(crate) fn begin(&mut self) -> bool
         ensures fails { result ≡ is_to_fail self.old }
         ensures after { self.new ≡ after_call self.old }
@@ -55,7 +55,7 @@ impl Counter {
         self.failing.contains(&call)
     }
 
-    /// Counts that the call failed.
+    /// Counts a call that failed.
     pub(crate) fn count_failure(&mut self)
         ensures after { self.new ≡ after_failure self.old }
         ensures count { self.old.failures ≤ self.new.failures }

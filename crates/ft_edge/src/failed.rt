@@ -1,4 +1,4 @@
-//! A failed take or put.
+//! The failure of a take or a put.
 use thiserror::Error;
 
 /// A take or a put failed, and the count of failures rose.

@@ -34,7 +34,8 @@ impl<R: Files> Model for FolderShelf<R> {
     ghost view = { λ s. record { count = s.failures; failed_name = known_text s.failed } };
 }
 
-/// Allocates memory for this many bytes, or for the limit, and for one more, to find the end.
+/// Allocates memory for `size` bytes, or for `limit` if that is less, and for one more byte, so that a read can find
+/// the end.
 fn reserve_whole(into: &mut Vec<u8>, limit: usize, size: usize) -> Result<(), LoadFault>
     ensures { into.new.items ≡ into.old.items }
 {
@@ -44,8 +45,8 @@ fn reserve_whole(into: &mut Vec<u8>, limit: usize, size: usize) -> Result<(), Lo
     }
 }
 
-/// Makes the vector longer than its filled part by a piece: up to one byte past the size if less is filled, and up to
-/// one byte past the limit.
+/// Makes room for at most one piece after the filled part of the vector, if there is none: up to one byte past the size
+/// if less than that is filled, and never more than one byte past the limit.
 fn make_room(into: &mut Vec<u8>, filled: usize, limit: usize, size: usize) -> Result<(), LoadFault>
     requires few { filled ≤ limit }
     requires part { filled ≤ length into.old.items }
@@ -91,9 +92,9 @@ fn read_more<F: Read>(
     }
 }
 
-/// Reads a file to its end, or to one byte past the limit, in the room of the vector. The size is what the system
-/// reports. Memory for that many bytes is allocated at once, and the room is made piece by piece. If the file is too
-/// long or a read failed, the vector holds what was read and the rest of the room.
+/// Reads a file to its end, or to one byte past the limit, into the vector. `size` is what the system reports: memory
+/// for that many bytes, or up to the limit, is allocated at once, and the vector grows piece by piece. If the file is
+/// too long or a read fails, the vector holds what was read, followed by unused room.
 fn fill<F: Read>(
     file: &mut F,
     limit: usize,
@@ -121,7 +122,7 @@ fn fill<F: Read>(
     Ok(Load::TooLong)
 }
 
-/// The size that the system reports of an open file, or 0 if it reports none.
+/// The size that the system reports for an open file, or 0 if it reports none that fits.
 fn size_of_file<F: OpenFile>(file: &F) -> usize {
     match file.metadata() {
         Ok(metadata) => usize::try_from(metadata.len()).unwrap_or(0),
@@ -152,7 +153,7 @@ fn load_from<F: Read>(
 impl<R: Files> FolderShelf<R> {
     ghost use Rattle.ft_edge.specs.FolderFailures.{no_failures};
 
-    /// A shelf over the files that the runtime reaches, which keeps the allocator.
+    /// A shelf over the files that the runtime can reach; it keeps the allocator.
     pub fn new(rt: R, alloc: Global) -> FolderShelf<R>
         ensures { result ≡ no_failures }
     {

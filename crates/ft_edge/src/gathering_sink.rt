@@ -1,4 +1,4 @@
-//! A sink that buffers pieces and passes them to a writer in large ones.
+//! A sink that buffers pieces and passes them to a writer in larger ones.
 ghost use Rattle.std.specs.Prelude.{◌≡◌, ◌≢◌, ◌≤◌, ◌+◌, [], length, drop, None, IsTrue, IfOk, IfErr, OnOk, OnErr};
 ghost use Rattle.std.specs.Io.KnownBytes.{Appends, Keeps};
 ghost use Rattle.ft_edge.specs.Calls.{next_count};
@@ -13,8 +13,8 @@ use std::io::Write;
 /// The size of the buffer in bytes.
 const ROOM: usize = 65_536;
 
-/// A sink that buffers pieces and passes them to a writer, 64 KiB at a time. The written bytes are those that the
-/// writer accepted, followed by the buffer. `finish` writes the rest. It does not reveal its bytes, and its failure
+/// A sink that passes its pieces to a writer through a buffer of 64 KiB. The written bytes are those that the writer
+/// accepted, followed by the buffer. `finish` writes the rest. The sink does not reveal its bytes, and its failure
 /// count saturates at 2^64 - 1.
 #[derive(Drop)]
 pub struct GatheringSink<W: Write + Drop> {
@@ -90,7 +90,7 @@ impl<W: Write + Drop> GatheringSink<W> {
         Err(Failed)
     }
 
-    /// Puts a piece that does not fit into the buffer.
+    /// Puts a piece for which the buffer has no room left.
     #[cold]
     #[inline(never)]
     fn put_apart(&mut self, bytes: &[u8]) -> Result<(), Failed>

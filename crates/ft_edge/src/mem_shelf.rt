@@ -20,12 +20,12 @@ struct Stored {
     bytes: Vec<u8>,
 }
 
-/// Files in memory, with loads that must fail. It reveals its files but does not record its loads: to record the name
-/// of each load, even if memory ran out, it would need memory.
+/// Files in memory, with loads that must fail. It reveals its files but does not record its loads: recording the name
+/// of each load, even if memory ran out, would itself need memory.
 #[derive(Drop)]
 pub struct MemShelf {
     alloc: Global,
-    // The newest first: a file hides the earlier ones of its name.
+    // Newest first: a file hides earlier ones with the same name.
     files: VecDeque<Stored>,
     calls: Counter,
     failed: Option<String>,
@@ -46,7 +46,7 @@ impl Model for MemShelf {
 impl MemShelf {
     ghost use Rattle.ft_edge.specs.MemoryShelf.{empty_shelf, with_file, with_failing_load, after_failure_at};
 
-    /// A shelf with no file, which keeps the allocator.
+    /// A shelf without files; it keeps the allocator.
     pub fn new(alloc: Global) -> MemShelf
         ensures { result ≡ empty_shelf }
     {
@@ -71,7 +71,7 @@ impl MemShelf {
         Ok(())
     }
 
-    /// Adds a load that must fail. Loads are numbered from 0, and every load from number 2^64 - 1 has that number.
+    /// Adds a load that must fail. Loads are numbered from 0; all loads from number 2^64 - 1 on share that number.
     pub fn fail_at(&mut self, call: u64) -> Result<(), NoMemory>
         ensures ok { OnOk result (self.new ≡ with_failing_load self.old call) }
         ensures err { OnErr result (self.new ≡ self.old) }
@@ -111,8 +111,8 @@ impl Shelf for MemShelf {
 
     ghost log = { λ shelf. record { files = Some shelf.files; asked = None; failures = shelf.calls.failures; failed_name = shelf.failed_name } };
 
-    /// Loads the file of a name. A name that the shelf does not hold is a failure. A load that finds no memory is a
-    /// call like any other, and does not count as a failure.
+    /// Loads the file of a name. A name that the shelf does not hold is a failure. A load that runs out of memory is
+    /// numbered like any other, but does not count as a failure.
     fn load(&mut self, name: &str, limit: usize, into: &mut Vec<u8>) -> Result<Load, LoadFault>
         requires { into.old.items ≡ [] }
         ensures loads { Loads (Some self.old.files) name.now limit into.new.items result }

@@ -8,7 +8,7 @@ use std::alloc::Global;
 use std::marker::Model;
 
 /// Bytes written to memory, with puts that must fail. It reveals its bytes but does not record its pieces: to record
-/// each piece, even of a failed put, a put would have to allocate.
+/// every piece, even that of a failed put, a put would have to allocate.
 #[derive(Drop)]
 pub struct MemSink {
     written: Vec<u8>,
@@ -41,7 +41,7 @@ impl MemSink {
         })
     }
 
-    /// Adds a put that must fail. Puts are numbered from 0, and every put from number 2^64 - 1 has that number.
+    /// Adds a put that must fail. Puts are numbered from 0; all puts from number 2^64 - 1 on share that number.
     pub fn fail_at(&mut self, call: u64) -> Result<(), NoMemory>
         ensures ok { OnOk result (self.new ≡ with_failing_put self.old call) }
         ensures err { OnErr result (self.new ≡ self.old) }
@@ -50,7 +50,7 @@ impl MemSink {
         Ok(())
     }
 
-    /// The bytes that were written.
+    /// The bytes written.
     pub fn written(&self) -> &[u8]
         ensures { result.now ≡ self.now.written }
     {

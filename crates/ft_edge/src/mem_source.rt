@@ -8,7 +8,7 @@ use std::alloc::Global;
 use std::marker::Model;
 
 /// Bytes in memory to read, with takes that must fail. It reveals its bytes but does not record the sizes of its takes:
-/// to record each of them, a take would have to allocate.
+/// to record them, a take would have to allocate.
 #[derive(Drop)]
 pub struct MemSource {
     bytes: Vec<u8>,
@@ -41,7 +41,7 @@ impl MemSource {
         })
     }
 
-    /// Adds a take that must fail. Takes are numbered from 0, and every take from number 2^64 - 1 has that number.
+    /// Adds a take that must fail. Takes are numbered from 0; all takes from number 2^64 - 1 on share that number.
     pub fn fail_at(&mut self, call: u64) -> Result<(), NoMemory>
         ensures ok { OnOk result (self.new ≡ with_failing_take self.old call) }
         ensures err { OnErr result (self.new ≡ self.old) }
@@ -57,7 +57,7 @@ impl Source for MemSource {
 
     ghost log = { λ source. record { left = Some source.left; takes = None; failures = source.calls.failures } };
 
-    /// Takes as many bytes as are left, or as fit into the buffer.
+    /// Takes all the bytes that are left, or as many as fit into the buffer.
     fn take(&mut self, buf: &mut [u8]) -> Result<usize, Failed>
         requires { 0 < length buf.old }
         ensures count { self.old.calls.failures ≤ self.new.calls.failures }

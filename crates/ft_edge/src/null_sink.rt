@@ -1,14 +1,14 @@
-//! A sink that drops what it takes.
+//! A sink that discards what it is given.
 ghost use Rattle.std.specs.Prelude.{◌≡◌, None, Ok};
 
 use crate::{Failed, Sink};
 
-/// A sink that drops what it takes and never fails. It reveals nothing, and its count of failures is 0.
+/// A sink that discards what it is given and never fails. It reveals nothing, and its count of failures is 0.
 #[derive(Drop)]
 pub struct NullSink;
 
 impl NullSink {
-    /// A sink that drops what it takes.
+    /// A sink that discards what it is given.
     pub fn new() -> NullSink {
         NullSink
     }

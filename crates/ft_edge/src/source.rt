@@ -15,7 +15,7 @@ pub trait Source {
     ghost log: { Self → SourceLog };
 
     /// Reads the next bytes into the start of a buffer of nonzero length, and returns how many: at least one if any are
-    /// left, and 0 at the end. A take that fails reads nothing, and leaves the buffer unchanged.
+    /// left, and 0 at the end. A take that fails reads nothing and leaves the buffer unchanged.
     fn take(&mut self, buf: &mut [u8]) -> Result<usize, Failed>
         requires { 0 < length buf.old }
         ensures takes { (log self.new).takes ≡ append_told (log self.old).takes (given result ∷ []) }

@@ -27,8 +27,8 @@ impl<R: Input> Model for StdinSource<R> {
     ghost view = { λ s. s.failures };
 }
 
-/// Reads once, and counts a read that failed. The bytes pass through a buffer of their own, since a failed read may
-/// leave anything in the buffer that it reads into.
+/// Reads once, and counts a failed read. The bytes pass through a separate buffer, since a failed read may leave
+/// anything in the buffer that it reads into.
 fn take_from<F: Read>(file: &mut F, buf: &mut [u8], failures: &mut u64) -> Result<usize, Failed>
     ensures bound { ReadsAtMost result buf.new }
     ensures bytes { ReadConsumes (F.remaining file.old) (F.remaining file.new) result buf.new }

@@ -32,7 +32,7 @@ impl<'a> SureSource<'a> {
 impl<'a> Source for SureSource<'a> {
     ghost log = { λ bytes. record { left = Some bytes; takes = None; failures = 0 } };
 
-    /// Takes as many bytes as are left, or as fit into the buffer. It never fails.
+    /// Takes all the bytes that are left, or as many as fit into the buffer. It never fails.
     fn take(&mut self, buf: &mut [u8]) -> Result<usize, Failed>
         requires { 0 < length buf.old }
         ensures bound { ReadsAtMost result buf.new }

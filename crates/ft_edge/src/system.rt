@@ -21,7 +21,7 @@ pub(crate) fn read_once<F: Read>(file: &mut F, buf: &mut [u8]) -> Result<usize, 
     Err(Failed)
 }
 
-/// Reads once, into a buffer past its first bytes.
+/// Reads once, into the part of a buffer past its first bytes.
 pub(crate) fn read_past<F: Read>(file: &mut F, buf: &mut [u8], past: usize) -> Result<usize, Failed>
     requires { past < length buf.old }
     ensures front { take past buf.new ≡ take past buf.old }
@@ -32,7 +32,7 @@ pub(crate) fn read_past<F: Read>(file: &mut F, buf: &mut [u8], past: usize) -> R
     read_once(file, &mut buf[past..])
 }
 
-/// Writes once, a prefix of the bytes.
+/// Writes a prefix of the bytes with a single write.
 pub(crate) fn write_once<W: Write>(out: &mut W, bytes: &[u8]) -> Result<usize, Failed>
     ensures bound { WritesAtMost result bytes.now }
     ensures bytes { WriteAppends (W.contents out.old) (W.contents out.new) result bytes.now }

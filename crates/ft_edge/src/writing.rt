@@ -1,4 +1,4 @@
-//! Whole pieces, written by single writes.
+//! Writes whole pieces, each with as many single writes as it takes.
 ghost use Rattle.std.specs.Prelude.{◌≡◌, ◌≤◌, length, take, OnOk, OnErr};
 ghost use Rattle.std.specs.Io.KnownBytes.{Appends};
 ghost use Rattle.ft_edge.specs.Calls.{next_count};
@@ -8,8 +8,8 @@ use crate::Failed;
 use crate::system::write_once;
 use std::io::Write;
 
-/// Writes a piece from its start, and returns how many of its bytes were written: fewer than all only if a write
-/// failed, or accepted nothing.
+/// Writes a piece from its start, and returns how many of its bytes were written: fewer than all only if a write failed
+/// or accepted nothing.
 pub(crate) fn write_front<W: Write>(out: &mut W, bytes: &[u8]) -> usize
     ensures within { result ≤ length bytes.now }
     ensures written { Appends (W.contents out.old) (W.contents out.new) (take result bytes.now) }
@@ -37,7 +37,7 @@ fn write_whole<W: Write>(out: &mut W, bytes: &[u8]) -> Result<(), Failed>
     Ok(())
 }
 
-/// Writes the whole piece, and counts a failure.
+/// Writes the whole piece, or counts a failure.
 pub(crate) fn put_to<W: Write>(out: &mut W, bytes: &[u8], failures: &mut u64) -> Result<(), Failed>
     ensures ok { OnOk result (Appends (W.contents out.old) (W.contents out.new) bytes.now) }
     ensures err { OnErr result (AppendsFront (W.contents out.old) (W.contents out.new) bytes.now) }

@@ -1,4 +1,4 @@
--- The bytes of an object, cut at the initial word of a cell, and the object with another word there.
+-- The bytes of an object, split at the initial word of a cell, and of the object with another word there.
 use Rattle.std.proofs.Common.{◌≡◌, ℕ, zero, suc, ◌+◌, ◌*◌, ◌≤◌, List, [], ◌∷◌, ◌++◌, length, take, drop, map, Some}
 use Rattle.std.proofs.Common.{slice_get, refl, sym, ap, subst, ◌∙◌, append_assoc, arith}
 use Rattle.std.specs.List.{flat_map}
@@ -27,7 +27,7 @@ use Rattle.ft_embed.specs.Cells.{begun_with, with_word, object_with_word}
 
 -- LISTS
 
--- a list in three parts whose middle one is replaced
+-- replacing the middle part of a list
 replaced : (before middle after new : List ℕ) (at : ℕ) → length before ≡ at → length middle ≡ 8 →
     take at (before ++ (middle ++ after)) ++ (new ++ drop (at + 8) (before ++ (middle ++ after))) ≡ before
     ++ (new ++ after)
@@ -44,7 +44,7 @@ regroup h b i a r = simp append_assoc
 
 -- CELLS
 
--- the records of cells in three parts, the middle of which is the initial word of cell k
+-- the records of cells in three parts, of which the middle one is the initial word of cell k
 record Cut (start k : ℕ) (cs : List Cell) (c : Cell) : Type 0 where
   pub before : List ℕ
   pub after : List ℕ
@@ -61,7 +61,7 @@ length_head : (past : ℕ) (c : Cell) → length (head_bytes past c) ≡ 8
 unfolding bytes_of
 length_head past c = refl
 
--- a cell's record in its halves
+-- the two halves of a cell's record
 halves : (past : ℕ) (c : Cell) (rest : List ℕ) → written cell_layout (cell_row past c) ++ rest ≡ head_bytes past c
     ++ (bytes_of w64 c.init ++ rest)
 unfolding bytes_of written
@@ -118,7 +118,7 @@ length_kept (c ∷ cs) (suc k) w = ap suc (length_kept cs k w)
 
 -- WHOLE OBJECTS
 
--- the header, by how many cells and name bytes there are
+-- the header, given the numbers of cells and name bytes
 abbrev header_by : Version → Object → ℕ → ℕ → List ℕ
 header_by v o cells names =
     written header_layout (magic v ∷ cells ∷ length o.nodes ∷ length o.types ∷ length (all_regs o) ∷ length
@@ -129,7 +129,7 @@ length_header : (v : Version) (o : Object) (cells names : ℕ) → length (heade
 unfolding bytes_of written
 length_header v o cells names = refl
 
--- what follows the records of the cells, by the name bytes
+-- what follows the records of the cells, given the name bytes
 abbrev after_cells : Object → List ℕ → List ℕ
 after_cells o names =
     spelled code_layout (map node_row o.nodes)
@@ -146,7 +146,7 @@ in_parts : (v : Version) (o : Object) → spelling v o ≡ header_by v o (length
 unfolding spelling
 in_parts v o = refl
 
--- the bytes of an object in three parts, the middle of which is the initial word of cell k
+-- the bytes of an object in three parts, of which the middle one is the initial word of cell k
 record CutWhole (v : Version) (o : Object) (k : ℕ) (c : Cell) : Type 0 where
   pub before : List ℕ
   pub after : List ℕ
@@ -234,7 +234,7 @@ length_word : (w : ℕ) → length (bytes_of w64 w) ≡ 8
 unfolding bytes_of
 length_word w = refl
 
--- the word of an existing cell is among the bytes
+-- the initial word of an existing cell lies within the bytes
 pub word_there : (bytes : List ℕ) (v : Version) (o : Object) (k : ℕ) (c : Cell) → Spells bytes v o → slice_get o.cells k
     ≡ Some c → 56 + 16 * k + 8 ≤ length bytes
 word_there bytes v o k c h e =
@@ -246,7 +246,7 @@ word_there bytes v o k c h e =
     let n = r.long in
     omega (arith, whole, a, b, m, n)
 
--- bytes with the word of cell k replaced spell the object with this word
+-- if the initial word of cell k is replaced in the bytes, they spell the object with the new word
 pub spells_set : (old new : List ℕ) (v : Version) (o : Object) (k w : ℕ) (c : Cell) → IsWord w → Spells old v o →
     slice_get o.cells k ≡ Some c
     → new ≡ take (56 + 16 * k) old ++ (bytes_of w64 w ++ drop (56 + 16 * k + 8) old) →

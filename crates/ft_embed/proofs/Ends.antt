@@ -36,7 +36,7 @@ pub full_at : (steps taken count room : ℕ) (s : Status) → s ≡ Running → 
 full_at steps taken count room s is other le few all =
     full refl is (no_room count room le (λ less. other (all is less))) (omega (arith, other, few))
 
--- a run that has stopped is the run of all steps
+-- once a run has stopped, further steps change nothing
 pub stopped_all : (o : Object) (strike : Option Strike) (w : List Wild) (n m : ℕ) → n ≤ m →
     HasStopped (status_after o strike w n) → SameAfter o strike w n m
 stopped_all o strike w n m le h =
@@ -53,7 +53,7 @@ all_of o strike w steps status taken count room le (cut is s all) other =
     record { outputs = ap (outputs_after o strike w) all; status = ap (status_after o strike w) all }
 all_of o strike w steps status taken count room le (full is s all left) other = absurd (other is)
 
--- a run that was taken so far, of an accepted object
+-- the run of an accepted object, as far as it was taken
 pub runs_into : (o : Object) (strike : Option Strike) (w : List Wild) (steps status taken count : ℕ) (s : Status)
     (new : List CellOutput) → IsSpellable o → IsAccepted o → Takes o strike w steps taken s count new
     → ((count room : ℕ) → count ≤ room → taken ≤ steps → (s ≡ Running → count < room → taken ≡ steps) →
@@ -71,7 +71,7 @@ runs_into o strike w steps status taken count s new spellable accepted a ends =
       before = a.before;
     }
 
--- bytes that were run
+-- the object that bytes spell was run
 pub runs_file : (bytes view fault wild : List ℕ) (strike : Option Strike) (w : List Wild) (steps status taken count : ℕ)
     (new : List CellOutput) → view ≡ bytes → Spells bytes (version_at bytes) (object_of view) →
     IsAccepted (object_of view) → IsFault fault strike → AreAnswers wild w

@@ -24,7 +24,7 @@ use Rattle.ft_embed.specs.Verdicts.{Tells, IsAcceptedFile, judged, told_refusal,
 use Rattle.ft_embed.specs.Texts.{IsCompiled, IsSourceRefused, told_source, IsMalformed, IsAsmRefused, IsAsmBroken}
 use Rattle.ft_embed.specs.Texts.{none_of_the_forms, out_of_order, too_long, told_asm, HandsOver, fits, too_many}
 
--- what is reported of a refusal is reported of whatever is that refusal
+-- the verdict on an object with this refusal
 pub tells_refused : (x : Option Refusal) (r : Refusal) → x ≡ Some r → Tells 8 (told_refusal r) (judged x)
 tells_refused x r is = subst (λ y. Tells 8 (told_refusal r) (judged y)) (sym is) (record {
   status_is = refl;
@@ -50,7 +50,7 @@ asm_long text h = too_long h refl
 pub asm_broken : (text : List ℕ) (e : ObjectError) → Applies text (Broken e) → IsAsmBroken text (told_error e)
 asm_broken text e h = record { error = e; applies = h; told_is = refl }
 
--- bytes that found room, and bytes that did not
+-- bytes that fit, and bytes that do not
 pub handed : (bytes old new : List ℕ) (made : ℕ) → made ≡ length bytes → take made new ≡ bytes → length new
     ≡ length old → HandsOver bytes old new made 0
 handed bytes old new made is written same = fits refl is written same
@@ -73,7 +73,7 @@ accepted_so o status told h zero =
     let t = h (λ five. not_five status zero five) in
     (accepted_is_unrefused o).1 (unrefused (refusal o) (sym zero ∙ t.status_is))
 
--- bytes whose object is accepted
+-- bytes that spell an accepted object
 pub accepted_file : (bytes view : List ℕ) (status : ℕ) (told : Refused) → view ≡ bytes →
     Spells bytes (version_at bytes) (object_of view) →
     (status ≢ 5 → Tells status told (judged (refusal (object_of view)))) → status ≡ 0 → IsAcceptedFile bytes
@@ -87,8 +87,7 @@ pub source_refused : (text : List ℕ) (e : SourceError) (told : Refused) → (e
     e ≢ sources.NoMemory → told ≡ told_source e → IsSourceRefused text told
 source_refused text e told h named is = record { error = e; refused = h named; named = named; told_is = is }
 
--- a text is one program, so an object that stands for a program of it and is that of a flow of one does both for the
--- same program
+-- a text has only one program, so the program that an object stands for is the one that it was emitted for
 same_ok : (p q : Program) → ◌≡◌ {A = Result Program SourceError} (Ok p) (Ok q) → p ≡ q
 same_ok p q e = cc
 

@@ -1,4 +1,4 @@
--- Modules that are added in turn, and why they are not linked.
+-- Modules that are added in turn, and why they cannot be linked.
 use Rattle.std.proofs.Common.{◌≡◌, ◌≢◌, ◌⊎◌, inl, inr, ℕ, ◌+◌, ◌≤◌, List, [], ◌∷◌, length, drop, Option, Some, None}
 use Rattle.std.proofs.Common.{refl, sym, ap, subst, ◌∙◌, arith}
 use Rattle.std.specs.Str.{bytes_eq}
@@ -26,7 +26,7 @@ use Rattle.ft_embed.specs.Links.{IsUnaccepted, SaidUnlinked, IsAddedTo, IsLinked
 
 -- REFUSALS
 
--- a check is refused by no other status
+-- a refused check has neither status 0 nor status 15
 pub some_status : (n : ℕ) → (n ≡ 5) ⊎ (n ≡ 8) → (n ≢ 0) × (n ≢ 15)
 some_status n (inl five) = (λ z. omega (arith, five, z), λ z. omega (arith, five, z))
 some_status n (inr eight) = (λ z. omega (arith, eight, z), λ z. omega (arith, eight, z))
@@ -60,7 +60,7 @@ pub ends_unaccepted : (modules : List Object) (o : Object) (u : Unlinked) →
     IsUnaccepted (refusal o) (length modules) u → EndsAtObject modules o u
 ends_unaccepted modules o u h = let r = unaccepted_by (refusal o) (length modules) u h in not_accepted r.0 r.1 r.2
 
--- the bytes of the first module of a name, from some place
+-- the bytes of the first module with a name, from a place on
 pub bytes_from : (given : List Module) (name : List ℕ) (i : ℕ) (m : Module) → i < length given → m ≡ get_or given i m →
     bytes_of (drop i given) name ≡ (if bytes_eq m.name.now name then Some m.bytes.now
     else bytes_of (drop (i + 1) given) name)
@@ -108,7 +108,7 @@ pub longer : (given : List Module) (modules modules' : List Object) (name : List
     IsAddedTo given modules name modules' → length modules' ≡ length modules + 1
 longer given modules modules' name a = ap length a.added ∙ length-append modules (a.object ∷ [])
 
--- the files from some place
+-- the files from a place on
 turn : (files : List (List ℕ)) (i : ℕ) (x : List ℕ) → i < length files → x ≡ get_or files i x → drop i files
     ≡ x ∷ drop (i + 1) files
 turn files i x lt is = drop-cons files i x lt ∙ ap (λ y. y ∷ drop (suc i) files) (sym is)

@@ -1,4 +1,4 @@
--- Runs without answers to wild loads: none is ever left.
+-- A run that starts without answers to wild loads never has any.
 use Rattle.std.proofs.Common.{◌≡◌, ℕ, zero, suc, ◌==◌, Bool, true, false, not, ◌&&◌, nat_lt, if◌then◌else◌, List, []}
 use Rattle.std.proofs.Common.{◌∷◌, ◌++◌, length, Option, Some, None, refl, ap, sym, ◌∙◌, add-one}
 use Rattle.ft_isa.specs.declared.plan.Wild.{Wild}

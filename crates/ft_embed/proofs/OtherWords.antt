@@ -1,4 +1,4 @@
--- Typing looks at the types of an object's cells, and not at their initial words.
+-- Typing depends on the types of an object's cells, not on their initial words.
 use Rattle.std.proofs.Common.{◌≡◌, ℕ, zero, suc, ◌+◌, ◌-◌, ◌&&◌, ◌==◌, true, false, List, [], ◌∷◌, map, Option, Some}
 use Rattle.std.proofs.Common.{None, slice_get, take, drop, refl, sym, ap, subst, ◌∙◌, ⊎_elim}
 use Rattle.std.specs.Prelude.{Bool, nat_le, if◌then◌else◌}
@@ -47,7 +47,7 @@ types_kept [] k w = refl
 types_kept (c ∷ cs) zero w = refl
 types_kept (c ∷ cs) (suc k) w = ap (λ bs. c.basic ∷ bs) (types_kept cs k w)
 
--- cell k, and the others
+-- cell k, and the other cells
 pub word_at : (cs : List Cell) (k w : ℕ) (c x : Cell) → slice_get cs k ≡ Some c → slice_get (with_word cs k w) k
     ≡ Some x → x.basic ≡ c.basic
 word_at [] k w c x e f = cc
@@ -216,7 +216,7 @@ module _ (o : Object) (cs : List Cell) (same : map basic_of cs ≡ map basic_of 
 
 -- ACCEPTED
 
--- each word is of type `int`
+-- every word is of type `int`
 as_int : (o : Object) (w : ℕ) (b : Basic) → b ≡ int → HasTypeOver o w b.refs b.base
 as_int o w b is = subst (λ (x : Basic). HasTypeOver o w x.refs x.base) (sym is) tt
 
@@ -242,7 +242,7 @@ accepted_set o k w c e is acc =
           (sym (start_same o cs same x.code_type)) (applies_same o cs same _ _ (acc.blocks b x f));
     }
 
--- the word that the cell had makes the object again
+-- putting the old word back restores the object
 word_back : (cs : List Cell) (k w : ℕ) (c : Cell) → slice_get cs k ≡ Some c → with_word (with_word cs k w) k c.init ≡ cs
 word_back [] k w c e = refl
 word_back (x ∷ cs) zero w c e = let same : x ≡ c = cc in ap (λ (y : Cell). record x { init = y.init } ∷ cs) (sym same)

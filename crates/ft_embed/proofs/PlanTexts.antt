@@ -1,4 +1,4 @@
--- The texts of a run's plan, empty or read.
+-- Reading the texts of a run's plan, which may be empty.
 use Rattle.std.proofs.Common.{◌≡◌, ◌≢◌, ℕ, suc, List, [], ◌∷◌, length, Some, None, refl, ap, arith}
 use Rattle.ft_isa.specs.declared.plan.Strike.{Strike}
 use Rattle.ft_embed.proofs.NoAnswers.{no_words}
@@ -30,7 +30,7 @@ form_or_memory : (text : List ℕ) (e : WildError) → e ≢ NoMemory → IsWild
 form_or_memory text (Form at) named h answers = h.none answers
 form_or_memory text NoMemory named h answers = absurd (named refl)
 
--- a text that is not empty, and is refused, spells no answers
+-- a nonempty text that is refused spells no answers
 pub none_said : (text : List ℕ) (e : WildError) (answers : List Wild) → (length text ≡ 0 → ⊥) → e ≢ NoMemory →
     IsWildError text e → AreAnswers text answers → ⊥
 none_said text e answers some named h (no_answers is) = some (ap length is)

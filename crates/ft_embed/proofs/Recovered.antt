@@ -24,7 +24,7 @@ use Rattle.ft_embed.specs.Plans.{IsFault, AreAnswers}
 use Rattle.ft_embed.specs.Recoveries.{IsRestart, RecoversInto, RecoversFile}
 use Rattle.ft_embed.proofs.Ends.{all_of, stopped_all}
 
--- a run that is not detected is the run without the fault
+-- a run that is not detected agrees with the run without the fault
 clean : (xs ys : List Output) (s t : Status) → Agrees xs s ys t → s ≢ Detected → (xs ≡ ys) × (s ≡ t)
 clean xs ys s t (equal e f) other = (e, f)
 clean xs ys s t (stopped e p) other = absurd (other e)
@@ -39,7 +39,7 @@ some_count Running xs n is e = absurd (cc)
 some_count Done xs n is e = absurd (cc)
 some_count Detected xs n is e = (refl, e)
 
--- as many outputs are in the array as the run has
+-- the array has as many outputs as the run
 outputs_count : (o : Object) (strike : Option Strike) (w : List Wild) (steps taken : ℕ) (s : Status) (count : ℕ)
     (new : List CellOutput) → Takes o strike w steps taken s count new → count ≡ length (outputs_after o strike w taken)
 outputs_count o strike w steps taken s count new a = sym (length-take-le count new a.within) ∙ ap length a.outputs
@@ -47,7 +47,7 @@ outputs_count o strike w steps taken s count new a = sym (length-take-le count n
 
 module _ (o : Object) (strike : Option Strike) (w : List Wild) (steps : ℕ) (spellable : IsSpellable o)
     (accepted : IsAccepted o) where
-  -- before each step that a run takes without being detected, the run without the fault stood as it did
+  -- each step that a run could take, the run without the fault could take, too
   clean_until : (taken room : ℕ) → GoesUntil o strike w taken room → GoesUntil o None w taken room
   clean_until taken room h n below =
       let x = h n below in
@@ -121,7 +121,7 @@ module _ (o : Object) (strike : Option Strike) (w : List Wild) (steps : ℕ) (sp
         };
       }
 
--- bytes that were recovered
+-- the object that bytes spell was recovered
 pub recovers_file : (bytes view fault wild : List ℕ) (strike : Option Strike) (w : List Wild)
     (steps status taken count restarts again : ℕ) (new : List CellOutput) → view ≡ bytes →
     Spells bytes (version_at bytes) (object_of view) → IsAccepted (object_of view) → IsFault fault strike →

@@ -1,4 +1,4 @@
--- Bytes with the word of a cell replaced.
+-- Replacing the initial word of a cell in the bytes of an object.
 use Rattle.std.proofs.Common.{◌≡◌, ℕ, ◌+◌, ◌*◌, ◌≤◌, List, ◌++◌, length, take, drop, sym, subst}
 use Rattle.std.specs.Int.{w64}
 use Rattle.ft_isa.specs.Words.{IsWord}
@@ -10,7 +10,7 @@ use Rattle.ft_embed.specs.Cells.{object_with_word, HasIntCell, IsSet}
 use Rattle.ft_embed.proofs.CellBytes.{word_there, spells_set}
 use Rattle.ft_embed.proofs.OtherWords.{accepted_set, accepted_before}
 
--- the word of a cell is replaced
+-- the initial word of a cell was replaced
 pub is_set : (old new : List ℕ) (k w : ℕ) → IsWord w → HasIntCell old k → new ≡ take (56 + 16 * k) old
     ++ (bytes_of w64 w ++ drop (56 + 16 * k + 8) old) → IsSet old new k w
 is_set old new k w word h is =
@@ -27,6 +27,6 @@ is_set old new k w word h is =
       only = λ acc. accepted_before o k w h.cell h.has.there h.is_int (subst IsAccepted object acc);
     }
 
--- the word is among the bytes
+-- the initial word lies within the bytes
 pub word_within : (old : List ℕ) (k : ℕ) → HasIntCell old k → 56 + 16 * k + 8 ≤ length old
 word_within old k h = word_there old (version_at old) (object_of old) k h.cell h.has.spelled h.has.there

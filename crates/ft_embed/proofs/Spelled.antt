@@ -1,4 +1,4 @@
--- What is given over bytes that spell an object.
+-- What is returned for bytes that spell an object.
 use Rattle.std.proofs.Common.{◌≡◌, ℕ, ◌≤◌, List, length, ap, subst, ◌∙◌}
 use Rattle.ft_typing.specs.Accepted.{IsAccepted}
 use Rattle.ft_format.specs.Format.{Spells}

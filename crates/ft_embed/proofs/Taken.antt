@@ -18,7 +18,7 @@ use Rattle.ft_embed.specs.declared.filling.CellOutput.{CellOutput}
 use Rattle.ft_embed.specs.Outputs.{Fills, GoesUntil, MayGoOn, Takes, cell_output}
 use Rattle.ft_embed.proofs.Stretches.{rest_below}
 
--- a strike keeps the cells
+-- a strike neither adds nor removes a cell
 pub struck_cells : (strike : Option Strike) (k cells : ℕ) (s t : State) → t ≡ struck_before strike k s →
     HasCells cells s → HasCells cells t
 struck_cells strike k cells s t struck has a =
@@ -27,7 +27,7 @@ struck_cells strike k cells s t struck has a =
 -- steps from the start, with no strike within them
 module _ (o : Object) (strike : Option Strike) (w : List Wild) (s0 : State) (w0 : List Wild) (begun : s0
     ≡ start o) (answers : w0 ≡ w) where
-  -- before each step of them
+  -- before each of these steps
   pub might_first : (n c : ℕ) (s1 : State) (w1 : List Wild) (old mid new : List CellOutput) → length new ≡ length old →
       ((j : ℕ) → j < n → Spares strike j) → Fills o s0 w0 n s1 w1 0 c old mid → GoesUntil o strike w n (length new)
   might_first n c s1 w1 old mid new same spares a k less =
@@ -53,7 +53,7 @@ module _ (o : Object) (strike : Option Strike) (w : List Wild) (s0 : State) (w0 
         before = might_first n c s1 w1 old new new same spared_by a;
       }
 
--- steps after a strike, or with none
+-- steps after a strike, or without one
 module _ (o : Object) (strike : Option Strike) (w : List Wild) (before : ℕ) (s1 s2 : State) (w1 : List Wild)
     (state_is : s1 ≡ (run o strike w before).state) (wild_is : w1 ≡ (run o strike w before).wild) (struck : s2
     ≡ struck_before strike before s1)
@@ -81,7 +81,7 @@ module _ (o : Object) (strike : Option Strike) (w : List Wild) (before : ℕ) (s
       let room = h.free in
       record { running = sym (status_on k) ∙ h.running; free = omega (arith, outs, room, same, is) }
 
--- a run of two parts
+-- a run in two parts
 pub takes_second : (o : Object) (strike : Option Strike) (w : List Wild) (s0 s1 s2 s3 : State) (w0 w1 w3 : List Wild)
     (steps n before m c1 c2 : ℕ) (old mid new : List CellOutput) → s0 ≡ start o → w0 ≡ w →
     ((j : ℕ) → j < before → Spares strike j) → ((j : ℕ) → before < j → Spares strike j)

@@ -28,7 +28,7 @@ use Rattle.ft_embed.proofs.Taken.{status_on, struck_cells}
 not_at : (x : Strike) (k j : ℕ) → x.step ≤ k → k < j → x.step ≡ j → ⊥
 not_at x k j by above is = omega (arith, by, above, is)
 
--- a strike that came by now comes no more
+-- a strike that has come does not come again
 spares_later : (strike : Option Strike) (k : ℕ) → IfSome strike (IsBy k) → (j : ℕ) → k < j → Spares strike j
 spares_later None k by j above s = refl
 spares_later (Some x) k by j above s = spared x j (not_at x k j by above) s
@@ -49,7 +49,7 @@ begins o s spellable accepted first = record {
   state = first ∙ ap (λ (r : Ran). r.state) (sym (run-zero o None no_words));
 }
 
--- the machine has its cells
+-- the machine has the cells of its object
 pub task_cells : (r : TaskRun) (s : State) → IsTask r s → HasCells (length r.object.cells) s
 task_cells r s h = struck_cells r.strike r.taken (length r.object.cells)
     (state_after r.object r.strike no_words r.taken) s h.state (run_has_cells r.object r.strike no_words r.taken)
@@ -135,7 +135,7 @@ pub clean_now : (o : Object) (k : ℕ) (strike : Option Strike) (s : State) → 
 clean_now o k None s is h = h
 clean_now o k (Some x) s is h = absurd (cc)
 
--- the strike that comes before the next step
+-- a strike before the next step
 abbrev pub next_strike : TaskRun → Site → ℕ → Strike
 next_strike r site value = record { step = r.taken; site = site; value = value }
 
@@ -156,7 +156,7 @@ task_struck r s s' site value h first struck =
           ∙ sym (struck_there x (state_after r.object (Some x) no_words r.taken));
     }
 
--- a site that is not there is not struck
+-- striking a site that does not exist changes nothing
 pub kept_state : (s s' : State) (site : Site) (value : ℕ) → s' ≡ struck_state s site value → is_there s site ≡ false →
     s' ≡ s
 kept_state s s' site value struck none = struck ∙ ap (λ b. if b then with_word site value s else s) none

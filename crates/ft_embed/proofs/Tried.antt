@@ -34,7 +34,7 @@ pub list_much : (list : List ℕ) (faults : List Strike) (steps count : ℕ) →
 list_much list faults steps count h is above = too_much faults h (subst (λ n. 1000000000 < n * steps) is above)
     (ap (λ n. told_list 3 (n * steps)) is)
 
--- how many verdicts there are
+-- there are as many verdicts as faults
 pub as_many : (o : Object) (faults : List Strike) (w : List Wild) (steps : ℕ) (found : List Verdict) →
     AreVerdicts o faults w steps found → length found ≡ length faults
 as_many o faults w steps found h = AllZip-long _ faults found h
@@ -53,7 +53,7 @@ tried o faults w steps found old new spellable accepted verdicts room same stand
   totals_are = refl;
 }
 
--- bytes whose object is accepted
+-- bytes that spell an accepted object
 pub accepted_file : (bytes view : List ℕ) → view ≡ bytes → Spells bytes (version_at bytes) (object_of view) →
     IsAccepted (object_of view) → IsAcceptedFile bytes
 accepted_file bytes view same spelled accepted = record {
@@ -61,7 +61,7 @@ accepted_file bytes view same spelled accepted = record {
   accepted = subst (λ v. IsAccepted (object_of v)) same accepted;
 }
 
--- the faults of a text were tried on the object of bytes
+-- the faults in a text were tried on the object that bytes spell
 pub tries_file : (bytes view list wild : List ℕ) (w : List Wild) (steps : ℕ) (totals : FaultTotals)
     (new : List FaultVerdict) → view ≡ bytes → Spells bytes (version_at bytes) (object_of view) →
     IsAccepted (object_of view)

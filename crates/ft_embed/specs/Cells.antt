@@ -1,4 +1,4 @@
--- Objects with another initial word of a cell.
+-- Changing the initial word of a cell.
 use Rattle.std.specs.Prelude.{◌≡◌, ◌≢◌, ℕ, zero, suc, ◌≤◌, List, [], ◌∷◌, length, Some, slice_get}
 use Rattle.ft_isa.specs.BasicTypes.{int}
 use Rattle.ft_types.specs.declared.object.Object.{Object}
@@ -11,13 +11,13 @@ use Rattle.ft_format.specs.Broken.{object_of, version_at}
 abbrev pub begun_with : Cell → ℕ → Cell
 begun_with c w = record c { init = w }
 
--- cells where cell k has another initial word
+-- the cells, with another initial word in cell k
 abbrev pub with_word : List Cell → ℕ → ℕ → List Cell
 with_word [] k w = []
 with_word (c ∷ cs) zero w = begun_with c w ∷ cs
 with_word (c ∷ cs) (suc k) w = c ∷ with_word cs k w
 
--- an object where cell k has another initial word, and nothing else differs
+-- the object with another initial word in cell k
 abbrev pub object_with_word : Object → ℕ → ℕ → Object
 object_with_word o k w = record o { cells = with_word o.cells k w }
 
@@ -43,8 +43,8 @@ pub record HasNoCell (bytes : List ℕ) (k : ℕ) : Type 0 where
   pub spelled : Spells bytes (version_at bytes) (object_of bytes)
   pub none : length (object_of bytes).cells ≤ k
 
--- the old bytes have a cell k of type `int`, and the new ones spell, in the same version, the object with another
--- initial word of it, which is accepted exactly if the old one is
+-- the old bytes spell an object whose cell k is of type `int`, and the new ones spell, in the same version, that object
+-- with this initial word in cell k; it is accepted exactly if the old object is
 pub record IsSet (old new : List ℕ) (k w : ℕ) : Type 0 where
   pub cell : HasIntCell old k
   pub spelled : Spells new (version_at old) (object_with_word (object_of old) k w)

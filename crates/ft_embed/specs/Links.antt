@@ -1,4 +1,4 @@
--- What a link returns over the text of a link map and modules in an array of the caller.
+-- What a link returns for the text of a link map and the modules in an array of the caller.
 use Rattle.std.specs.Prelude.{◌≡◌, ◌⊎◌, ℕ, ◌+◌, ◌<◌, ◌≤◌, if◌then◌else◌, List, [], ◌∷◌, ◌++◌, length, Option, Some, None}
 use Rattle.std.specs.Str.{bytes_eq}
 use Rattle.ft_types.specs.declared.object.Object.{Object}
@@ -19,11 +19,11 @@ use Rattle.ft_embed.specs.Verdicts.{nothing, told_error, told_refusal}
 
 -- REFUSALS
 
--- a refusal of a link with one number: the line of the map, the module or the maximum number of bytes of a map
+-- a refusal of a link with one number: a line of the map, a module, or the maximum number of bytes of a map
 abbrev pub told_link : ℕ → ℕ → Refused
 told_link n x = record { part = 7; number = n; place = x; index = 0 }
 
--- the module of a refusal, 0 if it is about a line
+-- the module that a refusal is about; 0 if it is about a line
 abbrev pub module_of : LinkRefusal → ℕ
 module_of (Cells m) = m
 module_of (Rows m) = m
@@ -34,7 +34,7 @@ module_of (Stub line) = 0
 module_of (Missing line) = 0
 module_of (Types line) = 0
 
--- why modules are not linked: the number of the refusal, and the module, the block and the index in it, or the line
+-- why modules cannot be linked: the number of the refusal, and a module, a block and an index in it, or a line
 abbrev pub why_unlinked : LinkRefusal → Refused
 why_unlinked (Cells m) = told_link 3 m
 why_unlinked (Rows m) = told_link 4 m
@@ -45,20 +45,20 @@ why_unlinked (Stub line) = told_link 8 line
 why_unlinked (Missing line) = told_link 9 line
 why_unlinked (Types line) = told_link 10 line
 
--- the result for modules that are not linked
+-- the result for modules that cannot be linked
 abbrev pub unlinked : LinkRefusal → Unlinked
 unlinked r = record { status = 13; «module» = module_of r; why = why_unlinked r }
 
 -- THE MAP
 
--- the outcome of a text as a link map; the text has at most 65,536 bytes
+-- the outcome of reading a text as a link map; the text has at most 65,536 bytes
 pub record SaysOf (text : List ℕ) (said : Answer) : Type 0 where
   pub short : length text ≤ 65536
   pub lines : List MapLine
   pub are_said : AreSaid text lines
   pub is : answer_of lines ≡ said
 
--- the text is that of a map
+-- the text is this map
 abbrev pub IsMap : List ℕ → LinkMap → Type 0
 IsMap text linkage = SaysOf text (Is linkage)
 
@@ -74,23 +74,23 @@ pub data EndsAtMap (text : List ℕ) (u : Unlinked) : Type 0 where
 
 -- MODULES
 
--- the bytes of the first module of this name
+-- the bytes of the first module with this name
 abbrev pub bytes_of : List Module → List ℕ → Option (List ℕ)
 bytes_of [] name = None
 bytes_of (m ∷ ms) name = if bytes_eq m.name.now name then Some m.bytes.now else bytes_of ms name
 
--- the link ends with this refusal of an object: it is not accepted, or not added to the modules before it
+-- the link ends with this refusal of an object: it is not accepted, or cannot be added to the modules before it
 pub data EndsAtObject (modules : List Object) (o : Object) (u : Unlinked) : Type 0 where
   not_accepted : (r : Refusal) → refusal o ≡ Some r → u ≡ record { status = 8; «module» = length modules; why = told_refusal r } → EndsAtObject modules o u
   not_added : refusal o ≡ None → (r : LinkRefusal) → added_refusal modules o ≡ Some r → u ≡ unlinked r → EndsAtObject modules o u
 
--- the link ends with this refusal of a further module's bytes: they spell no object, or a refused one
+-- the link ends with this refusal of the next module's bytes: they spell no object, or one that ends the link
 pub data EndsAtBytes (modules : List Object) (bytes : List ℕ) (u : Unlinked) : Type 0 where
   no_object : (e : ObjectError) → broken bytes ≡ Some e → u ≡ record { status = 7; «module» = length modules; why = told_error e } → EndsAtBytes modules bytes u
   no_module : Spells bytes (version_at bytes) (object_of bytes) → EndsAtObject modules (object_of bytes) u → EndsAtBytes modules bytes u
 
--- the link ends with this refusal of a further module's file: no module has its name, or the bytes of the first one
--- with it are refused
+-- the link ends with this refusal of the next module's file: no module has its name, or the bytes of the first module
+-- that has it end the link
 pub data EndsAtModule (given : List Module) (modules : List Object) (name : List ℕ) (u : Unlinked) : Type 0 where
   not_given : bytes_of given name ≡ None → u ≡ record { status = 20; «module» = length modules; why = nothing } → EndsAtModule given modules name u
   ends_at_bytes : (bytes : List ℕ) → bytes_of given name ≡ Some bytes → EndsAtBytes modules bytes u → EndsAtModule given modules name u
@@ -101,7 +101,7 @@ pub record AddsObject (modules : List Object) (o : Object) (modules' : List Obje
   pub unrefused : added_refusal modules o ≡ None
   pub added : modules' ≡ modules ++ o ∷ []
 
--- the object of the file of a further module is accepted and added to the modules before it
+-- the object in the next module's file is accepted, and can be added to the modules before it
 pub record IsAdded (given : List Module) (modules : List Object) (name : List ℕ) (o : Object) : Type 0 where
   pub bytes : List ℕ
   pub found : bytes_of given name ≡ Some bytes
@@ -109,12 +109,12 @@ pub record IsAdded (given : List Module) (modules : List Object) (name : List �
   pub accepted : refusal o ≡ None
   pub unrefused : added_refusal modules o ≡ None
 
--- the files of further modules are added in turn, and these are then all the modules
+-- the files of further modules are added in turn, and in the end these are all the modules
 abbrev pub AddsAll : List Module → List Object → List (List ℕ) → List Object → Type 0
 AddsAll given modules [] all = all ≡ modules
 AddsAll given modules (name ∷ names) all = (o : Object) × (IsAdded given modules name o × AddsAll given (modules ++ o ∷ []) names all)
 
--- the link ends with this refusal of the file of some further module, and those before it are added
+-- the link ends with this refusal of the file of some further module, and the files before it are added
 abbrev pub EndsInTurn : List Module → List Object → List (List ℕ) → Unlinked → Type 0
 EndsInTurn given modules [] u = ⊥
 EndsInTurn given modules (name ∷ names) u = EndsAtModule given modules name u ⊎ ((o : Object) × (IsAdded given modules name o × EndsInTurn given (modules ++ o ∷ []) names u))
@@ -129,7 +129,7 @@ pub data IsUnlinked (given : List Module) (text : List ℕ) (u : Unlinked) : Typ
       → (r : LinkRefusal) → refusal_of linkage modules ≡ Some r → u ≡ unlinked r → IsUnlinked given text u
 
 -- these bytes are the object that a map makes of the added modules, in version 2 of the format. It is accepted; it runs
--- as the modules do; with a fault it still does, or is detected
+-- as the modules do; with a fault, it still does or is detected
 pub record IsLinkedAll (linkage : LinkMap) (modules : List Object) (bytes : List ℕ) : Type 0 where
   pub unrefused : refusal_of linkage modules ≡ None
   pub object : Object
@@ -146,7 +146,7 @@ pub record IsLinkedOf (given : List Module) (text bytes : List ℕ) : Type 0 whe
 
 -- FOR THE CODE
 
--- the result for a refusal that applies: private to the code
+-- the result for a refusal, if there is one: private to the code
 abbrev pub IsUnlinkedBy : Option LinkRefusal → Unlinked → Type 0
 IsUnlinkedBy None u = ⊥
 IsUnlinkedBy (Some r) u = u ≡ unlinked r
@@ -162,13 +162,13 @@ SaidUnlinked (Is linkage) u = ⊥
 SaidUnlinked (Line line) u = u ≡ bad_map 1 line
 SaidUnlinked (Twice line) u = u ≡ bad_map 2 line
 
--- the object of a further module's file was added: private to the code
+-- the object in the next module's file was added: private to the code
 pub record IsAddedTo (given : List Module) (modules : List Object) (name : List ℕ) (modules' : List Object) : Type 0 where
   pub object : Object
   pub is : IsAdded given modules name object
   pub added : modules' ≡ modules ++ object ∷ []
 
--- these modules of a map were added, and its link ends as that of its remaining files does: private to the code
+-- these modules of a map were added, and its link ends as the link of the remaining files does: private to the code
 pub record HasAdded (given : List Module) (linkage : LinkMap) (modules : List Object) (rest : List (List ℕ)) : Type 0 where
   pub count : length modules + length rest ≡ length linkage.files
   pub adds : (all : List Object) → AddsAll given modules rest all → AddsAll given [] linkage.files all

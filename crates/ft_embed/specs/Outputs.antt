@@ -23,7 +23,7 @@ use Rattle.ft_embed.specs.declared.filling.CellOutput.{CellOutput}
 abbrev pub cell_output : Output → CellOutput
 cell_output x = record { cell = x.addr - 1048576; value = x.value }
 
--- what a step commits goes to a cell: private to the code
+-- if a step commits an output, its address is not below the first cell's: private to the code
 abbrev pub GoesToCell : Stepped → Type 0
 GoesToCell stepped.Quiet = Unit {0}
 GoesToCell (stepped.Commit output) = 1048576 ≤ output.addr
@@ -36,8 +36,8 @@ pub record MayGoOn (status : Status) (count room : ℕ) : Type 0 where
   pub running : status ≡ Running
   pub free : count < room
 
--- n steps from a state were taken, each only if there was room for one more output, and their outputs are in an array
--- after those that were there: private to the code
+-- n steps were taken from a state, each while the machine was running and there was room for one more output, and their
+-- outputs are in an array after the earlier ones: private to the code
 pub record Fills (o : Object) (s : State) (w : List Wild) (n : ℕ) (s' : State) (w' : List Wild) (from count : ℕ) (old new : List CellOutput) : Type 0 where
   pub state_is : s' ≡ (span o n s w).state
   pub wild_is : w' ≡ (span o n s w).wild
@@ -51,8 +51,8 @@ abbrev pub GoesUntil : Object → Option Strike → List Wild → ℕ → ℕ �
 GoesUntil o strike w taken room = (n : ℕ) → n < taken →
     MayGoOn (status_after o strike w n) (length (outputs_after o strike w n)) room
 
--- `taken` of at most `steps` steps of a run under a plan were taken: it has this status, and its outputs are in the
--- array; if it is still running, it took all steps or the array is full: private to the code
+-- a run under a plan took `taken` of at most `steps` steps: it has this status, and its outputs are in the array; if it
+-- is still running, it took all steps or the array is full: private to the code
 pub record Takes (o : Object) (strike : Option Strike) (w : List Wild) (steps taken : ℕ) (status : Status) (count : ℕ) (new : List CellOutput) : Type 0 where
   pub few : taken ≤ steps
   pub within : count ≤ length new
@@ -73,8 +73,8 @@ pub record SameAfter (o : Object) (strike : Option Strike) (w : List Wild) (n m 
   pub outputs : outputs_after o strike w n ≡ outputs_after o strike w m
   pub status : status_after o strike w n ≡ status_after o strike w m
 
--- `taken` of at most `steps` steps of a run under a plan were taken, none beyond its end: its outputs are in the array,
--- and one fault is masked or detected. Unless the array was full, it is the run of all steps
+-- a run under a plan took `taken` of at most `steps` steps, none beyond its end: its outputs are in the array, and one
+-- fault is masked or detected. Unless the array was full, its outputs and its status are those after all steps
 pub record RunsInto (o : Object) (strike : Option Strike) (w : List Wild) (steps status taken count : ℕ) (new : List CellOutput) : Type 0 where
   pub few : taken ≤ steps
   pub within : count ≤ length new
@@ -92,7 +92,7 @@ not_begun = record { steps = 0; count = 0; restarts = 0; again = 0 }
 abbrev pub IsOnce : Ran → Type 0
 IsOnce ran = (ran.restarts ≡ 0) × (ran.again ≡ 0)
 
--- bytes whose object is accepted were run under the plan that two texts spell
+-- the accepted object that bytes spell was run under the plan that two texts spell
 pub record RunsFile (bytes fault wild : List ℕ) (steps status taken count : ℕ) (new : List CellOutput) : Type 0 where
   pub file : IsAcceptedFile bytes
   pub strike : Option Strike

@@ -1,4 +1,4 @@
--- Recoveries, whose outputs go into an array of the caller.
+-- Recoveries whose outputs go into an array of the caller.
 use Rattle.std.specs.Prelude.{◌≡◌, ◌≢◌, ℕ, ◌<◌, ◌≤◌, List, length, take, map, Option, Some, None}
 use Rattle.ft_isa.specs.declared.plan.Strike.{Strike}
 use Rattle.ft_isa.specs.declared.plan.Wild.{Wild}
@@ -28,8 +28,8 @@ pub record FirstRun (o : Object) (strike : Option Strike) (w : List Wild) (steps
   pub before : GoesUntil o strike w taken room
   pub told : IsRestart (restart_output o strike w taken) restarts again
 
--- a program was run under a plan, and restarted without the strike if that was detected: the outputs in the array and
--- the end are those of the run without the strike
+-- a program was run under a plan, and restarted without the strike if the run was detected: the outputs in the array
+-- and the end are those of the run without the strike
 pub record RecoversInto (o : Object) (strike : Option Strike) (w : List Wild) (steps status taken count restarts again : ℕ) (new : List CellOutput) : Type 0 where
   pub few : taken ≤ steps
   pub within : count ≤ length new
@@ -40,7 +40,7 @@ pub record RecoversInto (o : Object) (strike : Option Strike) (w : List Wild) (s
   pub restart : status ≢ 14 → IsRestart (restart_output o strike w steps) restarts again
   pub first : FirstRun o strike w steps (length new) restarts again
 
--- bytes whose object is accepted were recovered under the plan that two texts spell
+-- the accepted object that bytes spell was recovered under the plan that two texts spell
 pub record RecoversFile (bytes fault wild : List ℕ) (steps status taken count restarts again : ℕ) (new : List CellOutput) : Type 0 where
   pub file : IsAcceptedFile bytes
   pub strike : Option Strike

@@ -29,30 +29,30 @@ begun o = record { object = o; strike = None; taken = 0 }
 abbrev pub IsBy : ℕ → Strike → Type 0
 IsBy taken x = x.step ≤ taken
 
--- the machine of such a run of an accepted object, after the strike if that is due before the next step
+-- the machine's state in such a run of an accepted object, after the strike if that is due before the next step
 pub record IsTask (r : TaskRun) (s : State) : Type 0 where
   pub spellable : IsSpellable r.object
   pub accepted : IsAccepted r.object
   pub by : IfSome r.strike (IsBy r.taken)
   pub state : s ≡ struck_before r.strike r.taken (state_after r.object r.strike [] r.taken)
 
--- n steps were taken after k, and their outputs are in an array
+-- n steps were taken after the first k, and their outputs are in an array
 pub record GoesOn (o : Object) (strike : Option Strike) (k n count : ℕ) (new : List CellOutput) : Type 0 where
   pub more : List Output
   pub split : outputs_after o strike [] (k + n) ≡ outputs_after o strike [] k ++ more
   pub stand : take count new ≡ map cell_output more
 
--- a handle holds the run of the object that bytes spell, which is accepted, before its first step
+-- a handle holds the run, before its first step, of the accepted object that bytes spell
 pub record IsOpened (bytes : List ℕ) (held : Option TaskRun) : Type 0 where
   pub file : IsAcceptedFile bytes
   pub holds : held ≡ Some (begun (object_of bytes))
 
--- a call may take all of `steps` steps, or as many as can be counted: 2^64 - 1 in all
+-- a call may take all of `steps` steps, or as many as can still be counted: 2^64 - 1 in all
 pub data IsLimit (steps taken most : ℕ) : Type 0 where
   all_steps : most ≡ steps → IsLimit steps taken most
   last_steps : taken + most ≡ 18446744073709551615 → most < steps → IsLimit steps taken most
 
--- the run could take n steps after k: before each the run had not stopped, and the earlier outputs left room
+-- the run could take n steps after the first k: before each the run had not stopped, and the earlier outputs left room
 abbrev pub GoesOnUntil : Object → Option Strike → ℕ → ℕ → ℕ → Type 0
 GoesOnUntil o strike k n room =
     (j : ℕ) → j < n → MayGoOn (status_after o strike [] (k + j)) (length (outputs_after o strike [] (k + j)))

@@ -1,4 +1,4 @@
--- What is returned for texts.
+-- What is returned for texts, upgrades, schedules and names.
 use Rattle.std.specs.Prelude.{◌≡◌, ◌≢◌, ◌<◌, ℕ, List, length, take, slice_get, Option, Some}
 use Rattle.std.specs.Option.{option_map}
 use Rattle.ft_types.specs.Objects.{name_of}
@@ -29,7 +29,7 @@ use Rattle.ft_embed.specs.declared.refused.Refused.{Refused}
 abbrev pub told_source : SourceError → Refused
 told_source e = record { part = 5; number = source_number e; place = source_told e; index = 0 }
 
--- these bytes are an object in version 2 of the format that stands for the text's program; it is the object of a flow
+-- these bytes are an object in version 2 of the format that stands for the text's program. It is the object of a flow
 -- of the program, and a module that the linker accepts
 pub record IsCompiled (text bytes : List ℕ) : Type 0 where
   pub program : Program
@@ -40,7 +40,7 @@ pub record IsCompiled (text bytes : List ℕ) : Type 0 where
   pub joins : IsModule object.cells object
   pub spelled : Spells bytes Second object
 
--- this is the text's refusal
+-- this is the refusal of the source
 pub record IsSourceRefused (text : List ℕ) (told : Refused) : Type 0 where
   pub error : SourceError
   pub refused : IsRefusalOf text error
@@ -52,13 +52,13 @@ pub data HandsOver (bytes old new : List ℕ) (made status : ℕ) : Type 0 where
   fits : status ≡ 0 → made ≡ length bytes → take made new ≡ bytes → length new ≡ length old → HandsOver bytes old new made status
   too_many : status ≡ 15 → made ≡ length bytes → length old < made → new ≡ old → HandsOver bytes old new made status
 
--- bytes with this property were returned
+-- there are bytes with this property, which were written or do not fit
 pub record Given (Holds : List ℕ → Type 0) (old new : List ℕ) (made status : ℕ) : Type 0 where
   pub bytes : List ℕ
   pub holds : Holds bytes
   pub handed : HandsOver bytes old new made status
 
--- why bytes were not read: the first rule that they break; running out of memory claims nothing
+-- why bytes were not decoded: the first rule that they break; nothing is claimed if memory ran out
 abbrev pub IsWhy : Option ObjectError → DecodeError → Type 0
 IsWhy rule (decodes.Object e) = rule ≡ Some e
 IsWhy rule decodes.NoMemory = Unit {0}
@@ -69,13 +69,13 @@ pub record IsMalformed (bytes : List ℕ) (told : Refused) : Type 0 where
   pub is : broken bytes ≡ Some error
   pub told_is : told ≡ told_error error
 
--- these bytes are the object of other bytes in version 2 of the format
+-- these bytes spell, in version 2 of the format, the object that other bytes spell
 pub record IsUpgraded (bytes new : List ℕ) : Type 0 where
   pub object : Object
   pub from : Spells bytes (version_at bytes) object
   pub to : Spells new Second object
 
--- these bytes are the schedule of an object, which is accepted and runs alike, in version 2 of the format
+-- these bytes spell, in version 2 of the format, the schedule of an object; it is accepted and runs like the object
 pub record IsScheduleOf (o : Object) (new : List ℕ) : Type 0 where
   pub schedule : Object
   pub scheduled : IsScheduled o schedule
@@ -83,12 +83,12 @@ pub record IsScheduleOf (o : Object) (new : List ℕ) : Type 0 where
   pub alike : (w : List Wild) (n : ℕ) → RunsAlike o schedule w n
   pub to : Spells new Second schedule
 
--- these bytes are the schedule of the object that other bytes spell, which is accepted
+-- these bytes spell the schedule of the accepted object that other bytes spell
 pub record IsScheduleOfFile (bytes new : List ℕ) : Type 0 where
   pub file : IsAcceptedFile bytes
   pub is : IsScheduleOf (object_of bytes) new
 
--- the bytes spell an object, and this is its text
+-- the bytes spell an object, and this is its assembly text
 pub record IsText (bytes text : List ℕ) : Type 0 where
   pub spelled : Spells bytes (version_at bytes) (object_of bytes)
   pub is : text ≡ text_of (object_of bytes)
@@ -106,13 +106,13 @@ pub record IsNameOf (bytes : List ℕ) (k : ℕ) (name : List ℕ) : Type 0 wher
 abbrev pub told_asm : ℕ → ℕ → Refused
 told_asm n x = record { part = 6; number = n; place = x; index = 0 }
 
--- this is the assembly text's refusal
+-- this is the refusal of the assembly text
 pub data IsAsmRefused (text : List ℕ) (told : Refused) : Type 0 where
   none_of_the_forms : (line : ℕ) → Applies text (Text line) → told ≡ told_asm 1 line → IsAsmRefused text told
   out_of_order : (line : ℕ) → Applies text (Order line) → told ≡ told_asm 2 line → IsAsmRefused text told
   too_long : Applies text TooLong → told ≡ told_asm 3 134217728 → IsAsmRefused text told
 
--- the spelling of the tables that the assembly text means breaks this rule of the format first
+-- the bytes of the tables that the assembly text describes break this rule of the format first
 pub record IsAsmBroken (text : List ℕ) (told : Refused) : Type 0 where
   pub error : ObjectError
   pub applies : Applies text (Broken error)

@@ -1,4 +1,4 @@
--- Campaigns, whose verdicts go into an array of the caller.
+-- Campaigns whose verdicts go into an array of the caller.
 use Rattle.std.specs.Prelude.{◌≡◌, ℕ, ◌*◌, ◌<◌, ◌≤◌, List, length, take, map, count_by}
 use Rattle.ft_isa.specs.declared.plan.Strike.{Strike}
 use Rattle.ft_isa.specs.declared.plan.Wild.{Wild}
@@ -36,7 +36,7 @@ detected_at verdicts.Corrupt = 0
 abbrev pub fault_verdict : Verdict → FaultVerdict
 fault_verdict v = record { verdict = verdict_number v; at = detected_at v }
 
--- how many faults there are, and how many have each verdict, as C sees it; none of an accepted object is corrupt
+-- how many faults there are, and how many have each verdict, as C sees it; for an accepted object none is corrupt
 abbrev pub fault_totals : ℕ → Totals → FaultTotals
 fault_totals n t = record { count = n; masked = t.masked; detected = t.detected; idle = t.idle }
 
@@ -44,7 +44,7 @@ fault_totals n t = record { count = n; masked = t.masked; detected = t.detected;
 abbrev pub untried : ℕ → FaultTotals
 untried n = record { count = n; masked = 0; detected = 0; idle = 0 }
 
--- faults were tried on an object: the array has the verdict of each, in order, and they are counted; none is corrupt
+-- faults were tried on an object: the array has their verdicts in order, and the totals count them; none is corrupt
 pub record Tries (o : Object) (faults : List Strike) (w : List Wild) (steps : ℕ) (totals : FaultTotals) (new : List FaultVerdict) : Type 0 where
   pub found : List Verdict
   pub verdicts : AreVerdicts o faults w steps found
@@ -53,7 +53,7 @@ pub record Tries (o : Object) (faults : List Strike) (w : List Wild) (steps : �
   pub stand : take (length faults) new ≡ map fault_verdict found
   pub totals_are : totals ≡ fault_totals (length faults) (totals_of found)
 
--- the faults in a text were tried, with the wild answers in another, on the accepted object that bytes spell
+-- the faults in a text were tried, with the answers to wild loads in another, on the accepted object that bytes spell
 pub record TriesFile (bytes list wild : List ℕ) (steps : ℕ) (totals : FaultTotals) (new : List FaultVerdict) : Type 0 where
   pub file : IsAcceptedFile bytes
   pub answers : List Wild
@@ -73,19 +73,19 @@ pub record WantsRoom (list : List ℕ) (totals : FaultTotals) (old new : List Fa
   pub told : totals ≡ untried (length faults)
   pub kept : new ≡ old
 
--- why a list is refused: the number of the refusal, and a line, the maximum of faults, or the product that is above the
--- limit
+-- why a list is refused: the number of the refusal, and a line, the maximum number of faults, or the product that is
+-- above the limit
 abbrev pub told_list : ℕ → ℕ → Refused
 told_list n x = record { part = 8; number = n; place = x; index = 0 }
 
--- this is the list's refusal: a line is not a fault, there are too many, or their number times that of the steps is too
--- large
+-- this is the refusal of the list: a line is not a fault, there are too many faults, or their number times the number
+-- of steps is too large
 pub data IsListRefused (list : List ℕ) (steps : ℕ) (told : Refused) : Type 0 where
   bad_line : (line : ℕ) → IsListError list (lists.Line line) → told ≡ told_list 1 line → IsListRefused list steps told
   too_many : IsListError list lists.TooMany → told ≡ told_list 2 65536 → IsListRefused list steps told
   too_much : (faults : List Strike) → IsFaultList list faults → 1000000000 < length faults * steps → told ≡ told_list 3 (length faults * steps) → IsListRefused list steps told
 
--- the faults of a text were tried on an accepted object: private to the code
+-- the faults in a text were tried on an accepted object: private to the code
 pub record TriesList (o : Object) (list : List ℕ) (w : List Wild) (steps : ℕ) (totals : FaultTotals) (new : List FaultVerdict) : Type 0 where
   pub faults : List Strike
   pub are_faults : IsFaultList list faults

@@ -1,4 +1,4 @@
--- What is returned for the bytes of an object: a status, and why they are refused.
+-- What is returned for the bytes of an object: a status, and why the bytes are refused.
 use Rattle.std.specs.Prelude.{◌≡◌, ℕ, List, Option, Some, None}
 use Rattle.ft_typing.specs.Accepted.{Refusal, EntryType, CellType, Refused as AtInstr, refusal, IsAccepted}
 use Rattle.ft_typing.specs.Premise.{number_of}
@@ -23,18 +23,18 @@ told_refusal EntryType = record { part = 2; number = 0; place = 0; index = 0 }
 told_refusal (CellType k) = record { part = 3; number = 0; place = k; index = 0 }
 told_refusal (AtInstr b i p) = record { part = 4; number = number_of p; place = b; index = i }
 
--- an object that is accepted, or has this refusal
+-- the verdict on an object, given its refusal, if any
 abbrev pub judged : Option Refusal → Verdict
 judged None = record { status = 0; why = nothing }
 judged (Some r) = record { status = 8; why = told_refusal r }
 
--- bytes that break this rule, or an object with this refusal
+-- the verdict on bytes, given the first rule that they break, if any, and the refusal of their object, if any
 abbrev pub verdict : Option ObjectError → Option Refusal → Verdict
 verdict (Some e) r = record { status = 7; why = told_error e }
 verdict None r = judged r
 
--- the verdict on bytes: the first rule of the format that they break; else why the object that they spell is not accepted;
--- else that it is
+-- the verdict on bytes: the first rule of the format that they break; otherwise why their object is not accepted, or
+-- that it is accepted
 abbrev pub verdict_on : List ℕ → Verdict
 verdict_on bytes = verdict (broken bytes) (refusal (object_of bytes))
 
@@ -43,7 +43,7 @@ pub record Tells (status : ℕ) (why : Refused) (v : Verdict) : Type 0 where
   pub status_is : status ≡ v.status
   pub why_is : why ≡ v.why
 
--- the bytes spell an object that is accepted
+-- the bytes spell an accepted object
 pub record IsAcceptedFile (bytes : List ℕ) : Type 0 where
   pub spelled : Spells bytes (version_at bytes) (object_of bytes)
   pub accepted : IsAccepted (object_of bytes)

@@ -1,4 +1,4 @@
-//! Assembly texts that are read and written into a buffer of the caller.
+//! Assembles and disassembles into a buffer of the caller.
 ghost use Rattle.std.specs.Prelude.{◌≡◌, ◌≢◌, ℕ, List};
 ghost use Rattle.ft_asm.specs.Reads.{text_of};
 ghost use Rattle.ft_asm.specs.Refusals.{IsAssembly, IsRefusal};
@@ -31,9 +31,9 @@ fn refuse_text(error: AsmError) -> Written
     }
 }
 
-/// Writes the bytes of the object that an assembly text reads as, in version 2 of the format. The status is 0; 15 if
-/// they do not fit; 12 for a text that is refused; 7 if the tables that it means break a rule of the format; or 5, out
-/// of memory.
+/// Assembles a text, and writes the bytes of its object in version 2 of the format. The status is 0 on success; 15 if
+/// they do not fit; 12 for a text that is refused; 7 if the tables that the text describes break a rule of the format;
+/// or 5 if memory runs out.
 pub fn assemble_into(alloc: Global, text: &[u8], out: &mut [u8]) -> Written
     ensures given { result.status ≢ 5 → result.status ≢ 7 → result.status ≢ 12 → Given (IsAssembly text.now) out.old out.new result.made result.status }
     ensures refused { result.status ≡ 12 → IsAsmRefused text.now result.why }
@@ -48,7 +48,7 @@ pub fn assemble_into(alloc: Global, text: &[u8], out: &mut [u8]) -> Written
     }
 }
 
-/// Writes the text of a program.
+/// Writes the assembly text of a program.
 fn text_into<P: Program>(alloc: Global, program: &P, out: &mut [u8]) -> Written
     requires { IsSpellable (P.object program.now) }
     ensures given { result.status ≢ 5 → Given (λ text. text ≡ text_of (P.object program.now)) out.old out.new result.made result.status }
@@ -63,8 +63,8 @@ fn text_into<P: Program>(alloc: Global, program: &P, out: &mut [u8]) -> Written
     }
 }
 
-/// Writes the assembly text of the object that bytes spell. The status is 0; 15 if it does not fit; 7 for bytes that
-/// spell no object; or 5, out of memory.
+/// Writes the assembly text of the object that bytes spell. The status is 0 on success; 15 if the text does not fit; 7
+/// for bytes that spell no object; or 5 if memory runs out.
 #[tactic(auto, using(crate::proofs::Judged::malformed))]
 pub fn disassemble_into(alloc: Global, bytes: &[u8], out: &mut [u8]) -> Written
     ensures given { result.status ≢ 5 → result.status ≢ 7 → Given (IsText bytes.now) out.old out.new result.made result.status }

@@ -1,4 +1,4 @@
-//! Changing the initial word of a cell, in place.
+//! Changes the initial word of a cell in place.
 ghost use Rattle.std.specs.Prelude.{◌≡◌, ◌≢◌, ◌≤◌, ◌+◌, ◌*◌, ◌++◌, length, take, drop, slice_get, Some, true, false};
 ghost use Rattle.ft_isa.specs.BasicTypes.{int};
 ghost use Rattle.ft_types.specs.Spellable.{IsSpellable};
@@ -25,8 +25,8 @@ fn is_int(basic: Basic) -> bool
     }
 }
 
-/// Looks for a cell of type `int` of the object that bytes spell. The status is 0; 7 for bytes that spell no object; 16
-/// if there is no such cell; or 19 if it is of another type.
+/// Looks for a cell of type `int` in the object that bytes spell. The status is 0 if there is one; 7 for bytes that
+/// spell no object; 16 if there is no such cell; or 19 if it is of another type.
 fn find_int_cell(bytes: &[u8], cell: u32) -> Verdict
     ensures found { result.status ≡ 0 → HasIntCell bytes.now cell }
     ensures malformed { result.status ≡ 7 → IsMalformed bytes.now result.why }
@@ -62,9 +62,9 @@ fn put_word(bytes: &mut [u8], at: usize, word: u64)
     bytes[at..at + 8].copy_from_slice(&word.to_be_bytes());
 }
 
-/// Changes bytes so that they spell the same object with another initial word of a cell of type `int`. The object is
-/// accepted exactly if it was before. The status is 0; 7 for bytes that spell no object; 16 if there is no such cell;
-/// or 19 if it is of another type. Unless it is 0, the bytes are unchanged.
+/// Changes bytes so that they spell the same object with this initial word in a cell, which must be of type `int`. The
+/// object is then accepted exactly if it was before. The status is 0 on success; 7 for bytes that spell no object; 16
+/// if there is no such cell; or 19 if it is of another type. Unless it is 0, the bytes are unchanged.
 pub fn set_cell(bytes: &mut [u8], cell: u32, word: u64) -> Verdict
     ensures set { result.status ≢ 7 → result.status ≢ 16 → result.status ≢ 19 → IsSet bytes.old bytes.new cell word }
     ensures status { result.status ≢ 7 → result.status ≢ 16 → result.status ≢ 19 → result.status ≡ 0 }
@@ -76,7 +76,7 @@ pub fn set_cell(bytes: &mut [u8], cell: u32, word: u64) -> Verdict
 {
     let found = find_int_cell(bytes, cell);
     if found.status == 0 {
-        // The record of a cell has its initial word in its second half.
+        // The initial word is in the second half of a cell's record.
         put_word(bytes, 56 + 16 * cell as usize, word);
     }
     found

@@ -1,4 +1,4 @@
-//! The check of an object's bytes.
+//! Checks the bytes of an object.
 ghost use Rattle.std.specs.Prelude.{◌≡◌, ◌≢◌, ◌⊎◌, ◌<◌, IfOk, Option};
 ghost use Rattle.ft_typing.specs.Accepted.{Refusal, refusal};
 ghost use Rattle.ft_types.specs.Spellable.{IsSpellable};
@@ -12,7 +12,7 @@ use ft_types::Program;
 use ft_view::View;
 use std::alloc::Global;
 
-/// The verdict of an object that is not accepted.
+/// The verdict on an object that is not accepted.
 #[tactic(auto, using(crate::proofs::Judged::tells_refused))]
 pub(crate) fn refuse(error: CheckError) -> Verdict
     ensures told { (x : Option Refusal) → IsRefusalOf x error → result.status ≢ 5 → Tells result.status result.why (judged x) }
@@ -40,7 +40,7 @@ pub(crate) fn refuse(error: CheckError) -> Verdict
     }
 }
 
-/// Checks an object that bytes spell.
+/// Checks a program.
 fn judge_program<P: Program>(alloc: Global, program: &P) -> Verdict
     requires { IsSpellable (P.object program.now) }
     ensures told { result.status ≢ 5 → Tells result.status result.why (judged (refusal (P.object program.now))) }
@@ -52,9 +52,8 @@ fn judge_program<P: Program>(alloc: Global, program: &P) -> Verdict
     }
 }
 
-/// Checks the object that bytes spell. The status is 0 for an object that is accepted; 7 for bytes that
-/// spell none, with the first rule that they break; 8 for an object that is refused, with its refusal; or
-/// 5, out of memory.
+/// Checks the object that bytes spell. The status is 0 for an accepted object; 7 for bytes that spell no object, with
+/// the first rule that they break; 8 for an object that is not accepted, with its refusal; or 5 if memory runs out.
 pub fn judge(alloc: Global, bytes: &[u8]) -> Verdict
     ensures verdict { result.status ≢ 5 → Tells result.status result.why (verdict_on bytes.now) }
     ensures accepted { result.status ≡ 0 → IsAcceptedFile bytes.now }

@@ -1,4 +1,4 @@
-//! Sources that are compiled into a buffer of the caller.
+//! Compiles sources into a buffer of the caller.
 ghost use Rattle.std.specs.Prelude.{◌≡◌, ◌≢◌, IfOk, IfErr};
 ghost use Rattle.ft_scope.specs.Outcome.{IsRefusalOf};
 ghost use Rattle.ft_syntax.specs.declared.source_error.SourceError.TheVariants as errors;
@@ -13,7 +13,8 @@ use ft_scope::one_text_has_one_outcome;
 use ft_syntax::SourceError;
 use std::alloc::Global;
 
-/// Compiles a source to the bytes of an object. A text is one program, so all clauses of `compile` are about it.
+/// Compiles a source to the bytes of an object. A text has at most one program, so all clauses of `compile` are about
+/// the same one.
 fn compile_bytes(alloc: Global, text: &[u8]) -> Result<Vec<u8>, SourceError>
     ensures ok { IfOk result (λ bytes. IsCompiled text.now bytes.items) }
     ensures err { IfErr result (λ e. e ≢ errors.NoMemory → IsRefusalOf text.now e) }
@@ -43,8 +44,8 @@ fn refuse_source(error: SourceError) -> Written
     not_written(6, told_source(error))
 }
 
-/// Compiles a source, and writes the bytes of its object in version 2 of the format. The status is 0; 15 if they do not
-/// fit, with the number needed in `made`; 6 for a source that is refused; or 5, out of memory.
+/// Compiles a source, and writes the bytes of its object in version 2 of the format. The status is 0 on success; 15 if
+/// they do not fit, with the number needed in `made`; 6 for a source that is refused; or 5 if memory runs out.
 pub fn compile_into(alloc: Global, text: &[u8], out: &mut [u8]) -> Written
     ensures given { result.status ≢ 5 → result.status ≢ 6 → Given (IsCompiled text.now) out.old out.new result.made result.status }
     ensures refused { result.status ≡ 6 → IsSourceRefused text.now result.why }

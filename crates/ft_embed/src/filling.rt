@@ -1,4 +1,4 @@
-//! Steps of a machine whose outputs go into an array of the caller.
+//! Takes steps of a machine and puts their outputs into an array of the caller.
 ghost use Rattle.std.specs.Prelude.{◌≡◌, ◌≤◌, ◌<◌, ◌+◌, ◌++◌, ◌∷◌, [], length, map, take};
 ghost use Rattle.std.specs.Option.{option_to_list};
 ghost use Rattle.ft_types.specs.Spellable.{IsSpellable};
@@ -60,7 +60,7 @@ fn put_told(last: Stepped, out: &mut [CellOutput], at: usize) -> usize
     }
 }
 
-/// Steps that were taken, and how many outputs are in the array after them.
+/// How many steps were taken, and how many outputs are in the array after them.
 #[derive(Clone, Copy)]
 pub struct Filled {
     pub taken: u64,
@@ -68,7 +68,7 @@ pub struct Filled {
 }
 
 /// Takes at most `most` steps, and fewer if the machine stops or the array is full. Puts their outputs into the array,
-/// from place `from`.
+/// starting at place `from`.
 pub(crate) fn fill<P: Program>(
     machine: &mut Machine,
     program: &P,

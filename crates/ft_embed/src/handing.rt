@@ -1,4 +1,4 @@
-//! Bytes that are written into a buffer of the caller.
+//! Writes bytes into a buffer of the caller.
 ghost use Rattle.std.specs.Prelude.{◌≡◌, ◌≢◌, ◌⊎◌};
 ghost use Rattle.ft_embed.specs.Texts.{HandsOver};
 ghost use Rattle.ft_embed.specs.Verdicts.{nothing as nothing_told};
@@ -39,7 +39,7 @@ pub(crate) fn hand_over(bytes: &[u8], out: &mut [u8]) -> Written
     }
 }
 
-/// Nothing is written, and this is why.
+/// The result if nothing is written, with the reason.
 pub(crate) fn not_written(status: u32, why: Refused) -> Written
     ensures { result ≡ record { status = status; made = 0; why = why } }
 {
@@ -50,14 +50,14 @@ pub(crate) fn not_written(status: u32, why: Refused) -> Written
     }
 }
 
-/// Nothing is written, since memory ran out or there is nothing to write.
+/// The result if nothing is written because memory ran out or there is nothing to write.
 pub(crate) fn none_written(status: u32) -> Written
     ensures { result ≡ record { status = status; made = 0; why = nothing_told } }
 {
     not_written(status, nothing())
 }
 
-/// Nothing is written for an object that is refused.
+/// The result if nothing is written because an object is refused.
 pub(crate) fn none_accepted(verdict: Verdict) -> Written
     ensures { result ≡ record { status = verdict.status; made = 0; why = verdict.why } }
 {

@@ -1,4 +1,4 @@
-//! Modules that are linked into a buffer of the caller.
+//! Links modules into a buffer of the caller.
 ghost use Rattle.std.specs.Prelude.{◌≡◌, ◌≢◌, ◌≤◌, ◌⊎◌, [], length, IfErr, IfOk, OnOk};
 ghost use Rattle.std.specs.Option.{option_map};
 ghost use Rattle.ft_types.specs.Spellable.{IsSpellable};
@@ -24,7 +24,7 @@ use std::alloc::Global;
 /// The maximum size of a link map in bytes.
 const MAP_LIMIT: usize = 65_536;
 
-/// The bytes of the first module of a name.
+/// The bytes of the first module with this name.
 fn bytes_of<'a>(given: &[Module<'a>], name: &[u8]) -> Option<&'a [u8]>
     ensures { option_map (λ b. b.now) result ≡ bytes_of given.now name.now }
 {
@@ -59,7 +59,7 @@ fn add_object<P: Program>(
     }
 }
 
-/// Finds the module of a name, checks its object and adds it to the linker.
+/// Finds the module with this name, checks its object and adds it to the linker.
 fn add_module(
     alloc: Global,
     given: &[Module],
@@ -90,7 +90,7 @@ fn add_module(
     }
 }
 
-/// Adds the modules of a map to the linker, in their order.
+/// Adds the modules of a map to the linker in order.
 fn add_modules(
     alloc: Global,
     given: &[Module],
@@ -117,7 +117,7 @@ fn add_modules(
     Ok(())
 }
 
-/// The bytes of the object that a map makes of modules that were added.
+/// Links the modules that were added, and returns the bytes of the object.
 fn link_added(alloc: Global, linker: Linker, linkage: &LinkMap) -> Result<Vec<u8>, Unlinked>
     requires sound { IsSound linkage.now }
     requires modules { length linker ≡ length linkage.now.files }
@@ -135,7 +135,7 @@ fn link_added(alloc: Global, linker: Linker, linkage: &LinkMap) -> Result<Vec<u8
     }
 }
 
-/// The bytes of the object that a text makes of modules.
+/// Links modules as the map in a text says, and returns the bytes of the object.
 fn link_bytes(alloc: Global, text: &[u8], given: &[Module]) -> Result<Vec<u8>, Unlinked>
     ensures ok { IfOk result (λ bytes. IsLinkedOf given.now text.now bytes.items) }
     ensures err { IfErr result (λ u. u.status ≢ 5 → IsUnlinked given.now text.now u) }
@@ -158,17 +158,17 @@ fn link_bytes(alloc: Global, text: &[u8], given: &[Module]) -> Result<Vec<u8>, U
     }
 }
 
-/// The result for modules that are linked: what is written, and the number of the module that is refused, if any.
+/// The result of a link: what was written, and the number of the module that is refused, if any.
 #[derive(Clone, Copy)]
 pub struct LinkAnswer {
     pub written: Written,
     pub module: u32,
 }
 
-/// Writes the object that a link map makes of modules, in version 2 of the format. The map names the file of each
-/// module, and the first module of the array with this name is taken. The status is 0; 15 if the bytes do not fit; 13
-/// for a map or modules that are refused; 7 or 8 for a module whose bytes are refused; 20 if the map gives a name
-/// that no module has; or 5, out of memory.
+/// Links modules as a link map says, and writes the object in version 2 of the format. The map names the file of each
+/// module, and the first module in the array with that name is used. The status is 0 on success; 15 if the bytes do not
+/// fit; 13 if the map is refused or the modules cannot be linked; 7 or 8 if the bytes of a module are refused; 20 if
+/// the map gives a name that no module has; or 5 if memory runs out.
 pub fn link_into(alloc: Global, text: &[u8], given: &[Module], out: &mut [u8]) -> LinkAnswer
     ensures linked { (result.written.status ≡ 0) ⊎ (result.written.status ≡ 15) → Given (IsLinkedOf given.now text.now) out.old out.new result.written.made result.written.status }
     ensures unlinked { result.written.status ≢ 0 → result.written.status ≢ 5 → result.written.status ≢ 15

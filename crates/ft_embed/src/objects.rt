@@ -1,4 +1,4 @@
-//! Objects that are upgraded or scheduled into a buffer of the caller, and the names of their cells.
+//! Upgrades or schedules objects into a buffer of the caller, and writes the names of their cells.
 ghost use Rattle.std.specs.Prelude.{◌≡◌, ◌≢◌, ◌≤◌, ℕ, List, length, IfOk, IfErr};
 ghost use Rattle.ft_types.specs.Spellable.{IsSpellable};
 ghost use Rattle.ft_typing.specs.Accepted.{IsAccepted, refusal};
@@ -18,7 +18,7 @@ use ft_types::Program;
 use ft_view::View;
 use std::alloc::Global;
 
-/// The object that other bytes spell, as bytes of version 2.
+/// The object that these bytes spell, as bytes of version 2.
 fn upgrade_bytes(alloc: Global, bytes: &[u8]) -> Result<Vec<u8>, DecodeError>
     ensures ok { IfOk result (λ new. IsUpgraded bytes.now new.items) }
     ensures err { IfErr result (IsWhy (broken bytes.now)) }
@@ -47,8 +47,8 @@ fn refuse_bytes(error: DecodeError) -> Written
     }
 }
 
-/// Writes, in version 2 of the format, the object that bytes spell. The status is 0; 15 if they do not fit; 7 for
-/// bytes that spell no object; or 5, out of memory.
+/// Writes the object that bytes spell, in version 2 of the format. The status is 0 on success; 15 if the object does
+/// not fit; 7 for bytes that spell no object; or 5 if memory runs out.
 pub fn upgrade_into(alloc: Global, bytes: &[u8], out: &mut [u8]) -> Written
     ensures given { result.status ≢ 5 → result.status ≢ 7 → Given (IsUpgraded bytes.now) out.old out.new result.made result.status }
     ensures malformed { result.status ≡ 7 → IsMalformed bytes.now result.why }
@@ -62,8 +62,8 @@ pub fn upgrade_into(alloc: Global, bytes: &[u8], out: &mut [u8]) -> Written
     }
 }
 
-/// Writes the name of a cell of the object that bytes spell. The status is 0; 15 if it does not fit; 7 for bytes that
-/// spell no object; or 16 if there is no such cell.
+/// Writes the name of a cell of the object that bytes spell. The status is 0 on success; 15 if the name does not fit; 7
+/// for bytes that spell no object; or 16 if there is no such cell.
 #[tactic(auto, using(crate::proofs::Judged::malformed, ft_types::proofs::Counted::spellable_counted))]
 pub fn name_into(bytes: &[u8], cell: u32, out: &mut [u8]) -> Written
     ensures given { result.status ≢ 7 → result.status ≢ 16 → Given (IsNameOf bytes.now cell) out.old out.new result.made result.status }
@@ -128,8 +128,9 @@ fn schedule_program<P: Program>(alloc: Global, program: &P, out: &mut [u8]) -> W
     }
 }
 
-/// Writes the schedule of the object that bytes spell, in version 2 of the format. The status is 0; 15 if its bytes
-/// do not fit; 7 for bytes that spell no object; 8 for an object that is refused; or 5, out of memory.
+/// Writes the schedule of the object that bytes spell, in version 2 of the format. The status is 0 on success; 15 if
+/// the schedule does not fit; 7 for bytes that spell no object; 8 for an object that is not accepted; or 5 if memory
+/// runs out.
 pub fn schedule_into(alloc: Global, bytes: &[u8], out: &mut [u8]) -> Written
     ensures given { result.status ≢ 5 → result.status ≢ 7 → result.status ≢ 8 → Given (IsScheduleOfFile bytes.now) out.old out.new result.made result.status }
     ensures malformed { result.status ≡ 7 → Tells result.status result.why (verdict_on bytes.now) }

@@ -1,4 +1,4 @@
-//! The texts of a run's plan: of its fault, and of the answers to wild loads. An empty text means none.
+//! Reads the texts of a run's plan: its fault, and the answers to wild loads. An empty text means none.
 ghost use Rattle.std.specs.Prelude.{◌≡◌, ◌≢◌, IfOk, IfErr, List, OnErr, Option};
 ghost use Rattle.ft_isa.specs.declared.plan.Strike.{Strike as Fault};
 ghost use Rattle.ft_isa.specs.declared.plan.Wild.{Wild as Answer};

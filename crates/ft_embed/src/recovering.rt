@@ -1,4 +1,4 @@
-//! Recoveries of accepted objects, whose outputs go into an array of the caller.
+//! Recovers accepted objects, with the outputs in an array of the caller.
 ghost use Rattle.std.specs.Prelude.{◌≡◌, ◌≢◌, ◌⊎◌, ℕ, List, Option, true, false};
 ghost use Rattle.ft_isa.specs.declared.plan.Strike.{Strike as Fault};
 ghost use Rattle.ft_isa.specs.declared.plan.Wild.{Wild as Answer};
@@ -25,7 +25,7 @@ use ft_types::Program;
 use ft_view::View;
 use std::alloc::Global;
 
-/// Whether a machine with this status noticed a fault.
+/// Whether a machine with this status has detected a fault.
 fn is_detected(status: Status) -> bool
     ensures yes { result ≡ true → status ≡ Status.Detected }
     ensures no { result ≡ false → status ≢ Status.Detected }
@@ -37,7 +37,7 @@ fn is_detected(status: Status) -> bool
     }
 }
 
-/// Runs a machine under a plan, and if it is detected, a second one without the strike.
+/// Runs a machine under a plan and, if it detects a fault, runs a second one without the strike.
 fn recover_machines<P: Program>(
     first: &mut Machine,
     second: &mut Machine,
@@ -73,7 +73,7 @@ fn recover_machines<P: Program>(
     has_run_again(status, whole.taken, whole.count as u64, filled.count as u64)
 }
 
-/// Checks a program, runs it, and runs it again if it is detected.
+/// Checks a program, runs it, and runs it again if a fault is detected.
 fn recover_program<P: Program>(
     alloc: Global,
     program: &P,
@@ -104,7 +104,7 @@ fn recover_program<P: Program>(
     recover_machines(&mut first, &mut second, program, plan, steps, out)
 }
 
-/// Checks the object that bytes spell, runs it, and runs it again if it is detected.
+/// Checks the object that bytes spell, runs it, and runs it again if a fault is detected.
 fn recover_bytes(
     alloc: Global,
     bytes: &[u8],
@@ -131,10 +131,10 @@ fn recover_bytes(
 }
 
 /// Checks the object that bytes spell, and runs it from its start for at most `steps` steps, under the plan that two
-/// texts spell, as `run` does. If the fault is detected, it is run again without the fault, and its outputs replace the
-/// first ones. So the outputs and the end are those of the run without a fault. The status is 0 for a run that is done;
-/// 9 for one that is still running after the steps; 14 if the array is full; 2 if a text is invalid; 7 or 8 for bytes
-/// that are refused; or 5, out of memory.
+/// texts spell, as `run` does. If a fault is detected, it runs the object again without the fault, and the new outputs
+/// replace the first ones. So the outputs and the end are those of the run without a fault. The status is 0 for a run
+/// that is done; 9 for one that is still running after the steps; 14 if the array is full; 2 if a text is invalid; 7 or
+/// 8 for bytes that are refused; or 5 if memory runs out.
 pub fn recover(
     alloc: Global,
     bytes: &[u8],

@@ -30,7 +30,7 @@ pub(crate) fn nothing() -> Refused
     }
 }
 
-/// The first rule that bytes break.
+/// The refusal of bytes: the first rule that they break.
 pub(crate) fn told_error(error: ObjectError) -> Refused
     ensures { result ≡ told_error error }
 {
@@ -42,7 +42,7 @@ pub(crate) fn told_error(error: ObjectError) -> Refused
     }
 }
 
-/// An entry block with which no run may begin.
+/// The refusal of an entry block in which no run may begin.
 pub(crate) fn told_entry() -> Refused
     ensures { result ≡ told_refusal accepted.EntryType }
 {
@@ -54,7 +54,7 @@ pub(crate) fn told_entry() -> Refused
     }
 }
 
-/// A cell whose initial word does not have its type.
+/// The refusal of a cell whose initial word does not have its type.
 pub(crate) fn told_cell(cell: u32) -> Refused
     ensures { result ≡ told_refusal (accepted.CellType cell) }
 {
@@ -66,7 +66,7 @@ pub(crate) fn told_cell(cell: u32) -> Refused
     }
 }
 
-/// An instruction whose row does not apply.
+/// The refusal of an instruction whose typing rule does not apply.
 pub(crate) fn told_instr(block: u32, index: u32, why: Why) -> Refused
     ensures { result ≡ told_refusal (accepted.Refused block index why) }
 {
@@ -78,7 +78,7 @@ pub(crate) fn told_instr(block: u32, index: u32, why: Why) -> Refused
     }
 }
 
-/// Why a source is refused.
+/// The refusal of a source.
 pub(crate) fn told_source(error: SourceError) -> Refused
     ensures { result ≡ told_source error }
 {
@@ -90,7 +90,7 @@ pub(crate) fn told_source(error: SourceError) -> Refused
     }
 }
 
-/// Why an assembly text is refused.
+/// The refusal of an assembly text.
 pub(crate) fn told_asm(number: u32, place: u64) -> Refused
     ensures { result ≡ told_asm number place }
 {

@@ -1,4 +1,4 @@
-//! Runs of accepted objects, whose outputs go into an array of the caller.
+//! Runs accepted objects, with the outputs in an array of the caller.
 ghost use Rattle.std.specs.Prelude.{◌≡◌, ◌≢◌, ◌⊎◌, ◌≤◌, ◌<◌, ℕ, length, IfOk, List, Option};
 ghost use Rattle.ft_isa.specs.declared.plan.Strike.{Strike as Fault};
 ghost use Rattle.ft_isa.specs.declared.plan.Wild.{Wild as Answer};
@@ -140,7 +140,7 @@ fn run_bytes(
     }
 }
 
-/// A run that was not started: a text of the plan is invalid, or memory ran out.
+/// The result of a run that was not started: a text of the plan is invalid, or memory ran out.
 pub(crate) fn no_run(status: u32) -> RunAnswer
     ensures status { result.status ≡ status }
     ensures once { IsOnce result.ran }
@@ -154,7 +154,7 @@ pub(crate) fn no_run(status: u32) -> RunAnswer
 /// `fault` spells, such as `4:r1:6`, and with the answers to wild loads that `wild` spells, such as `5,stop`. An empty
 /// text means none. The outputs go into the array. The status is 0 for a run that is done; 1 for one that is detected;
 /// 9 for one that is still running after the steps; 14 if the array is full; 2 if a text is invalid; 7 or 8 for bytes
-/// that are refused; or 5, out of memory.
+/// that are refused; or 5 if memory runs out.
 pub fn run(
     alloc: Global,
     bytes: &[u8],

@@ -23,8 +23,8 @@ use ft_view::View;
 use std::alloc::Global;
 use std::marker::Model;
 
-/// The run of an accepted object, which continues across calls, and may be struck once. Contracts see it as the object,
-/// the strike, if any, and the number of steps that were taken.
+/// The run of an accepted object. It continues across calls, and may be struck once. Contracts see it as the object,
+/// the strike, if any, and the number of steps taken.
 #[derive(Drop)]
 pub struct Task {
     object: Object,
@@ -53,7 +53,7 @@ fn limit(steps: u64, taken: u64) -> u64
 }
 
 impl Task {
-    /// The run of a program before its first step, if the program is accepted; else the verdict.
+    /// The run of a program before its first step, if the program is accepted; otherwise the verdict.
     fn of_program<P: Program>(alloc: Global, program: &P) -> Result<Task, Verdict>
         requires { IsSpellable (P.object program.now) }
         ensures ok { IfOk result (λ t. t ≡ record { object = P.object program.now; strike = None; taken = 0 }) }
@@ -80,8 +80,8 @@ impl Task {
         })
     }
 
-    /// The run of the object that bytes spell before its first step, if it is accepted; else the verdict. The bytes are
-    /// copied.
+    /// The run, before its first step, of the object that bytes spell, if the object is accepted; otherwise the
+    /// verdict. The bytes are copied.
     pub fn open(alloc: Global, bytes: &[u8]) -> Result<Task, Verdict>
         ensures ok { IfOk result (λ t. t ≡ record { object = object_of bytes.now; strike = None; taken = 0 }) }
         ensures file { IfOk result (λ t. IsAcceptedFile bytes.now) }
@@ -134,7 +134,7 @@ impl Task {
         false
     }
 
-    /// Starts the run again, without a strike. If memory runs out the run is unchanged.
+    /// Restarts the run, without a strike. If memory runs out, the run is unchanged.
     pub fn restart(&mut self, alloc: Global) -> Result<(), NoMemory>
         ensures ok { OnOk result (self.new ≡ record { object = self.old.object; strike = None; taken = 0 }) }
         ensures err { OnErr result (self.new ≡ self.old) }

@@ -4,7 +4,7 @@ ghost use Rattle.ft_embed.specs.Trials.{detected_at, fault_totals, fault_verdict
 
 use ft_campaign::{Totals, Verdict};
 
-/// The verdict of a fault: 0 masked, 1 detected, 2 idle, 3 corrupt; and the step that detected it, else 0.
+/// The verdict on a fault: 0 masked, 1 detected, 2 idle, 3 corrupt; and the step that detected the fault, otherwise 0.
 #[repr(C)]
 #[derive(Clone, Copy)]
 pub struct FaultVerdict {

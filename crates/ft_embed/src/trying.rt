@@ -1,4 +1,4 @@
-//! Campaigns on accepted objects, whose verdicts go into an array of the caller.
+//! Tries faults on accepted objects, with the verdicts in an array of the caller.
 ghost use Rattle.std.specs.Prelude.{◌≡◌, ◌≢◌, ◌≤◌, ◌<◌, ◌⊎◌, ◌*◌, ℕ, List, length, IfOk};
 ghost use Rattle.ft_isa.specs.declared.plan.Wild.{Wild as Answer};
 ghost use Rattle.ft_types.specs.Spellable.{IsSpellable};
@@ -23,7 +23,7 @@ use std::alloc::Global;
 use std::marker::Brand;
 use std::sync::ledger::{Blank, Ledger};
 
-/// The maximum number of steps of a campaign.
+/// The maximum number of steps of each run.
 const MOST_STEPS: u64 = 1_000_000;
 
 /// The maximum of the number of faults times the number of steps.
@@ -37,7 +37,7 @@ pub(crate) struct Trial<'a> {
     pub(crate) steps: u64,
 }
 
-/// The result for a campaign.
+/// The result of a campaign.
 #[derive(Clone, Copy)]
 pub struct TrialAnswer {
     pub status: u32,
@@ -45,7 +45,7 @@ pub struct TrialAnswer {
     pub why: Refused,
 }
 
-/// A campaign that did not run, or whose verdicts do not fit: this many faults need room.
+/// The result of a campaign that did not run. If its verdicts would not fit, `count` is the number of faults.
 fn not_tried(status: u32, why: Refused, count: usize) -> TrialAnswer
     ensures status { result.status ≡ status }
     ensures why { result.why ≡ why }
@@ -84,7 +84,7 @@ fn refuse_list(error: ListError) -> TrialAnswer
     }
 }
 
-/// The verdicts of faults, with a counter of steps.
+/// Finds the verdicts of faults, with a step counter of its own.
 fn find_counted<P: Program, L: Ledger>(
     alloc: Global,
     program: &P,
@@ -227,11 +227,11 @@ fn try_bytes(alloc: Global, bytes: &[u8], trial: Trial, out: &mut [FaultVerdict]
     }
 }
 
-/// Checks the object that bytes spell, and runs it without a fault and under each fault of a list, each for at most
-/// `steps` steps, which are at most 1,000,000, and with the answers to wild loads that a text spells. The list is a
-/// text of lines such as `4:r1:6`. The verdicts go into the array, in the list's order. The status is 0; 15 if they do
-/// not fit; 11 for a list that is refused; 2 for a text that spells no answers, or too many steps; 7 or 8 for bytes
-/// that are refused; or 5, out of memory.
+/// Checks the object that bytes spell, and runs it without a fault and under each fault of a list, each time for at
+/// most `steps` steps and with the answers to wild loads that a text spells. `steps` may be at most 1,000,000. The list
+/// is a text of lines such as `4:r1:6`. The verdicts go into the array, in the list's order. The status is 0 on
+/// success; 15 if they do not fit; 11 for a list that is refused; 2 for a text that spells no answers, or for too many
+/// steps; 7 or 8 for bytes that are refused; or 5 if memory runs out.
 pub fn campaign(
     alloc: Global,
     bytes: &[u8],

@@ -1,4 +1,4 @@
-//! Modules of a link, and why they are not linked.
+//! The modules of a link, and why they cannot be linked.
 ghost use Rattle.std.specs.Prelude.{◌≡◌, ◌≢◌, List, ℕ, Option};
 ghost use Rattle.ft_typing.specs.Accepted.{Refusal};
 ghost use Rattle.ft_checker.specs.Judges.{IsRefusalOf as IsCheckRefusalOf};
@@ -22,8 +22,8 @@ pub struct Module<'a> {
     pub bytes: &'a [u8],
 }
 
-/// Why modules are not linked: a status; the number of the module that it is about, in the order of the map, from 0, or
-/// 0 if it is about a line; and a refusal.
+/// Why modules cannot be linked: a status; the number of the module that it is about, counted from 0 in the order of
+/// the map, or 0 if it is about a line; and a refusal.
 #[derive(Clone, Copy)]
 pub struct Unlinked {
     pub status: u32,
@@ -43,7 +43,7 @@ fn told_link(number: u32, place: u64) -> Refused
     }
 }
 
-/// Out of memory.
+/// The result if memory ran out.
 pub(crate) fn no_room() -> Unlinked
     ensures status { result.status ≡ 5 }
     ensures unrefused { result.why ≡ nothing_told }
@@ -55,7 +55,7 @@ pub(crate) fn no_room() -> Unlinked
     }
 }
 
-/// A map that is refused.
+/// The result for a map that is refused with this number and this place.
 pub(crate) fn bad_map(number: u32, place: u64) -> Unlinked
     ensures { result ≡ bad_map number place }
 {
@@ -66,7 +66,7 @@ pub(crate) fn bad_map(number: u32, place: u64) -> Unlinked
     }
 }
 
-/// The result for a map that is refused.
+/// The result for a map that is refused, given the error.
 pub(crate) fn refuse_map(error: MapError) -> Unlinked
     ensures told { (said : Answer) → IsRefusal error said → result.status ≢ 5 → SaidUnlinked said result }
     ensures some { (result.status ≢ 0) × (result.status ≢ 15) }
@@ -79,7 +79,7 @@ pub(crate) fn refuse_map(error: MapError) -> Unlinked
     }
 }
 
-/// Modules that are not linked, by the number of the refusal.
+/// The result for modules that cannot be linked, with this refusal.
 fn link_refused(module: u32, why: Refused) -> Unlinked
     ensures { result ≡ record { status = 13; «module» = «module»; why = why } }
 {
@@ -90,7 +90,7 @@ fn link_refused(module: u32, why: Refused) -> Unlinked
     }
 }
 
-/// The result for modules that are not linked.
+/// The result for modules that cannot be linked, given the error.
 pub(crate) fn refuse_modules(error: LinkError) -> Unlinked
     ensures told { (x : Option LinkRefusal) → IsRefusalOf x error → result.status ≢ 5 → IsUnlinkedBy x result }
     ensures some { (result.status ≢ 0) × (result.status ≢ 15) }

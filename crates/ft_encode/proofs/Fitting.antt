@@ -1,4 +1,4 @@
--- An object whose numbers fit is read again from what is written for it, whether or not it obeys the rules.
+-- An object whose numbers fit is read back from its spelling, whether or not it obeys the rules.
 use Rattle.std.proofs.Common.{◌≡◌, ℕ, ◌+◌, ◌-◌, ◌^◌, ◌<◌, List, [], ◌∷◌, length, take, drop, map, refl, sym, ap, ◌∙◌}
 use Rattle.std.proofs.Common.{arith}
 use Rattle.std.specs.Int.{Width}
@@ -36,13 +36,13 @@ use Rattle.ft_encode.proofs.Sections.{SectionsFit, Sections, sections_are}
 
 -- LISTS
 
--- the fields of records can hold the numbers of all values, as they can those of one
+-- if the fields of a record can hold the numbers of any single value, they can hold those of a list of values
 rows_fit : {X : Type 0} (ws : List Width) (row : X → List ℕ) (P : X → Type 0) → ((x : X) → P x → Fit ws (row x)) →
     (xs : List X) → AllByRecursion P xs → AllFit ws (map row xs)
 rows_fit ws row P one [] h = tt
 rows_fit ws row P one (x ∷ xs) h = (one x h.0, rows_fit ws row P one xs h.1)
 
--- all values are read again, as one is
+-- if any single value is read back, so is a list of values
 rows_back : {X : Type 0} (read : List ℕ → X) (row : X → List ℕ) (P : X → Type 0) → ((x : X) → P x → read (row x) ≡ x) →
     (xs : List X) → AllByRecursion P xs → map read (map row xs) ≡ xs
 rows_back read row P one [] h = refl
@@ -162,13 +162,13 @@ tables_back bytes v o f s =
     ∙ rows_back subst_node_of subst_row Is32 (λ n k. refl) o.substs f.substs in
     rw (cells_are, nodes_are, types_are, blocks_are, instrs_are, substs_are) refl
 
--- the object is read again
+-- the object is read back
 pub fitting_read : (v : Version) (o : Object) → Fits o → object_of (spelling v o) ≡ o
 fitting_read v o f =
     let s = sections_are (spelling v o) v o (sections_fit v o f) refl in
     ap (λ h. tables_read h (spelling v o)) s.header ∙ tables_back (spelling v o) v o f s
 
--- the version is read again
+-- the version is read back
 pub fitting_version : (v : Version) (o : Object) → Fits o → version_at (spelling v o) ≡ v
 fitting_version v o f =
     let s = sections_are (spelling v o) v o (sections_fit v o f) refl in

@@ -1,4 +1,4 @@
--- A loop that puts bytes at the end: what is there and what the rest gives is what all give.
+-- A loop that appends bytes: the bytes so far, followed by those of the remaining values, are those of all values.
 use Rattle.std.proofs.Common.{◌≡◌, ℕ, ◌+◌, ◌<◌, List, [], ◌∷◌, ◌++◌, length, drop, get_or, map, refl, sym, ap, ◌∙◌}
 use Rattle.std.proofs.Common.{append_assoc}
 use Rattle.std.specs.Int.{Width}
@@ -8,7 +8,7 @@ use Rattle.std.proofs.lemmas.List.{map-append, at_drop_more}
 use Rattle.ft_format.specs.Layout.{written, spelled}
 use Rattle.ft_format.specs.Puts.{Puts}
 
--- a piece that was put
+-- after appending a piece
 pub put_goes : {X : Type 0} (gives after : List X → List ℕ) (xs : List X) (i : ℕ) (x : X) (piece out out' all : List ℕ)
     → i < length xs → x ≡ get_or xs i x
     → ((rest : List X) → gives (x ∷ rest) ≡ piece ++ after rest) → Puts out out' piece → out ++ gives (drop i xs)

@@ -1,4 +1,4 @@
--- The content of the sections of what is written for an object whose numbers their fields can hold.
+-- The sections of an object's spelling, if their fields can hold the object's numbers.
 use Rattle.std.proofs.Common.{◌≡◌, ℕ, ◌+◌, ◌*◌, List, ◌++◌, length, drop, map, ap, ◌∙◌, arith}
 use Rattle.std.specs.Int.{Width}
 use Rattle.std.proofs.lemmas.List.{length-append, length-map, drop_at}
@@ -17,7 +17,7 @@ use Rattle.ft_format.proofs.SpelledSections.{header_for, length_cell_rows, lengt
 use Rattle.ft_format.proofs.SpelledSections.{section_rows}
 use Rattle.ft_format.proofs.Layouts.{Fit, AllFit, numbers_back, length_written, length_spelled}
 
--- the bytes that are written after a section
+-- the bytes of a spelling after a section
 abbrev pub after_instrs : Object → List ℕ
 after_instrs o = spelled subst_layout (map subst_row o.substs) ++ all_names o
 
@@ -60,7 +60,7 @@ pub record SectionsFit (v : Version) (o : Object) : Type 0 where
   pub instrs : AllFit code_layout (map instr_row o.instrs)
   pub substs : AllFit subst_layout (map subst_row o.substs)
 
--- the header, the rows of each section, and the bytes from some section
+-- the header, the rows of each section, and the bytes from certain sections on
 pub record Sections (bytes : List ℕ) (v : Version) (o : Object) : Type 0 where
   pub header : header_at bytes ≡ header_for v o
   pub total_is : length bytes ≡ total (header_for v o)

@@ -16,7 +16,7 @@ use Rattle.ft_format.specs.Rows.{spelling}
 use Rattle.ft_format.proofs.Versions.{has_all}
 use Rattle.ft_format.proofs.Write.{spells_unbroken, spells_read, spells_apart}
 
--- the tables of an object that obeys the rules can be counted
+-- the tables of an object that obeys the rules have fewer than 2^32 rows
 pub counted : (o : Object) → IsSpellable o → HasCounts o
 counted o s =
     let names = sum_by-le (λ (x : Cell). length (name_of x)) 40 o.cells (λ k d lt. (s.cells k d lt).name_length) in

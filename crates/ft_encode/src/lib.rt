@@ -1,9 +1,9 @@
-//! Objects, written as bytes.
+//! Writes objects as bytes.
 //!
-//! The crate promises that `spell` writes the version 2 layout of an object's tables, and that `encode`
-//! writes an object that obeys the format's rules, so that reading gives it back; every version 2 file is
-//! what `encode` writes for its object. The format's definitions and laws are those of `ft_format`;
-//! `specs/Written.antt` has the bytes of each record.
+//! The crate promises that `spell` writes an object's tables in the version 2 layout, and that reading what `encode`
+//! writes for an object that obeys the format's rules gives that object back; every version 2 file is what `encode`
+//! writes for its object. The format's definitions and laws are those of `ft_format`; `specs/Written.antt` defines the
+//! bytes of each record.
 #![tactic(auto)]
 
 mod laws;

@@ -1,4 +1,4 @@
-//! Records that are written one after the other.
+//! Writes records one after the other.
 ghost use Rattle.std.specs.Prelude.{◌≡◌, ◌∷◌, ◌++◌, [], OnOk};
 ghost use Rattle.std.specs.List.{flat_map};
 ghost use Rattle.ft_types.specs.NodeRows.{high_half, low_half, shape_row};
@@ -14,7 +14,7 @@ use ft_isa::{Base, Basic, Colour, Coloured, Instr, NoMemory, Reg, Subst};
 use ft_static::{Node, Shape};
 use ft_types::{Block, RegType, high_half, low_half, shape_numbers};
 
-/// What is written as one record.
+/// A value that is written as one record.
 pub(crate) trait Record {
     ghost use Rattle.std.specs.Prelude.{ℕ, List, OnOk};
     ghost use Rattle.ft_format.specs.Puts.{Puts};
@@ -74,7 +74,7 @@ fn basic_number(basic: Basic) -> u32
     (u32::from(basic.refs) << 24) | base
 }
 
-/// The numbers of a node of a scope and a shape.
+/// The numbers of a node with this scope and shape.
 fn shape_row(scope: u8, shape: Shape) -> NodeRow
     ensures { node_numbers result ≡ shape_row scope shape }
 {
@@ -147,7 +147,7 @@ impl Record for Block {
     }
 }
 
-/// An instruction of a kind, with registers or a colour in a, b and c.
+/// The numbers of an instruction of this kind, with registers or a colour in a, b and c.
 fn code_row(kind: u8, a: u8, b: u8, c: u8, x: u32, word: u64) -> CodeRow
     ensures { code_numbers result ≡ kind ∷ a ∷ b ∷ c ∷ x ∷ high_half word ∷ low_half word ∷ [] }
 {
@@ -162,7 +162,7 @@ fn code_row(kind: u8, a: u8, b: u8, c: u8, x: u32, word: u64) -> CodeRow
     }
 }
 
-/// A blue jump or branch.
+/// The numbers of a blue jump or branch.
 fn blue_row(kind: u8, a: u8, b: u8, subst: Subst) -> CodeRow
     ensures { code_numbers result ≡ kind ∷ a ∷ b ∷ 1 ∷ subst.first ∷ subst.past ∷ subst.memory ∷ [] }
 {
@@ -177,7 +177,7 @@ fn blue_row(kind: u8, a: u8, b: u8, subst: Subst) -> CodeRow
     }
 }
 
-/// An instruction with a word.
+/// The numbers of an instruction with a word.
 fn word_row(kind: u8, rd: Reg, b: u8, value: Coloured, x: u32) -> CodeRow
     ensures { code_numbers result ≡ kind ∷ rd.number ∷ b ∷ colour_code value.colour ∷ x ∷ high_half value.word ∷ low_half value.word ∷ [] }
 {
@@ -240,7 +240,7 @@ impl Record for Instr {
     }
 }
 
-/// Appends substitution rows, two at a time: an object may have a million of them.
+/// Appends substitution rows, two at a time, since an object may have a million of them.
 #[tactic(auto, unfolding(ft_format::specs::Layout::written))]
 pub(crate) fn write_rows(rows: &[u32], out: &mut Vec<u8>) -> Result<(), NoMemory>
     ensures { OnOk result (Puts out.old.items out.new.items (flat_map subst_bytes rows.now)) }

@@ -21,7 +21,7 @@ use ft_isa::NoMemory;
 use ft_types::{Cell, CodeType, Object};
 use std::alloc::Global;
 
-/// How many register rows code types have.
+/// How many register rows the code types have in all.
 fn count_regs(types: &[CodeType]) -> u32
     requires { sum_by (λ t. length (regs_of t)) types.now < 2 ^ 32 }
     ensures { result ≡ sum_by (λ t. length (regs_of t)) types.now }
@@ -33,7 +33,7 @@ fn count_regs(types: &[CodeType]) -> u32
     count
 }
 
-/// How many queue rows code types have.
+/// How many queue rows the code types have in all.
 fn count_queue(types: &[CodeType]) -> u32
     requires { sum_by (λ t. length (queue_of t)) types.now < 2 ^ 32 }
     ensures { result ≡ sum_by (λ t. length (queue_of t)) types.now }
@@ -45,7 +45,7 @@ fn count_queue(types: &[CodeType]) -> u32
     count
 }
 
-/// How many bytes the names of cells have.
+/// How many bytes the names of the cells have in all.
 fn count_names(cells: &[Cell]) -> u32
     requires { sum_by (λ c. length (name_of c)) cells.now < 2 ^ 32 }
     ensures { result ≡ sum_by (λ c. length (name_of c)) cells.now }
@@ -152,7 +152,7 @@ fn write_names(cells: &[Cell], out: &mut Vec<u8>) -> Result<(), NoMemory>
     Ok(())
 }
 
-/// How many bytes the counts of a header add up to.
+/// How many bytes the counts of a header require.
 fn size_of(header: Header) -> usize
     ensures { result ≡ total header }
 {
@@ -164,7 +164,7 @@ fn size_of(header: Header) -> usize
     code + 4 * header.substs as usize + header.names as usize
 }
 
-/// The version 2 layout of an object's tables, whether or not they obey the rules of the format.
+/// Writes an object's tables in the version 2 layout, whether or not they obey the rules of the format.
 pub fn spell(alloc: Global, object: &Object) -> Result<Vec<u8>, NoMemory>
     requires { HasCounts object.now }
     ensures { IfOk result (λ bytes. bytes.items ≡ spelling Second object.now) }
@@ -184,15 +184,15 @@ pub fn spell(alloc: Global, object: &Object) -> Result<Vec<u8>, NoMemory>
     Ok(out)
 }
 
-/// The version 2 spelling of an object that obeys the rules of the format.
+/// Writes the version 2 spelling of an object that obeys the rules of the format.
 pub fn encode(alloc: Global, object: &Object) -> Result<Vec<u8>, NoMemory>
     requires { IsSpellable object.now }
-    // What is written is the object's spelling.
+    // The result is the object's spelling.
     ensures spelled { IfOk result (λ bytes. bytes.items ≡ spelling Second object.now) }
     // It breaks no rule, and decoding it gives the object back.
     ensures unbroken { IfOk result (λ bytes. broken bytes.items ≡ None) }
     ensures back { IfOk result (λ bytes. Spells bytes.items Second object.now × (object_of bytes.items ≡ object.now)) }
-    // Whatever bytes of version 2 spell the object, they are the written ones.
+    // No other version 2 bytes spell the object.
     ensures one { IfOk result (λ bytes. (other : List ℕ) → Spells other Second object.now → other ≡ bytes.items) }
     // It is not a prefix of another spelling.
     ensures apart { IfOk result (λ bytes. (rest : List ℕ) (v : Version) (other : Object) → Spells (bytes.items ++ rest) v other → rest ≡ []) }

@@ -16,7 +16,7 @@ use Rattle.ft_exchange.proofs.Lists.{length-exchanged, range_around, range_befor
 
 -- WHERE BLOCKS BEGIN
 
--- a block begins not before an earlier one
+-- a block does not begin before an earlier one
 pub starts_rise : (o : Object) (i j : ℕ) (x y : Block) → IsSpellable o → slice_get o.blocks i ≡ Some x →
     slice_get o.blocks j ≡ Some y → i ≤ j → x.start ≤ y.start
 starts_rise o i j x y spelled ex ey l =
@@ -63,7 +63,7 @@ placed o b k h =
 end_same : (o : Object) (n b : ℕ) → block_end (with_instrs o (exchanged o.instrs n)) b ≡ block_end o b
 end_same o n b = ap (unwrap_or (option_map start_of (slice_get o.blocks (suc b)))) (length-exchanged o.instrs n)
 
--- the block in which the exchange is
+-- the block that contains the exchange
 pub same_block : (o : Object) (b k : ℕ) → IsPermitted o b k → block_instrs (after_exchange o b k) b
     ≡ exchanged (block_instrs o b) k
 same_block o b k h =
@@ -84,7 +84,7 @@ no_start o b k j y spelled h ey e = elim (slice_get_cases o.blocks b).1 [
   | inr n ↦ (let l = h.block in let m = n.0 in absurd (omega arith))
 ]
 
--- another block
+-- another block is unchanged
 pub other_block : (o : Object) (b k j : ℕ) (y : Block) → IsSpellable o → IsPermitted o b k → slice_get o.blocks j
     ≡ Some y → (j ≡ b → ⊥) → block_instrs (after_exchange o b k) j ≡ block_instrs o j
 other_block o b k j y spelled h ey ne =

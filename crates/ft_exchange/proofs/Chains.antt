@@ -42,7 +42,7 @@ use Rattle.ft_exchange.proofs.Lockstep.{next_of, sides}
 
 -- WHERE RUNS MEET
 
--- a state meets if it has stopped, or is at a fixed instruction
+-- a state is a meeting point if it has stopped, or is at a fixed instruction or at none
 abbrev meets_by : Status → Option Instr → Bool
 meets_by Running (Some i) = is_fixed i
 meets_by Running None = true
@@ -52,7 +52,7 @@ meets_by Detected u = true
 abbrev is_meeting : Object → State → Bool
 is_meeting o t = meets_by t.status (instr_at o t.pc_green)
 
--- the runs of two objects after as many steps
+-- the runs of two objects after the same number of steps
 pub record Tied (o s : Object) (r x : Ran) : Type 0 where
   pub status : x.state.status ≡ r.state.status
   pub prefix : IsPrefix x.outputs r.outputs
@@ -103,7 +103,7 @@ module _ (o : Object) (b k : ℕ) (spelled : IsSpellable o) (acc : IsAccepted o)
       (cases_eq i (suc n0)))
       (cases_eq i n0)
 
-  -- within the four steps neither meets
+  -- within the four steps, neither run is at a meeting point
   apart : (t : State) (a : ℕ) (i : Instr) → t.status ≡ Running → t.pc_green ≡ a → instr_at o a ≡ Some i → is_fixed i
       ≡ false → is_meeting o t ≡ true → ⊥
   apart t a i go e f free m = (let g : is_meeting o t ≡ false = (λ j. meets_by (go j) (instr_at o (e j)))
@@ -165,7 +165,7 @@ kept o _ spelled acc (exchange {s = s} b k h p) =
           (run (after_exchange s b k) None [] n) (l.tied n) (tied_exchange s b k l.spellable l.accepted p n);
     }
 
--- WHERE THE RUN NEXT MEETS
+-- THE NEXT MEETING POINT
 
 further_free : (o : Object) (i : Instr) (t : State) (P : Place) → is_fixed i ≡ false → place_after o i t P
     ≡ further (row o P.context i) P
@@ -176,7 +176,7 @@ further_free o (BzB rz rd u) t P h = cc
 further_free o Halt t P h = cc
 further_free o i t P h = refl
 
--- an instruction that isn't fixed goes on
+-- the row of an instruction that isn't fixed continues
 goes_free : (o : Object) (c : Context) (i : Instr) → Passes o c i → is_fixed i ≡ false → (d : Context)
     × (row o c i ≡ Goes d)
 goes_free o c i (ends e) free = (let f = ends_fixed o c i e in absurd (cc))
@@ -191,7 +191,7 @@ fetched_few : (u : Option Instr) → fetched_one u ≤ 1
 fetched_few None = omega arith
 fetched_few (Some i) = omega arith
 
--- a place of the object with at most n steps to the last instruction of its block
+-- a place with at most f steps to the last instruction of its block
 pub record Ahead (o : Object) (t : State) (P : Place) (f : ℕ) : Type 0 where
   pub at : IsPlace o P
   pub enough : 2 * length (block_instrs o at.number) ≤ f + fetched_one t.fetched + 2 * P.index
@@ -216,7 +216,7 @@ stopped_meets Done x h = refl
 stopped_meets Detected x h = refl
 
 module _ (o : Object) (spelled : IsSpellable o) (acc : IsAccepted o) where
-  -- what the counter shows is the place's instruction
+  -- the instruction at the counter is the place's
   instr_here : (t : State) (P : Place) (n : ℕ) (h : Here o P n) → Fits o P t → (free : Free o t) → h.instr ≡ free.instr
   instr_here t P n h fits free =
       let pc : t.pc_green ≡ suc (instr_number P) = (let g = fits.pc_green in omega arith) in
@@ -262,7 +262,7 @@ module _ (o : Object) (spelled : IsSpellable o) (acc : IsAccepted o) where
       ahead_executed t w P f a h (e ∙ h.there) (ap is_fixed same ∙ free.free))
       fits.fetched
 
-  -- if there is an instruction, something is ahead
+  -- at an instruction, at least one step is ahead
   ahead_some : (t : State) (P : Place) → Ahead o t P 0 → ⊥
   ahead_some t P a =
       let h = here o P acc a.at in
@@ -271,7 +271,7 @@ module _ (o : Object) (spelled : IsSpellable o) (acc : IsAccepted o) where
       let few = fetched_few t.fetched in
       omega arith
 
-  -- after at most n steps the run meets
+  -- after at most f more steps, the run is at a meeting point
   pub record Soon (n f : ℕ) : Type 0 where
     pub step_number : ℕ
     pub from : n ≤ step_number

@@ -25,7 +25,7 @@ use Rattle.ft_exchange.proofs.StoreRows.{store_same}
 
 -- MAPS
 
--- two entries of different keys may be put in either order
+-- entries with different keys may be inserted in either order
 pub insert-insert : {X : Type 0} (m : FinMap nat_cmp X) (p q : ℕ) (x y : X) → (q == p) ≡ false →
     finite.insert (finite.insert m p x) q y ≡ finite.insert (finite.insert m q y) p x
 insert-insert {X = X} m p q x y other = finite.same_map nat_cmp_total nat_cmp-IsAntisymmetric _ _ (λ k.
@@ -46,7 +46,7 @@ insert-insert {X = X} m p q x y other = finite.same_map nat_cmp_total nat_cmp-Is
     by_tests false true u h = refl
     by_tests false false u h = refl
 
--- a register that wasn't written
+-- a register that was not written
 pub typed_other : (c : Context) (r q : ℕ) (t : Typed) → (q == r) ≡ false → typed (with_type r t c) q ≡ typed c q
 typed_other c r q t e = get-insert c.registers r t q ∙ ap (λ b. cond b (Some t) (typed c q)) e
 
@@ -56,7 +56,7 @@ seen_other Blue c r t = refl
 
 -- TWO NEIGHBOURS
 
--- the rows go on in the other order too, to the same context
+-- in the other order, the rows continue too, and lead to the same context
 pub record Crosses (o : Object) (c e : Context) (first second : Instr) : Type 0 where
   pub between : Context
   pub second_row : row o c second ≡ Goes between

@@ -24,7 +24,7 @@ use Rattle.ft_exchange.specs.Exchange.{is_trailing, leaves_alone}
 use Rattle.ft_exchange.proofs.Permits.{not_read, not_written, read_other, trailing_load, leading_load}
 use Rattle.ft_exchange.proofs.Crossing.{insert-insert}
 
--- what instructions that are not fixed look at and change
+-- the part of a state that instructions other than fixed ones read and change
 pub record Core : Type 0 where
   pub registers : Registers
   pub queue : Pending
@@ -33,7 +33,7 @@ pub record Core : Type 0 where
 abbrev pub core : State → Core
 core s = record { registers = s.registers; queue = s.queue; cells = s.cells }
 
--- the state with another core, after an instruction that goes on
+-- the state with another core, after an instruction that continues with the next one
 abbrev pub moved : State → Core → State
 moved s m = goes_on (record s { registers = m.registers; queue = m.queue; cells = m.cells })
 
@@ -45,7 +45,7 @@ abbrev seen : Colour → Core → ℕ → Option ℕ
 seen Green m a = option_or (newest_at m.queue a) (cell_at m.cells a)
 seen Blue m a = cell_at m.cells a
 
--- what an instruction that writes a register puts there
+-- what an instruction writes to its register
 abbrev puts : Instr → Core → Option Coloured
 puts (OpReg op rd rs rt) m = Some (record {
   colour = (held m.registers rs.number).colour;
@@ -63,7 +63,7 @@ puts (Idx rd rs first n) m = Some (record {
 })
 puts i m = None
 
--- the core with a register written
+-- the core after a register is written
 abbrev pub with_put : ℕ → Coloured → Core → Core
 with_put r x m = record m { registers = with_held m.registers r x }
 
@@ -73,7 +73,7 @@ with_pending a v m = record m { queue = m.queue ++ (a, v) ∷ [] }
 abbrev pub with_commit : ℕ → ℕ → Core → Core
 with_commit a v m = record m { queue = drop 1 m.queue; cells = with_cell m.cells a v }
 
--- what an instruction that is not fixed does, if it is not detected and no load is wild: the core after it, and the
+-- what an instruction that is not fixed does, if no fault is detected and no load is wild: the core after it, and the
 -- output
 pub data Does : Instr → Core → Core → Option Output → Type 0 where
   writes : {i : Instr} {m : Core} (r : ℕ) (x : Coloured) → written i ≡ Some r → puts i m ≡ Some x →
@@ -87,7 +87,7 @@ pub data Does : Instr → Core → Core → Option Output → Type 0 where
 
 -- THE STEP
 
--- an instruction with this effect is executed like this
+-- how an instruction with this effect is executed
 loaded_execute : (k : Colour) (rd rs : Reg) (s : State) (w : List Wild) (x : Coloured) (u : Option ℕ) → loaded k u
     ≡ Some x → load k rd u s w ≡ quiet (moved s (with_put rd.number x (core s))) w
 loaded_execute k rd rs s w x None e = cc
@@ -98,7 +98,7 @@ seen_found : (k : Colour) (s : State) (a : ℕ) → seen k (core s) a ≡ found 
 seen_found Green s a = refl
 seen_found Blue s a = refl
 
--- a step that writes a register, by the register and what is put there
+-- steps that write the same value to the same register are equal
 put_there : (q r : ℕ) (y x : Coloured) (s : State) (w : List Wild) → Some q ≡ Some r → Some y ≡ Some x →
     quiet (moved s (with_put q y (core s))) w ≡ quiet (moved s (with_put r x (core s))) w
 put_there q r y x s w e f = (let a : q ≡ r = cc in let b : y ≡ x = cc in
@@ -143,7 +143,7 @@ pub does_execute : (i : Instr) (s : State) (m : Core) (w : List Wild) (x : Optio
     execute i s w ≡ went s m w x
 does_execute i s m w x h = executes i s (core s) m w x refl h
 
--- what an instruction that isn't fixed does to a state, if it isn't detected
+-- what an instruction that isn't fixed does to a state, if no fault is detected
 pub record Done_ (i : Instr) (c : Core) : Type 0 where
   pub after : Core
   pub output : Option Output
@@ -184,7 +184,7 @@ executed i s free h = cc
 
 -- BOTH ORDERS
 
--- what is put looks at the registers read, and a load at what it sees
+-- the value written depends only on the registers read and, for a load, on what it sees
 puts_same : (i : Instr) (m n : Core) → ((r : ℕ) → reads i r ≡ true → held n.registers r ≡ held m.registers r) →
     ((k : Colour) (rd rs : Reg) (a : ℕ) → i ≡ Ld k rd rs → seen k n a ≡ seen k m a) → puts i n ≡ puts i m
 puts_same (OpReg op rd rs rt) m n h l =
@@ -204,7 +204,7 @@ puts_same i m n h l = refl
 held_other : (m : Registers) (r : ℕ) (x : Coloured) (q : ℕ) → (q == r) ≡ false → held (with_held m r x) q ≡ held m q
 held_other m r x q e = held-with_held m r x q ∙ ap (λ b. cond b x (held m q)) e
 
--- what a green load sees stays after the oldest entry is committed
+-- what a green load sees is unchanged after the oldest entry is committed
 or_oldest : (u c : Option ℕ) (b : Bool) (v : ℕ) → option_or (option_or u (if b then Some v else None)) c
     ≡ option_or u (cond b (Some v) c)
 or_oldest None c true v = refl
@@ -231,7 +231,7 @@ committed_seen (e ∷ q) cells a v x h =
     ∙ ap (λ z. cond (e.0 == x) (Some z) (cell_at cells x)) (sym ev))
     ∙ sym (or_oldest (newest_at q x) (cell_at cells x) (e.0 == x) e.1)
 
--- the queue of a commit, with one more entry
+-- committing the oldest entry after one more was queued
 drop_append : (q : Pending) (a v : ℕ) (x : ℕ × ℕ) → is_oldest q a v ≡ true → drop 1 (q ++ x ∷ []) ≡ drop 1 q ++ x ∷ []
 drop_append [] a v x h = cc
 drop_append (e ∷ q) a v x h = refl

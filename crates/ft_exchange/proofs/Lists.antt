@@ -17,14 +17,14 @@ length-exchanged (i ∷ j ∷ is) zero = refl
 
 -- PARTS
 
--- the part from a place up to the exchange
+-- the rest from a place before the exchange
 drop_before : (a : ℕ) (is : List Instr) (n k : ℕ) → n ≡ a + k → drop a (exchanged is n) ≡ exchanged (drop a is) k
 drop_before zero is n k e = ap (exchanged is) (omega arith)
 drop_before (suc a) [] n k e = refl
 drop_before (suc a) (i ∷ is) zero k e = absurd (omega arith)
 drop_before (suc a) (i ∷ is) (suc n) k e = drop_before a is n k (omega arith)
 
--- the part from a place after the exchange
+-- the rest from a place after the exchange
 drop_after : (a : ℕ) (is : List Instr) (n : ℕ) → n + 2 ≤ a → drop a (exchanged is n) ≡ drop a is
 drop_after a [] n h = refl
 drop_after zero (i ∷ is) n h = absurd (omega arith)
@@ -33,7 +33,7 @@ drop_after (suc a) (i ∷ []) zero h = refl
 drop_after (suc zero) (i ∷ j ∷ is) zero h = absurd (omega arith)
 drop_after (suc (suc a)) (i ∷ j ∷ is) zero h = refl
 
--- the part up to a place after the exchange
+-- the front up to a place after the exchange
 pub take_around : (m : ℕ) (is : List Instr) (k : ℕ) → k + 2 ≤ m → take m (exchanged is k) ≡ exchanged (take m is) k
 take_around zero is k h = absurd (omega arith)
 take_around (suc m) [] k h = refl
@@ -42,14 +42,14 @@ take_around (suc zero) (i ∷ is) zero h = absurd (omega arith)
 take_around (suc (suc m)) (i ∷ []) zero h = refl
 take_around (suc (suc m)) (i ∷ j ∷ is) zero h = refl
 
--- the part up to a place before the exchange
+-- the front up to a place before the exchange
 pub take_before : (m : ℕ) (is : List Instr) (k : ℕ) → m ≤ k → take m (exchanged is k) ≡ take m is
 take_before zero is k h = refl
 take_before (suc m) [] k h = refl
 take_before (suc m) (i ∷ is) zero h = absurd (omega arith)
 take_before (suc m) (i ∷ is) (suc k) h = ap (λ z. i ∷ z) (take_before m is k (omega arith))
 
--- a part in which the exchange is
+-- a part that contains the exchange
 pub range_around : (is : List Instr) (n k a e : ℕ) → n ≡ a + k → n + 2 ≤ e → slice_range (exchanged is n) a e
     ≡ exchanged (slice_range is a e) k
 range_around is n k a e p h = ap (take (e - a)) (drop_before a is n k p)
@@ -81,7 +81,7 @@ get-range is a e k i f =
     let g = get-take (e - a) (drop a is) k i f in
     (let l = g.0 in omega arith, sym (get_dropped a is k) ∙ g.1)
 
--- each element of the new list stood in the old
+-- each element of the new list is one of the old
 pub from_exchanged : (is : List Instr) (n k : ℕ) (x : Instr) → slice_get (exchanged is n) k ≡ Some x → (j : ℕ)
     × (slice_get is j ≡ Some x)
 from_exchanged [] n k x e = cc

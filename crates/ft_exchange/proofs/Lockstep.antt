@@ -41,12 +41,12 @@ use Rattle.ft_exchange.proofs.Effects.{Core, core, moved, went, does_execute, ex
 
 -- STEPS
 
--- a running state does what is fetched
+-- a running machine executes what is fetched
 pub step_executes : (o : Object) (s : State) (w : List Wild) (i : Instr) → s.status ≡ Running → s.fetched ≡ Some i →
     step o s w ≡ execute i s w
 step_executes o s w i go e = ap (λ (x : Status). step_at o x s w) go ∙ ap (λ (x : Option Instr). advance o x s w) e
 
--- a running state with nothing fetched fetches what is at its counters
+-- a running machine with nothing fetched fetches the instruction at its counters
 pub step_fetches : (o : Object) (s : State) (w : List Wild) → s.status ≡ Running → s.fetched ≡ None → s.pc_green
     ≡ s.pc_blue → step o s w ≡ fetch (instr_at o s.pc_green) s w
 step_fetches o s w go e pc = ap (λ (x : Status). step_at o x s w) go ∙ ap (λ (x : Option Instr). advance o x s w) e
@@ -134,18 +134,19 @@ number_after o i s p = number_further _ p
 abbrev pub ran : State → List Output → Ran
 ran s os = record { state = s; wild = []; outputs = os }
 
--- if both are in one state: not between the two, and not about to do the first
+-- a state that both share: not between the two, and not about to execute the first
 pub record Clear (n : ℕ) (s : State) : Type 0 where
   pub not_between : s.status ≡ Running → s.pc_green ≢ suc (suc n)
   pub not_fetched : s.status ≡ Running → (i : Instr) → s.fetched ≡ Some i → s.pc_green ≢ suc n
 
--- a running state at the first
+-- a running state at the first instruction
 pub record Base (n : ℕ) (t : State) : Type 0 where
   pub running : t.status ≡ Running
   pub green : t.pc_green ≡ suc n
   pub blue : t.pc_blue ≡ suc n
 
--- both runs after as many steps: in one state with the same outputs, or within the four steps of the two instructions
+-- both runs after the same number of steps: in the same state with the same outputs, or within the four steps of the
+-- two instructions
 pub data Side (n : ℕ) (first second : Instr) : Ran → Ran → Type 0 where
   together : (r : Ran) → Clear n r.state → Side n first second r r
   first_fetched : (t : State) (os : List Output) → Base n t →
@@ -177,7 +178,7 @@ module _ (o : Object) (b k : ℕ) (spelled : IsSpellable o) (acc : IsAccepted o)
   at : Placed o b k p.first p.second
   at = placed o b k p
 
-  -- what both have at other addresses
+  -- both have the same instructions at other addresses
   same_instr : (a : ℕ) → a ≢ suc n0 → a ≢ suc (suc n0) → instr_at s' a ≡ instr_at o a
   same_instr zero h l = refl
   same_instr (suc i) h l = get_other o.instrs n0 i (λ e. h (ap suc e)) (λ e. l (ap suc e))
@@ -237,7 +238,7 @@ module _ (o : Object) (b k : ℕ) (spelled : IsSpellable o) (acc : IsAccepted o)
       (second_fetched t (os ++ []) (os' ++ []) m m' x base z (append-nil os ∙ e
       ∙ ap (λ (l : List Output). l ++ option_to_list x) (sym (append-nil os'))))
 
-  -- both orders are done
+  -- both orders are complete
   step_last : (t : State) (os os' : List Output) (m m' : Core) (x : Option Output) → Base n0 t →
       Meets (core t) m m' p.first p.second x None → os ≡ os' ++ option_to_list x →
       Side n0 p.first p.second (extended os (step o (record (moved t m) { fetched = Some p.second }) []))
@@ -259,7 +260,7 @@ module _ (o : Object) (b k : ℕ) (spelled : IsSpellable o) (acc : IsAccepted o)
         not_fetched = λ go i f. cc;
       })))
 
-  -- the next step of both, if they are in one state that runs
+  -- the next step of both, if they share a running state
   clear_stopped : (x : State) → x.status ≢ Running → Clear n0 x
   clear_stopped x h = record { not_between = λ go e. h go; not_fetched = λ go i f e. h go }
 

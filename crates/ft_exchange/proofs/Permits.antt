@@ -22,7 +22,7 @@ pub data Leading : Instr → Type 0 where
       Leading i
   leading_store : (rd rs : Reg) → Leading (St Green rd rs)
 
--- a load that trails is blue, and one that leads green
+-- a trailing load is blue, and a leading one is green
 pub trailing_load : (i : Instr) (k : Colour) (rd rs : Reg) → is_trailing i ≡ true → i ≡ Ld k rd rs → k ≡ Blue
 trailing_load i k rd rs h e = by_colour k (subst (λ (z : Instr). is_trailing z ≡ true) e h)
   where
@@ -106,7 +106,7 @@ pub not_written : (i : Instr) (w : Option ℕ) (q r : ℕ) → w ≡ Some r → 
 not_written i w q r e f h = subst (λ u. is_register u r
     ≡ false) f (or_right_false (reads i r) (is_register (written i) r) (subst (λ u. leaves_alone i u ≡ true) e h))
 
--- so what it reads is another
+-- so what it reads is another register
 pub read_other : (i : Instr) (r q : ℕ) → reads i r ≡ false → reads i q ≡ true → (q == r) ≡ false
 read_other i r q no_read h = by_test (q == r) refl
   where

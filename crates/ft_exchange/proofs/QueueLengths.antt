@@ -1,4 +1,4 @@
--- What a row does to the length of the static queue, and that only fixed instructions end a block.
+-- How rows change the length of the static queue; and only fixed instructions end a block.
 use Rattle.std.proofs.Common.{◌≡◌, suc, ◌+◌, Bool, true, cond, not, List, [], ◌∷◌, ◌++◌, length, refl, ap, arith}
 use Rattle.std.specs.List.{count_by}
 use Rattle.std.proofs.lemmas.List.Sums.{sum_by-cons}
@@ -22,7 +22,7 @@ Counts c i d = (is : List Instr) → queue_after (length c.queue) (i ∷ is) ≡
 pub count_cons : (t : Instr → Bool) (i : Instr) (is : List Instr) → count_by t (i ∷ is) ≡ cond (t i) 1 0 + count_by t is
 count_cons t i is = sum_by-cons (λ x. cond (t x) 1 0) i is
 
--- the static queue that a row goes on with
+-- the static queue with which a row continues
 abbrev queue_after_row : List FormPair → Outcome → List FormPair
 queue_after_row q (Goes c) = c.queue
 queue_after_row q Ends = q

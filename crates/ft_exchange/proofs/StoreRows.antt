@@ -1,4 +1,4 @@
--- The typing row of a store, by its pair.
+-- The typing row of a store, in terms of its pair.
 use Rattle.std.proofs.Common.{◌≡◌, ℕ, zero, suc, Bool, true, false, ◌&&◌, ◌==◌, nat_lt, List, [], ◌∷◌, ◌++◌, length}
 use Rattle.std.proofs.Common.{Option, Some, None, refl, sym, ap, ◌∙◌, eq-eqb, if◌then◌else◌}
 use Rattle.std.proofs.lemmas.Bool.{or_left, or_right}
@@ -30,7 +30,7 @@ of_store k (Some a) (Some v) = if same_colour a.colour k && same_colour v.colour
 of_store k None v = None
 of_store k (Some a) None = None
 
--- the row of a store, by its pair: what comes after, or a failing premise
+-- the row of a store, in terms of its pair: what follows, or a failing premise
 store_row : Option FormPair → (FormPair → Outcome) → Premise → Outcome
 store_row (Some p) next f = next p
 store_row None next f = Fails f
@@ -67,7 +67,7 @@ stored k (Some a) (Some v) next = by_test (same_colour a.colour k && same_colour
     by_test true = stored_value a.basic.refs a.basic.base a.form v next
     by_test false = record { failing = premise.Colour; row_is = refl }
 
--- what comes after a pair in either row
+-- what follows the pair in the green and in the blue row
 queues : Context → FormPair → Outcome
 queues c p = need premise.QueueFull (nat_lt (length c.queue) 8) (Goes (record c { queue = c.queue ++ p ∷ [] }))
 
@@ -75,7 +75,7 @@ commits_on : Context → FormPair → Outcome
 commits_on c p = for_oldest c.queue (λ e q. need premise.Addresses (same_polynomial p.0 e.0)
     (need premise.Values (same_polynomial p.1 e.1) (Goes (record c { queue = q; memory = norm_upd c.memory p.0 p.1 }))))
 
--- a green store that went on
+-- a green store whose row continued
 pub record Queued (c d : Context) (u : Option FormPair) : Type 0 where
   pub pair : FormPair
   pub given : u ≡ Some pair
@@ -108,7 +108,7 @@ queues_on o c rd rs p e r = (let h = stored Green (typed c rd.number) (typed c r
     h.row_is ∙ ap (λ u. store_row u (queues c) h.failing) e
     ∙ ap (λ b. if b then Goes (record c { queue = c.queue ++ p ∷ [] }) else Fails premise.QueueFull) r)
 
--- a blue store that went on: its pair was the oldest
+-- a blue store whose row continued: its pair was the oldest
 pub record Committed (c d : Context) (u : Option FormPair) : Type 0 where
   pub pair : FormPair
   pub given : u ≡ Some pair

@@ -1,4 +1,4 @@
--- An object has one schedule at most.
+-- An object has at most one schedule.
 use Rattle.std.proofs.Common.{◌≡◌, ◌⊎◌, inl, inr, ⊎_elim, ℕ, zero, suc, ◌+◌, ◌-◌, ◌<◌, ◌≤◌, Bool, true, cond, not, ◌&&◌}
 use Rattle.std.proofs.Common.{false, List, [], ◌∷◌, length, take, Some, slice_get, refl, sym, ap, ◌∙◌, subst, arith}
 use Rattle.std.specs.List.{count_by}
@@ -47,7 +47,7 @@ queue_exchanged rows is n = λ i. rows + count_exchanged is_green_store is n i -
 
 -- PLACES
 
--- two places without a place between them, or with one
+-- two places that are neither equal nor neighbours
 abbrev Apart : ℕ → ℕ → Type 0
 Apart n m = (n + 2 ≤ m) ⊎ (m + 2 ≤ n)
 
@@ -69,14 +69,14 @@ not_next o b k l p q e =
     not_both q.first (permits _ q.first q.second q.may).first_trails (ap is_leading (sym same)
     ∙ (permits _ p.first p.second p.may).second_leads)
 
--- a block that is there
+-- an existing block
 block_there : (o : Object) (b : ℕ) → b < length o.blocks → (y : Block) × (slice_get o.blocks b ≡ Some y)
 block_there o b h = elim (slice_get_cases o.blocks b).1 [
   | inl y ↦ (y.0, y.2)
   | inr n ↦ (let m = n.0 in absurd (omega arith))
 ]
 
--- exchanges in an earlier block and in a later one
+-- exchanges in an earlier and in a later block
 blocks_apart : (o : Object) (b k c l : ℕ) → IsSpellable o → IsPermitted o b k → IsPermitted o c l → b < c →
     block_start o b + k + 2 ≤ block_start o c + l
 blocks_apart o b k c l spelled p q h =
@@ -86,7 +86,7 @@ blocks_apart o b k c l spelled p q h =
     let i = (placed o b k p).inside in
     omega arith
 
--- two permitted exchanges are one, or apart
+-- two permitted exchanges are the same, or apart
 one_or_apart : (o : Object) (b k c l : ℕ) → IsSpellable o → IsPermitted o b k → IsPermitted o c l →
     ((b ≡ c) × (k ≡ l)) ⊎ Apart (block_start o b + k) (block_start o c + l)
 one_or_apart o b k c l spelled p q =
@@ -122,7 +122,7 @@ one_or_apart o b k c l spelled p q =
     beyond : (k l : ℕ) → k < l → (l ≡ suc k → ⊥) → (a b : ℕ) → a ≡ b → a + k + 2 ≤ b + l
     beyond k l h ne a b e = (let m = below (suc k) l h (λ f. ne (sym f)) in omega arith)
 
--- PERMITTED STILL
+-- STILL PERMITTED
 
 -- in another block
 still_elsewhere : (o : Object) (b k c l : ℕ) → IsSpellable o → IsPermitted o b k → IsPermitted o c l → (c ≡ b → ⊥) →
@@ -190,7 +190,7 @@ turned : (n m : ℕ) → Apart n m → Apart m n
 turned n m (inl h) = inr h
 turned n m (inr h) = inl h
 
--- both orders lead to one object
+-- both orders lead to the same object
 both_ways : (o : Object) (b k c l : ℕ) → Apart (block_start o b + k) (block_start o c + l) →
     after_exchange (after_exchange o b k) c l ≡ after_exchange (after_exchange o c l) b k
 both_ways o b k c l (inl h) = ap (with_instrs o) (exchanged_apart o.instrs (block_start o b + k) (block_start o c + l)
@@ -200,7 +200,7 @@ both_ways o b k c l (inr h) = ap (with_instrs o) (sym
 
 -- CHAINS
 
--- permitted exchanges from the first one
+-- permitted exchanges, from the first one on
 data Chain (t : Object) : Object → Type 0 where
   done : Chain t t
   then_on : {o : Object} (b k : ℕ) → IsPermitted o b k → Chain t (after_exchange o b k) → Chain t o
@@ -213,7 +213,7 @@ chain_of : (o t : Object) → ComesFrom o t → Chain t o
 chain_of o _ itself = done
 chain_of o _ (exchange {s = s} b k h p) = longer s b k o (chain_of o s h) p
 
--- if a chain leads to an object with none left, it also leads there from after any permitted exchange
+-- if a chain leads to an object with no permitted exchange left, a chain also leads there after any permitted exchange
 leads_there : (t : Object) (b k : ℕ) → ((c l : ℕ) → IsPermitted t c l → ⊥) → (o : Object) → IsSpellable o → Chain t o →
     IsPermitted o b k → Chain t (after_exchange o b k)
 leads_there t b k none _ spelled done p = absurd (none b k p)

@@ -1,4 +1,4 @@
--- The typing row of an instruction that writes a register, by what it makes known of it.
+-- The typing row of an instruction that writes a register, in terms of what it makes known of that register.
 use Rattle.std.proofs.Common.{◌≡◌, ℕ, zero, suc, Bool, true, false, ◌==◌, Option, Some, None, refl, sym, ap, ◌∙◌, subst}
 use Rattle.std.proofs.Common.{eq-eqb, if◌then◌else◌}
 use Rattle.std.proofs.lemmas.Bool.{or_left, or_right}
@@ -23,7 +23,7 @@ use Rattle.ft_typing.specs.RowWords.{run_form, seen_memory}
 use Rattle.ft_typing.specs.TypingRow.{row}
 use Rattle.ft_isa.specs.Instructions.{written, reads}
 
--- what each kind of instruction makes known of the register that it writes, by what is known of those that it reads
+-- what each kind of instruction makes known of the register that it writes, from what is known of those that it reads
 of_op_reg : Op → Option Typed → Option Typed → Option Typed
 of_op_reg op (Some s) (Some t) = if same_colour t.colour s.colour
     then Some (record { colour = s.colour; basic = int; form = norm_op op s.form t.form }) else None
@@ -52,7 +52,7 @@ of_idx first m b None = None
 of_idx first m None (Some s) = None
 of_idx first m (Some b) (Some s) = Some (record { colour = s.colour; basic = ref b; form = run_form first m s.form })
 
--- what an instruction that writes a register makes known of it, if its row goes on
+-- what an instruction that writes a register makes known of it, if its row continues
 pub gives : Object → Context → Instr → Option Typed
 gives o c (OpReg op rd rs rt) = of_op_reg op (typed c rs.number) (typed c rt.number)
 gives o c (OpWord op rd rs value) = of_op_word op value (typed c rs.number)
@@ -61,12 +61,12 @@ gives o c (Ld k rd rs) = of_ld k (seen_memory k c) (typed c rs.number)
 gives o c (Idx rd rs first m) = of_idx first m (run_type o first m) (typed c rs.number)
 gives o c i = None
 
--- the row of a write, by what it gives
+-- the row of a write, in terms of what it gives
 unfoldable pub write_row : ℕ → Context → Option Typed → Premise → Outcome
 write_row r c (Some t) p = Goes (with_type r t c)
 write_row r c None p = Fails p
 
--- a row that goes on with a write
+-- a row that continues after a write
 pub record Gave (r : ℕ) (c : Context) (u : Option Typed) (x : Outcome) : Type 0 where
   pub failing : Premise
   pub row_is : x ≡ write_row r c u failing
@@ -147,7 +147,7 @@ gave o c (Idx rd rs first m) r e = gave_there _ _ _ _ _ e
     (gave_idx first m rd.number c (run_type o first m) (typed c rs.number))
 gave o c i r e = cc
 
--- what a write that went on gave
+-- what a write whose row continued gave
 pub record Wrote (r : ℕ) (c d : Context) (u : Option Typed) : Type 0 where
   pub what : Typed
   pub given : u ≡ Some what
@@ -168,7 +168,7 @@ pub writes_on : (o : Object) (c : Context) (i : Instr) (r : ℕ) (t : Typed) →
 unfolding write_row
 writes_on o c i r t e g = (let h = gave o c i r e in h.row_is ∙ ap (λ u. write_row r c u h.failing) g)
 
--- what is given looks at the registers read, and a load at its memory
+-- what is given depends only on the registers read and, for a load, on its memory
 pub gives_same : (o : Object) (c d : Context) (i : Instr) → ((r : ℕ) → reads i r ≡ true → typed d r ≡ typed c r) →
     ((k : Colour) (rd rs : Reg) → i ≡ Ld k rd rs → seen_memory k d ≡ seen_memory k c) → gives o d i ≡ gives o c i
 unfolding gives
@@ -181,7 +181,7 @@ gives_same o c d (Idx rd rs first n) h m = ap (of_idx first n (run_type o first 
     (h rs.number (eq-eqb rs.number rs.number refl))
 gives_same o c d i h m = refl
 
--- it looks at an object for the types of runs, and of the words of moves
+-- of the object, it depends only on the types of runs and of the words that are moved
 pub gives_there : (o x : Object) (c : Context) (i : Instr) →
     ((first m : ℕ) → run_type x first m ≡ run_type o first m) →
     ((rd : Reg) (v : Coloured) (y : Basic) → i ≡ Mov rd v y → has_type x v.word y ≡ has_type o v.word y) → gives x c i

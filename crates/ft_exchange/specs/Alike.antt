@@ -1,4 +1,4 @@
--- What exchanges keep of runs.
+-- What exchanges preserve of runs.
 use Rattle.std.specs.Prelude.{◌≡◌, ◌≢◌, ℕ, ◌+◌, List, None}
 use Rattle.ft_isa.specs.declared.plan.Wild.{Wild}
 use Rattle.ft_types.specs.declared.object.Object.{Object}
@@ -7,7 +7,7 @@ use Rattle.ft_semantics.specs.Agrees.{IsPrefix}
 use Rattle.ft_semantics.specs.Run.{outputs_after, status_after}
 
 -- after n steps without a fault, whatever the answers to wild loads: the statuses are equal; the outputs of s are a
--- prefix of those of o, and equal to them if the run is not running; and the outputs of o are a prefix of those of s
+-- prefix of those of o, and equal to them once the run has stopped; and the outputs of o are a prefix of those of s
 -- after 131,072 more steps
 pub record RunsAlike (o s : Object) (w : List Wild) (n : ℕ) : Type 0 where
   pub status : status_after s None w n ≡ status_after o None w n

@@ -29,12 +29,13 @@ leaves_alone i (Some r) = not (touches i r)
 abbrev pub queue_after : ℕ → List Instr → ℕ
 queue_after n is = n + count_by is_green_store is - count_by is_blue_store is
 
--- the length of the static queue before index k of block b: the number of the code type's queue rows, plus the `st_G`,
--- minus the `st_B` before it in the block
+-- the length of the static queue before index k of block b: the number of the code type's queue rows, plus the number
+-- of `st_G` and minus the number of `st_B` before that index in the block
 abbrev pub queue_before : Object → ℕ → ℕ → ℕ
 queue_before o b k = queue_after (length (queue_rows o (block_type o b))) (take k (block_instrs o b))
 
--- if the first is `st_B` and the second `st_G`: whether the static queue of n pairs before the first has at most 7
+-- whether the static queue, with n pairs before the two, has room for the exchange: at most 7 pairs, if the first is
+-- `st_B` and the second `st_G`
 abbrev pub has_room : Instr → Instr → ℕ → Bool
 has_room first second n = not (is_blue_store first && is_green_store second) || nat_lt n 8
 

@@ -1,4 +1,4 @@
-//! Modules of a link whose cells differ.
+//! Says in which cell two modules of a link differ.
 ghost use Rattle.ft_types.specs.Spellable.{IsSpellable};
 
 use ft_edge::Shelf;
@@ -39,7 +39,7 @@ fn is_alike<P: Program, Q: Program>(program: &P, first: &Q, k: u32) -> bool
     name == wanted && cell_at(program, k) == cell_at(first, k)
 }
 
-/// The first cell that two modules both have and in which they differ.
+/// The first cell that both modules have and in which they differ.
 fn unlike_cell<P: Program, Q: Program>(program: &P, first: &Q) -> Option<u32>
     requires here { IsSpellable (P.object program.now) }
     requires there { IsSpellable (Q.object first.now) }
@@ -53,7 +53,7 @@ fn unlike_cell<P: Program, Q: Program>(program: &P, first: &Q) -> Option<u32>
     None
 }
 
-/// Says in which cell a module differs from the first one.
+/// Says in which cell a module differs from the first one, or else how many cells each has.
 fn say_unlike_cell<P: Program, Q: Program>(
     page: &mut Page,
     program: &P,
@@ -72,7 +72,7 @@ fn say_unlike_cell<P: Program, Q: Program>(
     page.say(format_args!(", and the first module has {wanted}\n"))
 }
 
-/// Says in which cell an object differs from the first one.
+/// Says in which cell an object differs from the first one, or else how many cells each has.
 fn say_unlike_object(page: &mut Page, object: &[u8], first: &[u8]) -> Result<(), NoMemory> {
     match (View::over(object), View::over(first)) {
         (Ok(here), Ok(there)) => say_unlike_cell(page, &here, &there),
@@ -80,7 +80,7 @@ fn say_unlike_object(page: &mut Page, object: &[u8], first: &[u8]) -> Result<(),
     }
 }
 
-/// Says in which cell a module differs from the first one, if their files can be read again.
+/// Says how the cells of a module differ from those of the first one, if both files can be read again.
 pub(crate) fn explain_cells<S: Shelf>(
     page: &mut Page,
     first: Option<&str>,

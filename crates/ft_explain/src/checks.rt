@@ -1,4 +1,4 @@
-//! Explains objects that are not accepted.
+//! Explains why objects are not accepted.
 ghost use Rattle.std.specs.Prelude.{◌≡◌, ◌<◌, length, IfSome};
 ghost use Rattle.ft_types.specs.Objects.{reg_rows};
 ghost use Rattle.ft_types.specs.Spellable.{IsSpellable};
@@ -12,7 +12,7 @@ use ft_isa::{Base, Basic, Colour, Instr, NoMemory, Reg};
 use ft_mistakes::Page;
 use ft_types::{Block, Program, RegType};
 
-/// Says a basic type, as assembly texts spell it.
+/// Writes a basic type as assembly texts spell it.
 fn say_basic(page: &mut Page, basic: Basic) -> Result<(), NoMemory> {
     for _ in 0..basic.refs {
         page.say("ref:")?;
@@ -23,7 +23,7 @@ fn say_basic(page: &mut Page, basic: Basic) -> Result<(), NoMemory> {
     }
 }
 
-/// Says the colour and the basic type of a register.
+/// Writes the colour and the basic type of a register.
 fn say_known(page: &mut Page, known: Option<RegKnown>) -> Result<(), NoMemory> {
     let Some(known) = known else {
         return page.say("no type");
@@ -35,14 +35,14 @@ fn say_known(page: &mut Page, known: Option<RegKnown>) -> Result<(), NoMemory> {
     say_basic(page, known.basic)
 }
 
-/// Says a register and what is known of it.
+/// Writes a register and what is known of it.
 fn say_reg(page: &mut Page, reg: Reg, known: Option<RegKnown>) -> Result<(), NoMemory> {
     let number = reg.number();
     page.say(format_args!("  r{number}: "))?;
     say_known(page, known)
 }
 
-/// Says a register and what is known of it, on a line.
+/// Writes a line with a register and what is known of it.
 fn say_reg_line(page: &mut Page, known: &Known, reg: Option<Reg>) -> Result<(), NoMemory> {
     let Some(reg) = reg else {
         return Ok(());
@@ -51,7 +51,7 @@ fn say_reg_line(page: &mut Page, known: &Known, reg: Option<Reg>) -> Result<(), 
     page.say("\n")
 }
 
-/// Names a register whose colour or basic type differs from the row of code type `t`.
+/// Says how a register's colour or basic type differs from its row in code type `t`.
 fn say_unlike_row(
     page: &mut Page,
     t: u32,
@@ -66,7 +66,7 @@ fn say_unlike_row(
     page.say("\n")
 }
 
-/// Says instruction `i` as assembly text, between other words.
+/// Writes instruction `i` as assembly text, between other words.
 #[tactic(auto, using(ft_types::proofs::Counted::spellable_counted))]
 pub(crate) fn say_code<P: Program>(
     page: &mut Page,
@@ -83,7 +83,7 @@ pub(crate) fn say_code<P: Program>(
     page.show_between(before, text.as_slice().trim_ascii_end(), after)
 }
 
-/// Says instruction `i` as assembly text, on a line.
+/// Writes instruction `i` as assembly text, on a line of its own.
 pub(crate) fn say_instr<P: Program>(page: &mut Page, program: &P, i: u32) -> Result<(), NoMemory>
     requires spellable { IsSpellable (P.object program.now) }
     requires there { i < length (P.object program.now).instrs }
@@ -91,7 +91,7 @@ pub(crate) fn say_instr<P: Program>(page: &mut Page, program: &P, i: u32) -> Res
     say_code(page, program, i, "  ", "\n")
 }
 
-/// Whether the colour or basic type of a register differs from a row's; what is seen as `int` fits it.
+/// Whether the colour or basic type of a register differs from a row's. Any basic type fits a row of type `int`.
 fn differs(known: Option<RegKnown>, colour: Colour, basic: Basic) -> bool {
     match known {
         Some(known) => known.colour != colour || (known.basic != basic && basic != ft_isa::INT),
@@ -99,7 +99,7 @@ fn differs(known: Option<RegKnown>, colour: Colour, basic: Basic) -> bool {
     }
 }
 
-/// Lists the registers of the rows of code type `t`; one of them does not have the expected value.
+/// Lists the registers in the rows of code type `t`, one of which does not have the expected value.
 fn say_rows<P: Program>(page: &mut Page, program: &P, t: u32, count: u32) -> Result<(), NoMemory>
     requires there { t < length (P.object program.now).types }
     requires count { count ≡ length (reg_rows (P.object program.now) t) }
@@ -114,7 +114,7 @@ fn say_rows<P: Program>(page: &mut Page, program: &P, t: u32, count: u32) -> Res
     page.say("\n")
 }
 
-/// Names the registers whose colour or basic type differs from the rows of code type `t`; false if there are none.
+/// Says which registers differ in colour or basic type from the rows of code type `t`; returns false if none do.
 fn say_unlike_rows<P: Program>(
     page: &mut Page,
     program: &P,
@@ -137,7 +137,7 @@ fn say_unlike_rows<P: Program>(
     Ok(is_some_said)
 }
 
-/// Names the registers whose colour or basic type differs from code type `t`.
+/// Says which registers differ in colour or basic type from code type `t`, or else that one has the wrong value.
 #[tactic(auto, using(ft_types::proofs::Counted::spellable_counted))]
 fn say_unlike<P: Program>(
     page: &mut Page,
@@ -155,7 +155,7 @@ fn say_unlike<P: Program>(
     say_rows(page, program, t, head.regs)
 }
 
-/// The code type of the target of a blue jump or branch.
+/// The code type of the target of a blue jump or branch, if it is known.
 fn target_type<P: Program>(program: &P, known: &Known, rd: Reg) -> Option<u32>
     requires { IsSpellable (P.object program.now) }
     ensures { IfSome result (λ t. t < length (P.object program.now).types) }
@@ -180,7 +180,7 @@ fn row_count(instr: Instr) -> u32 {
     }
 }
 
-/// Says how many integer variables and pending stores the target's code type has.
+/// Says how many integer variables, or how many pending stores, the target's code type has.
 fn say_counts<P: Program>(
     page: &mut Page,
     program: &P,
@@ -226,7 +226,7 @@ fn say_target<P: Program>(
     }
 }
 
-/// Says the type of the cell that a store writes to.
+/// Names the type of the cell that a store writes to.
 fn say_stored(page: &mut Page, known: &Known, instr: Instr) -> Result<(), NoMemory> {
     let Instr::St { rd, .. } = instr else {
         return Ok(());
@@ -247,7 +247,7 @@ fn say_reads(page: &mut Page, known: &Known, instr: Instr) -> Result<(), NoMemor
     say_reg_line(page, known, second)
 }
 
-/// A block, and the number of its instruction at an index; `None` if there is none.
+/// A block, and the number of the instruction at this index in it; `None` if there is no such block.
 #[tactic(auto, using(ft_types::proofs::Counted::spellable_counted))]
 pub(crate) fn find<P: Program>(program: &P, block: u64, index: u64) -> Option<(Block, u32)>
     requires { IsSpellable (P.object program.now) }
@@ -296,7 +296,7 @@ fn explain_instr<P: Program>(
     }
 }
 
-/// Explains why no run may begin in the entry block.
+/// Explains why a run cannot begin in the entry block.
 #[tactic(auto, using(ft_types::proofs::Counted::spellable_counted))]
 fn explain_entry<P: Program>(page: &mut Page, program: &P, name: &str) -> Result<(), NoMemory>
     requires { IsSpellable (P.object program.now) }
@@ -328,7 +328,7 @@ fn explain_entry<P: Program>(page: &mut Page, program: &P, name: &str) -> Result
     page.say(", and must have none\n")
 }
 
-/// Explains why a cell's initial word does not have the cell's type.
+/// Explains that a cell's initial word does not have the cell's type.
 #[tactic(auto, using(ft_types::proofs::Counted::spellable_counted))]
 fn explain_cell<P: Program>(
     page: &mut Page,

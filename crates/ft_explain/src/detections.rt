@@ -1,4 +1,4 @@
-//! What a machine that has stopped at a fault found.
+//! Says what a machine found when it detected a fault.
 ghost use Rattle.std.specs.Prelude.{◌≡◌, ◌<◌, length};
 ghost use Rattle.ft_types.specs.Spellable.{IsSpellable};
 
@@ -8,7 +8,7 @@ use ft_machine::Machine;
 use ft_mistakes::Page;
 use ft_types::Program;
 
-/// Says the instruction at a code address, if it is this one; otherwise returns false.
+/// Writes the instruction at a code address if it is this one; otherwise returns false.
 #[tactic(auto, using(ft_types::proofs::Counted::spellable_counted))]
 fn say_code_at<P: Program>(
     page: &mut Page,
@@ -31,7 +31,7 @@ fn say_code_at<P: Program>(
     Ok(true)
 }
 
-/// Says the instruction that is being executed. One of the counters may have been struck since it was fetched.
+/// Writes the instruction that is being executed. One of the program counters may have been struck since the fetch.
 fn say_fetched<P: Program>(
     page: &mut Page,
     program: &P,
@@ -46,7 +46,7 @@ fn say_fetched<P: Program>(
     Ok(())
 }
 
-/// Says what a fetch found.
+/// Says why a fetch detected a fault.
 fn say_counters(page: &mut Page, machine: &Machine) -> Result<(), NoMemory> {
     let green = machine.pc(Colour::Green);
     let blue = machine.pc(Colour::Blue);
@@ -58,7 +58,7 @@ fn say_counters(page: &mut Page, machine: &Machine) -> Result<(), NoMemory> {
     page.say(format_args!("the green program counter is {green}, the blue one is {blue}"))
 }
 
-/// Says what a blue store found.
+/// Says why a blue store detected a fault.
 fn say_store(page: &mut Page, machine: &Machine, rd: Reg, rs: Reg) -> Result<(), NoMemory> {
     let Some((address, value)) = machine.queue().get(0) else {
         return page.say("the queue is empty");
@@ -80,7 +80,7 @@ fn say_store(page: &mut Page, machine: &Machine, rd: Reg, rs: Reg) -> Result<(),
     page.say(format_args!("no cell has the address {to}"))
 }
 
-/// Says what a blue jump, or a blue branch that is taken, found.
+/// Says why a blue jump, or a blue branch that is taken, detected a fault.
 fn say_target(page: &mut Page, machine: &Machine, rd: Reg) -> Result<(), NoMemory> {
     let d = machine.d();
     if d == 0 {
@@ -91,7 +91,7 @@ fn say_target(page: &mut Page, machine: &Machine, rd: Reg) -> Result<(), NoMemor
     page.say(format_args!("r{number} is {target}, but the green jump or branch set d to {d}"))
 }
 
-/// Says what a blue branch found.
+/// Says why a blue branch detected a fault.
 fn say_branch(page: &mut Page, machine: &Machine, rz: Reg, rd: Reg) -> Result<(), NoMemory> {
     let word = machine.reg(rz).word;
     if word == 0 {
@@ -102,7 +102,7 @@ fn say_branch(page: &mut Page, machine: &Machine, rz: Reg, rd: Reg) -> Result<()
     page.say(format_args!("r{number} is {word}, but the green branch was taken (d is {d})"))
 }
 
-/// Says what an instruction found.
+/// Says why an instruction detected a fault.
 fn say_found(page: &mut Page, machine: &Machine, instr: Instr) -> Result<(), NoMemory> {
     match instr {
         Instr::Ld { rs, .. } => {
@@ -133,7 +133,7 @@ fn say_found(page: &mut Page, machine: &Machine, instr: Instr) -> Result<(), NoM
     }
 }
 
-/// Says at which instruction a machine has stopped, and what it found there.
+/// Says at which instruction a machine has detected a fault, and why.
 pub(crate) fn say_detection<P: Program>(
     page: &mut Page,
     program: &P,

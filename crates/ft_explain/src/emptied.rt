@@ -8,26 +8,26 @@ use ft_mistakes::{Page, begins_as_object, load};
 /// The maximum size of what a call wrote to such a file.
 const LIMIT: usize = 67_108_864;
 
-/// What a call wrote, and how grave it is if that went to one of its own files.
+/// What a call wrote, and how to report that this went to one of the call's own files.
 #[derive(Clone, Copy)]
 pub(crate) struct Wrote<'l> {
-    /// The last line.
+    /// The last line that it wrote.
     pub line: &'l [u8],
-    /// Whether it may be an object: the call was given a source.
+    /// Whether the output may be an object, because the call was given a source.
     pub is_source: bool,
-    /// What the message is called: an error or a note.
+    /// What to call the message: an error or a note.
     pub called: &'static str,
 }
 
 impl Wrote<'_> {
-    /// Whether a file has these bytes and no others.
+    /// Whether a file that consists of these bytes holds no more than what the call wrote.
     fn is_all_of(self, bytes: &[u8]) -> bool {
         let is_object = self.is_source && begins_as_object(bytes);
         bytes.is_empty() || bytes == self.line || is_object
     }
 }
 
-/// Whether standard output is the file of this name, which holds no more than what the call wrote.
+/// Whether standard output is the file with this name, and the file holds no more than what the call wrote.
 fn is_emptied<S: Shelf, L: Look>(
     page: &Page,
     name: &str,
@@ -63,7 +63,7 @@ pub(crate) fn explain_emptied<S: Shelf, L: Look>(
     Ok(true)
 }
 
-/// If the shell emptied a module of a link map, says so; otherwise returns false.
+/// If the shell emptied the file of a module in a link map, says so; otherwise returns false.
 pub(crate) fn explain_emptied_module<S: Shelf, L: Look>(
     page: &mut Page,
     map: Option<&[u8]>,

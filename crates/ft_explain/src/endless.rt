@@ -1,10 +1,10 @@
-//! Loops of sources that never end by their test.
+//! Finds loops of a source that never end because their test is a nonzero number.
 use ft_edge::Shelf;
 use ft_isa::{NoMemory, read_number};
 use ft_lexer::{Kind, Lexer, Token};
 use ft_mistakes::{Page, Place, SOURCE_LIMIT, load};
 
-/// How much of `while (NUMBER)` was seen, with the number at its place.
+/// How much of `while (NUMBER)` has been read.
 #[derive(Clone, Copy)]
 enum Seen<'s> {
     /// Nothing of it.
@@ -18,7 +18,7 @@ enum Seen<'s> {
 }
 
 impl<'s> Seen<'s> {
-    /// What is seen after one more token.
+    /// The state after one more token.
     fn then(self, token: Token<'s>) -> Seen<'s> {
         match (self, token.kind) {
             (_, Kind::While) => Seen::While,
@@ -29,7 +29,7 @@ impl<'s> Seen<'s> {
     }
 }
 
-/// The test of the first loop whose test is a number that is not 0.
+/// The test of the first loop whose test is a nonzero number.
 fn endless_test(source: &[u8]) -> Option<Token<'_>> {
     let mut lexer = Lexer::new(source);
     let mut seen = Seen::Nothing;
@@ -47,7 +47,7 @@ fn endless_test(source: &[u8]) -> Option<Token<'_>> {
     None
 }
 
-/// Names the loop that never ends, in a source whose run or meaning was cut.
+/// Points to the loop that never ends, in a source that was stopped at its limit of steps or turns.
 pub(crate) fn note_endless<S: Shelf>(
     page: &mut Page,
     name: &str,

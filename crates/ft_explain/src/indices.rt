@@ -1,4 +1,4 @@
-//! Constant indices of sources that are beyond their arrays.
+//! Finds constant indices in a source that are out of bounds.
 use ft_edge::Shelf;
 use ft_isa::{NoMemory, read_number};
 use ft_lexer::{Kind, Lexer, Token};
@@ -23,7 +23,7 @@ struct Index<'s> {
     is_declared: bool,
 }
 
-/// What is seen of a name with a constant index so far.
+/// What has been seen so far of a name with a constant index.
 #[derive(Clone, Copy)]
 struct Seen<'s> {
     is_declared: bool,
@@ -32,7 +32,7 @@ struct Seen<'s> {
     number: Option<Number>,
 }
 
-/// Nothing was seen.
+/// Nothing has been seen.
 const NOTHING: Seen<'static> = Seen {
     is_declared: false,
     name: None,
@@ -40,7 +40,7 @@ const NOTHING: Seen<'static> = Seen {
     number: None,
 };
 
-/// The number of a token.
+/// The number in a token.
 fn number_of(token: Token<'_>) -> Option<Number> {
     Some(Number {
         at: token.at,
@@ -50,7 +50,7 @@ fn number_of(token: Token<'_>) -> Option<Number> {
 }
 
 impl<'s> Seen<'s> {
-    /// What is seen after one more token.
+    /// What has been seen after one more token.
     fn then(self, token: Token<'s>) -> Seen<'s> {
         match token.kind {
             Kind::Cell => Seen {
@@ -75,7 +75,7 @@ impl<'s> Seen<'s> {
         }
     }
 
-    /// The name with its index, if this token closes it.
+    /// The name with its index, if this token closes the index.
     fn closed_by(self, token: Token<'_>) -> Option<Index<'s>> {
         if token.kind != Kind::RBracket {
             return None;
@@ -88,7 +88,7 @@ impl<'s> Seen<'s> {
     }
 }
 
-/// How many cells the array of this name has; `None` if the name is not an array's.
+/// How many cells the array with this name has; `None` if there is no such array.
 fn length_of(source: &[u8], name: &[u8]) -> Option<u64> {
     let mut lexer = Lexer::new(source);
     let mut seen = NOTHING;

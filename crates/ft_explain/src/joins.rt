@@ -1,4 +1,4 @@
-//! Exports and imports of a link map that do not match: likely fixes.
+//! Suggests fixes for exports and imports of a link map that do not match.
 ghost use Rattle.ft_types.specs.Spellable.{IsSpellable};
 
 use crate::links::{file_of, modules_before};
@@ -18,14 +18,14 @@ struct Asked<'m> {
     block: u32,
 }
 
-/// What the rest of a line, after its first word, asks for.
+/// The export or import that the rest of a line, after its first word, asks for.
 fn asked_of(rest: &str) -> Option<Asked<'_>> {
     let (name, block) = rest.split_once(' ')?;
     let block = u32::try_from(read_number(block.as_bytes())?).ok()?;
     Some(Asked { name, block })
 }
 
-/// What a line asks for.
+/// The export or import that a line asks for.
 fn asked_by(line: &str) -> Option<Asked<'_>> {
     let (_, rest) = line.split_once(' ')?;
     asked_of(rest)
@@ -43,7 +43,7 @@ fn line_at(map: &str, wanted: u64) -> Option<&str> {
     None
 }
 
-/// What the line with this number, counted from 1, asks for.
+/// The export or import that the line with this number, counted from 1, asks for.
 fn asked_in(map: &str, wanted: u64) -> Option<Asked<'_>> {
     asked_by(line_at(map, wanted)?)
 }
@@ -117,7 +117,7 @@ fn say_stubs<P: Program>(page: &mut Page, program: &P, file: &str) -> Result<(),
     page.say(if listed == 0 { " none\n" } else { "\n" })
 }
 
-/// Says how many blocks a module has.
+/// Says which numbers the blocks of a module have.
 fn say_blocks<P: Program>(page: &mut Page, program: &P, file: &str) -> Result<(), NoMemory>
     requires { IsSpellable (P.object program.now) }
 {
@@ -127,7 +127,7 @@ fn say_blocks<P: Program>(page: &mut Page, program: &P, file: &str) -> Result<()
     page.say(format_args!(": 0 to {last}\n"))
 }
 
-/// Says the names that are exported.
+/// Lists the exported names.
 fn say_exports(page: &mut Page, map: &str) -> Result<(), NoMemory> {
     page.say("  exported names:")?;
     let mut listed: usize = 0;
@@ -144,7 +144,7 @@ fn say_exports(page: &mut Page, map: &str) -> Result<(), NoMemory> {
     page.say(if listed == 0 { " none\n" } else { "\n" })
 }
 
-/// The code type of block `b`.
+/// The code type of block `b`, if both exist.
 #[tactic(auto, using(ft_types::proofs::Counted::spellable_counted))]
 fn type_of<P: Program>(program: &P, b: u32) -> Option<TypeHead>
     requires { IsSpellable (P.object program.now) }
@@ -235,7 +235,7 @@ fn type_in(object: &[u8], b: u32) -> Option<TypeHead> {
     }
 }
 
-/// Adds, from the module, why the block of a line is unsuitable.
+/// Explains, from the module's object, why the block that a line names is unsuitable.
 fn say_of_module<S: Shelf>(
     page: &mut Page,
     number: u64,
@@ -259,7 +259,7 @@ fn say_of_module<S: Shelf>(
     }
 }
 
-/// The first line above this one, and below the same `module`, that names this block.
+/// The first earlier line of the same module that names this block.
 fn line_of_block(map: &str, line: u64, block: u32) -> Option<u64> {
     let mut found = None;
     let mut number: u64 = 1;

@@ -35,7 +35,7 @@ impl Known {
         self.regs[reg.number() as usize] = known;
     }
 
-    /// Sets what the register rows of code type `t` say.
+    /// Records what the register rows of code type `t` say.
     fn put_rows<P: Program>(&mut self, program: &P, t: u32, count: u32)
         requires there { t < length (P.object program.now).types }
         requires count { count ≡ length (reg_rows (P.object program.now) t) }
@@ -52,7 +52,7 @@ impl Known {
         }
     }
 
-    /// Sets a register to the colour of another one and to a basic type.
+    /// Gives a register the colour of another one and this basic type.
     fn derive(&mut self, rd: Reg, rs: Reg, basic: Option<Basic>) {
         let known = match (self.reg(rs), basic) {
             (Some(known), Some(basic)) => Some(RegKnown {

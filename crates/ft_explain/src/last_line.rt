@@ -7,8 +7,8 @@ ghost use Rattle.ft_edge.specs.Told.{append_told};
 use ft_edge::{Failed, Sink};
 use ft_text::{Line, ROOM};
 
-/// A sink that hands each piece on to another, and remembers the last one if it has at most `ROOM` bytes, as
-/// the line of a refusal has. A put takes no memory.
+/// A sink that passes each piece on to another sink and remembers the last piece if it has at most `ROOM` bytes, as the
+/// line of a refusal has. A put allocates no memory.
 #[derive(Drop)]
 pub struct LastLine<K: Sink> {
     sink: K,
@@ -16,7 +16,7 @@ pub struct LastLine<K: Sink> {
 }
 
 impl<K: Sink + Drop> LastLine<K> {
-    /// A sink over this one, before any put.
+    /// Wraps a sink. Nothing has been written to it yet.
     pub fn new(sink: K) -> LastLine<K>
         ensures { result.sink ≡ sink }
     {
@@ -26,7 +26,7 @@ impl<K: Sink + Drop> LastLine<K> {
         }
     }
 
-    /// The sink, and the last piece written; empty if that was longer than `ROOM`.
+    /// The wrapped sink, and the last piece written; empty if that was longer than `ROOM`.
     pub fn into_parts(self) -> (K, Line)
         ensures { result.0 ≡ self.sink }
     {

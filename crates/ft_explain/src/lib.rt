@@ -1,9 +1,9 @@
-//! Explains, for people, why a call was refused or did not succeed.
+//! Explains to people why a call was refused or did not succeed.
 //!
-//! `explain` returns what the program writes to standard error: after a refused call the place in the file,
-//! the line there and what is wrong with it; after a run that was detected or cut, why; and help.
-//! The crate promises nothing about texts. Each call is safe and ends, and `LastLine`, which captures the
-//! refusal, behaves like the sink that it wraps. The tests show the words of each refusal.
+//! `explain` returns what the program writes to standard error: for a refused call, the place in the file, the
+//! line there and what is wrong with it; for a run that was detected or cut, the reason; and help.
+//! The crate promises nothing about the wording. Each call is safe and terminates, and `LastLine`, which captures
+//! the refusal, behaves like the sink that it wraps. The tests show the message for each refusal.
 #![tactic(auto)]
 
 mod cells;

@@ -1,4 +1,4 @@
-//! Explains links that are refused.
+//! Explains why links are refused.
 ghost use Rattle.ft_types.specs.Spellable.{IsSpellable};
 
 use crate::checks::{find, say_instr};
@@ -13,7 +13,7 @@ use ft_types::Program;
 /// The maximum number of modules in a link map.
 pub(crate) const MODULE_LIMIT: u64 = 64;
 
-/// The largest number of a block.
+/// The largest block number.
 const LAST_BLOCK: u64 = 4_294_967_295;
 
 /// The file of the module with this number, counted from 0, as a map names it.
@@ -52,7 +52,7 @@ pub(crate) fn modules_before(map: &[u8], wanted: u64) -> u64 {
     modules
 }
 
-/// The first words of the lines of a map.
+/// The words that the lines of a map begin with.
 const WORDS: &[&str] = &["module", "export", "import"];
 
 /// Says that a line begins with none of the three words.
@@ -85,7 +85,7 @@ fn say_asked(page: &mut Page, word: &str, rest: &str) -> Result<(), NoMemory> {
     ))
 }
 
-/// A word of a line that begins with `export` or `import`, where nothing but a name and a number follow.
+/// A superfluous word of a line that begins with `export` or `import`, which only a name and a number may follow.
 #[derive(Clone, Copy)]
 struct Extra<'m> {
     /// The first word of the line.
@@ -96,7 +96,7 @@ struct Extra<'m> {
     text: &'m str,
 }
 
-/// The word between the name and the number of a block, or the first one after them.
+/// The superfluous word: the one between the name and the block's number, or the first one after them.
 fn extra_of(line: &str) -> Option<Extra<'_>> {
     let (first, rest) = line.split_once(' ')?;
     let (_, block) = rest.split_once(' ')?;
@@ -114,7 +114,7 @@ fn extra_of(line: &str) -> Option<Extra<'_>> {
     }
 }
 
-/// Explains which word of a line is one too many.
+/// Says which word of a line is superfluous.
 fn explain_extra(
     page: &mut Page,
     name: &str,
@@ -129,7 +129,7 @@ fn explain_extra(
     place.show(page, extra.text.len())
 }
 
-/// Says what is wrong with a line that is out of place after this many modules.
+/// Says what is wrong with a line that is not allowed after this many modules.
 fn say_misplaced(page: &mut Page, line: &str, modules: u64) -> Result<(), NoMemory> {
     let (first, rest) = match line.split_once(' ') {
         Some(parts) => parts,
@@ -188,7 +188,7 @@ fn code_words(instr: Instr) -> &'static str {
     }
 }
 
-/// Explains a line of a link map that is out of place.
+/// Explains why a line of a link map is not allowed where it is.
 fn explain_misplaced(
     page: &mut Page,
     name: &str,
@@ -240,7 +240,7 @@ pub(crate) fn explain_line(
     place.show(page, place.line().len())
 }
 
-/// Begins a message about a module: names its file, or the map if that cannot be read again.
+/// Begins a message about a module with the name of its file, or with the map's name if the file's is not known.
 fn module_head(
     page: &mut Page,
     name: &str,
@@ -269,7 +269,7 @@ pub(crate) fn explain_module(
     page.say("\n")
 }
 
-/// Explains why the linker cannot move an instruction, without the object.
+/// Explains why the linker cannot move an instruction if the object cannot be read again.
 pub(crate) fn explain_unmoved(
     page: &mut Page,
     name: &str,
@@ -308,7 +308,7 @@ pub(crate) fn explain_code<P: Program>(
     say_instr(page, program, i)
 }
 
-/// Explains why a link map is refused for its length.
+/// Explains that a link map is too long.
 pub(crate) fn explain_long_map(page: &mut Page, name: &str, most: u64) -> Result<(), NoMemory> {
     page.head(name)?;
     page.say(format_args!("the link map is too long: at most {most} bytes are allowed\n"))

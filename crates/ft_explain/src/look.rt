@@ -41,12 +41,12 @@ pub trait Look {
     /// What a name refers to.
     fn look(&self, name: &str) -> Found;
 
-    /// Whether standard output is the file of this name.
+    /// Whether standard output is the file with this name.
     fn is_output(&self, name: &str) -> bool;
 
     /// What standard input is.
     fn input(&self) -> Found;
 
-    /// The name under which standard input can be read once more, from its beginning; `None` if it cannot.
+    /// The name under which standard input can be read again from its beginning; `None` if it cannot.
     fn script(&self) -> Option<&'static str>;
 }

@@ -1,4 +1,4 @@
-//! The modules of links that are refused.
+//! Finds the modules because of which a link is refused, and explains why.
 ghost use Rattle.std.specs.Prelude.{◌≡◌, ◌<◌};
 ghost use Rattle.ft_types.specs.Spellable.{IsSpellable};
 
@@ -14,7 +14,7 @@ use std::alloc::Global;
 use std::marker::Brand;
 use std::sync::ledger::{Blank, Ledger};
 
-/// Whether an object is accepted, over a ledger of steps.
+/// Whether an object is accepted. The checker's steps are counted in a ledger.
 fn is_accepted_over<P: Program, L: Ledger>(
     alloc: Global,
     program: &P,
@@ -40,7 +40,7 @@ fn is_accepted<P: Program>(alloc: Global, program: &P) -> Result<bool, NoMemory>
     is_accepted_over::<P, Brand>(alloc, program, Blank::new(1))
 }
 
-/// Explains why a module is not an object; returns false if it is one, or cannot be read.
+/// If a module is not an object, explains why; returns false if it is one, or cannot be read.
 fn explain_if_object_is_bad<S: Shelf>(
     page: &mut Page,
     file: &str,
@@ -58,7 +58,7 @@ fn explain_if_object_is_bad<S: Shelf>(
     Ok(true)
 }
 
-/// Explains what is wrong with the first module of a link map that is not an object.
+/// Finds the first module of a link map that is not an object, and explains why.
 pub(crate) fn explain_bad_object<S: Shelf>(
     page: &mut Page,
     name: &str,
@@ -80,7 +80,7 @@ pub(crate) fn explain_bad_object<S: Shelf>(
     page.say(format_args!(", at byte {at}\n"))
 }
 
-/// Explains why a module is not accepted; returns false if it is accepted, or cannot be read.
+/// If a module is not accepted, explains why; returns false if it is accepted, or cannot be read.
 fn explain_if_unaccepted<S: Shelf>(
     page: &mut Page,
     file: &str,
@@ -100,7 +100,7 @@ fn explain_if_unaccepted<S: Shelf>(
     Ok(true)
 }
 
-/// Explains why the first module of a link map that is not accepted is refused.
+/// Finds the first module of a link map that is not accepted, and explains why.
 pub(crate) fn explain_unaccepted<S: Shelf>(
     page: &mut Page,
     name: &str,

@@ -14,7 +14,7 @@ pub(crate) enum Holds {
     Map,
 }
 
-/// What words name: a file, a fault list, and whether a script is read.
+/// The files that a command names, and whether it reads a script.
 #[derive(Clone, Copy)]
 pub(crate) struct Named<'w> {
     pub file: &'w str,
@@ -23,7 +23,7 @@ pub(crate) struct Named<'w> {
     pub takes_script: bool,
 }
 
-/// A file of this kind, and nothing else to read.
+/// A file of this kind, with nothing else to read.
 fn alone<'w>(file: &'w str, holds: Holds) -> Named<'w> {
     Named {
         file,
@@ -33,7 +33,7 @@ fn alone<'w>(file: &'w str, holds: Holds) -> Named<'w> {
     }
 }
 
-/// What a command names.
+/// The files that a command names; `None` if it names none.
 pub(crate) fn files_of<'w>(command: &Command<'w>) -> Option<Named<'w>> {
     let named = match command {
         Command::Usage | Command::Demo(_) => return None,

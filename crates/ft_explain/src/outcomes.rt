@@ -1,4 +1,4 @@
-//! What happened in runs that did not simply succeed.
+//! Explains what happened in runs that did not simply succeed.
 ghost use Rattle.ft_types.specs.Spellable.{IsSpellable};
 
 use crate::detections::say_detection;
@@ -22,13 +22,13 @@ fn begin(page: &mut Page, name: &str) -> Result<(), NoMemory> {
     page.say(": ")
 }
 
-/// Says that a run or a meaning was cut.
+/// Says that a call was stopped at its limit of steps or turns.
 fn say_cut(page: &mut Page, name: &str, count: u64, what: &str) -> Result<(), NoMemory> {
     begin(page, name)?;
     page.say(format_args!("still running after {count} {what}: raise `--{what}`\n"))
 }
 
-/// Says that the run or the meaning of a source was cut, and which loop never ends.
+/// Says that a source was stopped at its limit of steps or turns, and which loop never ends.
 fn say_cut_source<S: Shelf>(
     page: &mut Page,
     name: &str,
@@ -149,7 +149,7 @@ fn say_again<S: Shelf>(
     }
 }
 
-/// Explains a run of an object if something notable can have happened.
+/// Explains a run of an object if something notable may have happened in it.
 fn explain_run<S: Shelf>(
     page: &mut Page,
     run: &Run,

@@ -1,7 +1,7 @@
 //! The premises of typing rules, in words.
 use ft_isa::{Colour, Instr};
 
-/// The colour of the registers that an instruction reads, if its own name has one.
+/// The colour that the registers an instruction reads must have, if the instruction's name includes it.
 fn colour_of(instr: Instr) -> Option<Colour> {
     match instr {
         Instr::Ld { colour, .. } | Instr::St { colour, .. } => Some(colour),
@@ -28,7 +28,7 @@ fn basic_types(instr: Instr) -> &'static str {
     }
 }
 
-/// What is wrong with d.
+/// What is wrong with the register d.
 fn states(instr: Instr) -> &'static str {
     match instr {
         Instr::JmpB { .. } => "no `jmp_G` waits for it",
@@ -54,7 +54,7 @@ fn queues(instr: Instr) -> &'static str {
     }
 }
 
-/// What is wrong if the premise with this number fails.
+/// What is wrong if the premise with this number does not hold.
 pub(crate) fn premise(number: u64, instr: Instr) -> &'static str {
     match number {
         1 => "a register that it reads has no type",

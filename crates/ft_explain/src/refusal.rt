@@ -1,4 +1,4 @@
-//! Refusals, read from their lines.
+//! Parses refusals from their lines.
 use ft_isa::read_number;
 
 /// A refusal, as its line states it.
@@ -6,38 +6,38 @@ use ft_isa::read_number;
 pub(crate) enum Refusal {
     /// The words are not a command.
     Usage,
-    /// A source is refused, with the number of the refusal and its place or the like.
+    /// A source is refused: the number of the refusal, and a place, a count or a limit.
     Source(u64, u64),
-    /// An object's bytes, or the tables that an assembly text means, break this rule at this place.
+    /// The bytes of an object, or of the tables that an assembly text describes, break this rule at this place.
     Object(u64, u64),
-    /// The entry block's code type does not fit.
+    /// The code type of the entry block does not allow a run to begin there.
     Entry,
     /// A cell's initial word does not have the cell's type.
     Cell(u64),
     /// The rule of an instruction does not apply: its block, its index in the block and the premise.
     Instr(u64, u64, u64),
-    /// A fault list, a campaign or a script is refused, with the number of the refusal and its line or the like.
+    /// A fault list, a campaign or a script is refused: the number of the refusal, and a line, a product or a limit.
     List(u64, u64),
-    /// An assembly text is refused, with the number of the refusal and its line or the like.
+    /// An assembly text is refused: the number of the refusal, and a line or a limit.
     Text(u64, u64),
-    /// A link map or a module is refused, with a number and a line of the map, a module or a limit.
+    /// A link map or a module is refused: the number of the refusal, and a line of the map, a module or a limit.
     Link(u64, u64),
     /// The linker cannot move an instruction: its module, its block and its index in the block.
     Code(u64, u64, u64),
 }
 
-/// A number.
+/// Parses a number.
 fn number(text: &str) -> Option<u64> {
     read_number(text.as_bytes())
 }
 
-/// Two numbers.
+/// Parses two numbers.
 fn two(text: &str) -> Option<(u64, u64)> {
     let (first, second) = text.split_once(' ')?;
     Some((number(first)?, number(second)?))
 }
 
-/// A refusal of the checker, after `check`.
+/// Parses a refusal of the checker from the words after `check`.
 fn check_of(text: &str) -> Option<Refusal> {
     if text == "entry" {
         return Some(Refusal::Entry);
@@ -51,7 +51,7 @@ fn check_of(text: &str) -> Option<Refusal> {
     Some(Refusal::Instr(number(block)?, number(index)?, number(premise)?))
 }
 
-/// A refusal of the linker, after `link`.
+/// Parses a refusal of the linker from the words after `link`.
 fn link_of(text: &str) -> Option<Refusal> {
     if let Some(place) = text.strip_prefix("5 ") {
         let (module, rest) = place.split_once(' ')?;

@@ -6,7 +6,7 @@ use ft_isa::{Plan, Strike};
 use ft_machine::{Machine, Status, WildLeft};
 use ft_types::Program;
 
-/// Takes at most `most` steps of a machine, and returns how many; none if it has stopped.
+/// Takes at most `most` steps of a machine, and returns how many it took; 0 if the machine has stopped.
 fn advance<P: Program>(machine: &mut Machine, program: &P, wild: &mut WildLeft, most: u64) -> u64
     requires { IsSpellable (P.object program.now) }
     ensures few { result ≤ most }
@@ -17,7 +17,7 @@ fn advance<P: Program>(machine: &mut Machine, program: &P, wild: &mut WildLeft, 
     }
 }
 
-/// Takes `most` steps of a machine, or fewer if it stops, and returns how many.
+/// Takes `most` steps of a machine, or fewer if it stops, and returns how many it took.
 pub(crate) fn go<P: Program>(
     machine: &mut Machine,
     program: &P,
@@ -40,15 +40,15 @@ pub(crate) fn go<P: Program>(
 /// How a repeated run went.
 #[derive(Clone, Copy)]
 pub(crate) struct Met {
-    /// How many steps it took, up to its stop.
+    /// How many steps were taken.
     pub taken: u64,
-    /// Whether the strike found its site; `None` if the run did not reach its step.
+    /// Whether the strike found its site; `None` if no strike came before the last step.
     pub struck: Option<bool>,
-    /// The state of the machine when the strike came.
+    /// The status of the machine when the strike came.
     pub stood: Status,
 }
 
-/// Strikes a machine after this many of its steps, and continues.
+/// Runs a machine to the step of the strike, strikes it, and continues.
 fn strike<P: Program>(
     machine: &mut Machine,
     program: &P,

@@ -1,4 +1,4 @@
-//! Explains calls.
+//! Explains a call from its words, its status and the last line that it wrote.
 use crate::cells::explain_cells;
 use crate::checks::explain_check;
 use crate::emptied::{Wrote, explain_emptied, explain_emptied_module};
@@ -32,7 +32,7 @@ const LIST_LIMIT: usize = 4_194_304;
 /// The maximum size of a link map in bytes.
 const MAP_LIMIT: usize = 65_536;
 
-/// Explains why an object, the tables of an assembly text, or a module are refused.
+/// Explains why an object, the tables of an assembly text, or a module of a link map is refused.
 fn refused_object<S: Shelf>(
     page: &mut Page,
     named: Named<'_>,
@@ -59,13 +59,13 @@ fn refused_object<S: Shelf>(
     }
 }
 
-/// Says that an object is not accepted, without its bytes.
+/// Says only that an object is not accepted: its bytes cannot be read again, or now spell no object.
 fn say_refused(page: &mut Page, name: &str) -> Result<(), NoMemory> {
     page.head(name)?;
     page.say("the object is not accepted\n")
 }
 
-/// Explains why the object of a file is not accepted.
+/// Explains why the object in a file is not accepted.
 fn refused_check<S: Shelf>(
     page: &mut Page,
     named: Named<'_>,
@@ -167,7 +167,8 @@ fn refused_link<S: Shelf>(
     refused_map(page, named, (number, told), slice(&map), shelf)
 }
 
-/// Explains why the linker cannot move an instruction of a module, whose bytes are given if they can be read again.
+/// Explains why the linker cannot move an instruction of a module. The module's bytes are given if they can be read
+/// again.
 fn refused_bytes(
     page: &mut Page,
     named: Named<'_>,
@@ -351,10 +352,10 @@ fn by_outcome<S: Shelf, L: Look>(
     outcome_of(page, &command, told, shelf, look)
 }
 
-/// The explanation of a call with these words, given its status and the last line written. It is empty for a call
-/// that succeeded and was not cut. The shelf reads files again: an explanation describes the bytes a file has now.
-/// `look` says what the name of a file that could not be read refers to. Each line of the text ends with a line
-/// feed.
+/// The explanation of a call with these words, given its status and the last line written. It is empty for a call that
+/// succeeded, unless something notable happened. The shelf reads files again, so an explanation describes the bytes
+/// that a file has now. `look` says what the name of a file that could not be read refers to. Each line of the text
+/// ends with a line feed.
 pub fn explain<S: Shelf, L: Look>(
     alloc: Global,
     words: &[String],

@@ -1,10 +1,10 @@
-//! Explains files that could not be read.
+//! Explains why files could not be read.
 use crate::look::{Found, Look};
 use ft_edge::{LoadFault, Shelf};
 use ft_isa::NoMemory;
 use ft_mistakes::{Page, Place, is_fault};
 
-/// The maximum number of bytes examined of a file.
+/// The maximum number of bytes of a file that are examined.
 const LIMIT: usize = 134_217_728;
 
 /// Whether a file can be read.
@@ -34,7 +34,7 @@ fn first_unread<'m, S: Shelf>(
     None
 }
 
-/// The first part of a path that is not a folder, and what it is.
+/// The shortest prefix of a path, up to a `/`, that is not a folder, and what it is.
 fn wrong_folder<'n, L: Look>(name: &'n str, look: &L) -> Option<(&'n str, Found)> {
     let mut wrong = None;
     for (at, byte) in name.as_bytes().iter().enumerate() {
@@ -60,7 +60,7 @@ fn say_folder(page: &mut Page, before: &str, folder: &str, after: &str) -> Resul
     page.say(after)
 }
 
-/// What to do about a name that is none, after a semicolon; empty if it looks like one.
+/// Advice on a name that looks wrong, beginning with a semicolon; empty if the name looks right.
 fn advice_on(name: &str) -> &'static str {
     if name == "-" {
         "; for standard input write `/dev/stdin`"
@@ -144,7 +144,7 @@ fn say_if_list_unread<S: Shelf, L: Look>(
     say_if_unread(page, name, shelf, look)
 }
 
-/// Explains that a file could not be read: names each of the two that cannot be read now. If both can be read, it
+/// Explains that a file could not be read: names whichever of the two files cannot be read now. If both can be read, it
 /// was the script, or the file has reappeared.
 pub(crate) fn explain_unread<S: Shelf, L: Look>(
     page: &mut Page,

@@ -2,7 +2,7 @@
 use crate::calls::{check_said, check_told};
 use std::test::Fail;
 
-/// Texts, each with what is said of it.
+/// Texts, each with its explanation.
 const TEXTS: &[(&str, &str)] = &[
     (
         "cel out int 0\nentry 0\n",
@@ -131,7 +131,7 @@ const TEXTS: &[(&str, &str)] = &[
     ),
 ];
 
-/// Texts whose tables break a rule, each with what is said of it.
+/// Texts whose tables break a rule, each with its explanation.
 const TABLES: &[(&str, &str)] = &[
     (
         "cell out int 0\nnode 5 memory\ntype 0 0\nblock 0\nhalt\nentry 0\n",

@@ -51,7 +51,7 @@ fn shelf_of(rt: &impl AllocGlobal, files: &[File]) -> Result<MemShelf, Fail> {
     Ok(shelf)
 }
 
-/// Fails unless what was found is the text.
+/// Fails unless the text found is the expected one.
 fn compare(words: &str, text: &str, found: &str) -> Result<(), Fail> {
     if found == text {
         return Ok(());
@@ -111,10 +111,10 @@ pub(crate) fn check_told(
     compare(words, text, found.as_str())
 }
 
-/// An object, places with the bytes that are put there, and what is said.
+/// An object, places with the bytes written there, and the explanation.
 pub(crate) type Refused = (&'static [u8], &'static [(usize, u8)], &'static str);
 
-/// Fails unless each object is refused with its text.
+/// Fails unless each object is refused with its explanation.
 pub(crate) fn check_refused(rt: &impl AllocGlobal, rows: &[Refused]) -> Result<(), Fail> {
     for (object, changes, text) in rows {
         check_altered(rt, object, changes, text)?;

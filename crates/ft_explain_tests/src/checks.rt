@@ -1,9 +1,9 @@
-//! Explanations of objects that are not accepted for their words: cells, colours, types and stores.
+//! Explanations of objects refused because of their words: cells, colours, types and stores.
 use crate::calls::{Refused, check_refused};
 use ft_worked_objects::{A, A2, I, N, P1, P3, P4, P8, P9, X2};
 use std::test::Fail;
 
-/// An object whose cell is refused, and objects by the premise that fails.
+/// An object whose cell is refused, and an object for each premise that fails.
 const REFUSED: &[Refused] = &[
     (
         A,

@@ -1,8 +1,8 @@
-//! Tests of explanations: one row for each number of each refusal, over files in memory.
+//! Tests of explanations: a row for each number of each refusal, over files in memory.
 //!
-//! The crate has only tests. A row has words, the bytes of their files and the whole text. The refusal
-//! comes from the tool itself, through a sink that remembers its line. The texts were written by hand from
-//! the rules of each refusal.
+//! The crate has only tests. A row has words, the bytes of their files and the whole text. The refusal comes from the
+//! tool itself, through a sink that remembers its last line. The texts were written by hand from the rules of each
+//! refusal.
 #![tactic(auto)]
 
 #[cfg(test)]

@@ -166,7 +166,7 @@ fn modules_are_found_and_what_could_be_meant(rt: HostRuntime) -> Result<(), Fail
     check_told(&rt, "link map", 7, "object 2 5\n", files, text)
 }
 
-/// Statuses and lines that come from a module's object, with what is said of the map.
+/// Statuses and lines caused by a module's object, with the explanation of the map.
 const MODULES: &[(u8, &str, &str)] = &[
     (
         7,

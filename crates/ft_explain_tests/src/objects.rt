@@ -3,7 +3,7 @@ use crate::calls::{check_altered, check_said, check_told};
 use ft_worked_objects::A;
 use std::test::Fail;
 
-/// A byte of `A` that is altered: the place, the byte that is put there, and what is said.
+/// Alterations of `A`: the place, the new byte, and the explanation.
 const ALTERED: &[(usize, u8, &str)] = &[
     (
         0,

@@ -3,7 +3,7 @@ use crate::calls::check_said;
 use ft_worked_objects::A;
 use std::test::Fail;
 
-/// Words over the worked object, each with what is said.
+/// Words for calls on the worked object, each with the explanation.
 const WORDS: &[(&str, &str)] = &[
     ("run file", ""),
     ("run file --fault 4:r1:5", ""),

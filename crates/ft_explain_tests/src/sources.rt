@@ -3,7 +3,7 @@ use crate::calls::check_said;
 use ft_tests::{declared, repeated};
 use std::test::Fail;
 
-/// Sources, each with what is said of it.
+/// Sources, each with its explanation.
 const SOURCES: &[(&str, &str)] = &[
     (
         "x = 1 % 2;",
@@ -115,7 +115,7 @@ const SOURCES: &[(&str, &str)] = &[
     ),
 ];
 
-/// Sources with habits from other languages, each with what is said of it.
+/// Sources with habits from other languages, each with its explanation.
 const HABITS: &[(&str, &str)] = &[
     (
         "cell a[4];",
@@ -187,7 +187,7 @@ const HABITS: &[(&str, &str)] = &[
     ),
 ];
 
-/// Sources of a text and a number of copies of another, each with its explanation.
+/// Sources made of a text and a number of copies of another, each with its explanation.
 const REPEATED: &[(&str, &str, u32, &str)] = &[
     (
         "",

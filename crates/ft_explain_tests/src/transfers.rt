@@ -1,9 +1,9 @@
-//! Explanations of objects that are not accepted for what follows what: the entry block, jumps, branches and ends.
+//! Explanations of objects refused because of their control flow: the entry block, jumps, branches and ends.
 use crate::calls::{Refused, check_refused};
 use ft_worked_objects::{A, J, P5, P6, P11, P12, P13, P14, P15, P16, P17};
 use std::test::Fail;
 
-/// An object whose entry block is refused, and objects by the premise that fails.
+/// An object whose entry block is refused, and an object for each premise that fails.
 const REFUSED: &[Refused] = &[
     (
         A,

@@ -2,7 +2,7 @@
 use crate::calls::check_said;
 use std::test::Fail;
 
-/// Words, each with what is said of them.
+/// Words, with their explanation.
 const WORDS: &[(&str, &str)] = &[
     (
         "check",

@@ -1,4 +1,4 @@
--- Cells and their records and names, both ways.
+-- Converting cells to records and names, and back.
 use Rattle.std.proofs.Common.{◌≡◌, ℕ, zero, suc, ◌+◌, ◌-◌, ◌<◌, ◌≤◌, Bool, true, false, List, [], ◌∷◌, ◌++◌, length}
 use Rattle.std.proofs.Common.{take, drop, map, get_or, None, refl, sym, ap, ◌∙◌, subst, append_assoc, arith}
 use Rattle.std.specs.Prelude.{◌≢◌, not, nat_le, nat_lt}
@@ -28,19 +28,19 @@ use Rattle.ft_format.proofs.Codes.{le_held, lt_held, eq_held, le_true, lt_true, 
 use Rattle.ft_format.proofs.Codes.{basic_back, base_small, type_small}
 use Rattle.ft_format.proofs.Versions.{letter_follows, are_bytes_of_name}
 
--- the rules of a cell, except for the bytes of its name
+-- the rules for a cell, except those for the bytes of its name
 pub record IsCellBut (v : Version) (types : ℕ) (c : Cell) : Type 0 where
   pub some : 0 < length c.name
   pub name_length : length c.name ≤ longest_name v
   pub basic : IsBasic types c.basic
   pub init : IsWord c.init
 
--- five numbers, one by one
+-- two lists of five numbers are equal if their numbers are, one by one
 same_five : {a b c d e a' b' c' d' e' : ℕ} → a ≡ a' → b ≡ b' → c ≡ c' → d ≡ d' → e ≡ e' →
     ◌≡◌ {A = List ℕ} (a ∷ b ∷ c ∷ d ∷ e ∷ []) (a' ∷ b' ∷ c' ∷ d' ∷ e' ∷ [])
 same_five p q r s t = rw (p, q, r, s, t) refl
 
--- what a cell's record stands for, if it breaks no rule
+-- what holds of a valid cell record and of the cell that it encodes
 pub record CellAgain (h : Header) (names : List ℕ) (start : ℕ) (row : List ℕ) : Type 0 where
   pub written : cell_row (past_of row) (cell_of names start row) ≡ row
   pub cell : IsCellBut (version_of h) h.types (cell_of names start row)
@@ -82,7 +82,7 @@ cell_again h names start at (a ∷ b ∷ c ∷ []) all fit n = absurd fit.1.1.1
 cell_again h names start at (a ∷ b ∷ c ∷ d ∷ []) all fit n = absurd fit.1.1.1.1
 cell_again h names start at (a ∷ b ∷ c ∷ d ∷ e ∷ z ∷ zs) all fit n = absurd fit.1.1.1.1.1
 
--- what records of cells stand for, if they break no rule
+-- what holds of valid cell records and of the cells that they encode
 pub record CellsAgain (h : Header) (names : List ℕ) (start : ℕ) (rs : List (List ℕ)) : Type 0 where
   pub written : cell_rows start (cells_of names start rs) ≡ rs
   pub cells : AllByRecursion (IsCellBut (version_of h) h.types) (cells_of names start rs)
@@ -107,7 +107,7 @@ cells_again h names start at (r ∷ rs) all fit n =
           ∙ sym (append_assoc c.name (flat_map name_of cs) after.left);
     }
 
--- what is written of cells breaks no rule, and stands for them
+-- the records of cells are valid, and decode to these cells
 pub record CellsFine (h : Header) (names : List ℕ) (start at : ℕ) (cs : List Cell) : Type 0 where
   pub unbroken : cells_broken h start at (cell_rows start cs) ≡ None
   pub back : cells_of names start (cell_rows start cs) ≡ cs
@@ -154,12 +154,12 @@ cells_fine h names start at (c ∷ cs) m k all le i e =
       );
     }
 
--- a cell has a name that a version allows
+-- the cell has a well-formed name that the version allows
 pub record IsNamed (v : Version) (c : Cell) : Type 0 where
   pub name : is_name c.name ≡ true
   pub bytes : list_all (may_follow v) c.name ≡ true
 
--- the bytes of a name
+-- checking the bytes of a name
 rest_again : (v : Version) (at : ℕ) (bs : List ℕ) → name_rest_broken v at bs ≡ None → list_all (may_follow v) bs ≡ true
 unfolding name_rest_broken
 rest_again v at [] n = refl
@@ -213,7 +213,7 @@ has_none name (c ∷ cs) h =
     h 0 [] (omega arith) (sym e)) in
     rw (here, has_none name cs (λ k d lt. h (suc k) d (omega arith))) refl
 
--- what names that break no rule are
+-- what holds of names that break no rule
 pub record NamesAgain (v : Version) (end : ℕ) (earlier : List Cell) (at : ℕ) (cs : List Cell) : Type 0 where
   pub named : AllByRecursion (IsNamed v) cs
   pub apart : AllPairs (λ x y. x ≢ y) (map name_of (earlier ++ cs))
@@ -247,7 +247,7 @@ names_again v types end earlier at (c ∷ cs) i apart n =
       ends = omega (arith, after.ends, length-append c.name (flat_map name_of cs));
     }
 
--- names that are names and differ break no rule
+-- distinct, well-formed names break no rule
 pub names_fine : (v : Version) (end : ℕ) (earlier : List Cell) (at : ℕ) (cs : List Cell) →
     AllByRecursion (IsNamed v) cs → AllPairs (λ x y. x ≢ y) (map name_of (earlier ++ cs)) →
     at + length (flat_map name_of cs) ≡ end

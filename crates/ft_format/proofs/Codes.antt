@@ -1,4 +1,4 @@
--- Fields of records: tests that hold, codes, registers, basic types and words, both ways.
+-- Converting fields of records: tests, codes, registers, basic types and words, in both directions.
 use Rattle.std.proofs.Common.{◌≡◌, ℕ, zero, suc, ◌+◌, ◌^◌, ◌<◌, ◌≤◌, Bool, true, false, None, Some, refl, sym, ap}
 use Rattle.std.proofs.Common.{arith}
 use Rattle.std.specs.Prelude.{◌==◌, nat_lt, nat_le}
@@ -30,7 +30,7 @@ use Rattle.ft_format.specs.Format.{SupportsOp}
 use Rattle.ft_format.proofs.Unbroken.{held, both}
 use Rattle.ft_format.proofs.Versions.{few_ops}
 
--- what a test that must hold says, and that it holds
+-- an unbroken rule gives its comparison, and a comparison makes its test true
 pub le_held : (n m : ℕ) (e : ObjectError) → must (nat_le n m) e ≡ None → n ≤ m
 le_held n m e h = grind (arith, nat_tests, held (nat_le n m) e h)
 
@@ -55,8 +55,7 @@ eq_true n m h = grind (arith, nat_tests)
 pub eq_false : (n m : ℕ) → (n ≡ m → ⊥) → (n == m) ≡ false
 eq_false n m h = grind (arith, nat_tests)
 
--- a number of so few, case by case
--- R, given this of each number up to n
+-- proof by cases on a number of at most n: `Given P n R` is R under the hypotheses P 0 to P n
 abbrev pub Given : (ℕ → Type 0) → ℕ → Type 0 → Type 0
 Given P zero R = P 0 → R
 Given P (suc n) R = P 0 → Given (λ k. P (suc k)) n R
@@ -78,7 +77,7 @@ up_to P zero = only P
 up_to P (suc n) = λ a. given_more (λ k. P (suc k)) n ((k : ℕ) → k ≤ n → P (suc k)) ((k : ℕ) → k ≤ suc n → P k)
     (first_or P n a) (up_to (λ k. P (suc k)) n)
 
--- P of each number up to n
+-- P holds of each number up to n
 abbrev pub Each : (ℕ → Type 0) → ℕ → Type 0
 Each P zero = P 0
 Each P (suc n) = P 0 × Each (λ k. P (suc k)) n
@@ -105,8 +104,7 @@ pub colour_small : (c : Colour) → colour_code c ≤ 1
 colour_small Green = omega arith
 colour_small Blue = omega arith
 
--- operations
--- what the code of an operation that breaks no rule stands for
+-- operations: what holds of a valid operation code
 pub record OpAgain (v : Version) (n : ℕ) : Type 0 where
   pub code : op_code (op_of n) ≡ n
   pub has : SupportsOp v (op_of n)
@@ -185,7 +183,7 @@ base_back (Code t) = refl
 pub basic_back : (b : Basic) → basic_type_of b.refs (base_code b.base) (base_type b.base) ≡ b
 basic_back b = ap (λ x. record { refs = b.refs; base = x }) (base_back b.base)
 
--- bounds of the parts of a basic type
+-- bounds on the parts of a basic type
 pub base_small : (b : Base) → base_code b ≤ 1
 base_small Int = omega arith
 base_small (Code t) = omega arith
@@ -194,7 +192,7 @@ pub type_small : (types : ℕ) (b : Base) → types ≤ 4096 → IsBase types b 
 type_small types Int m h = omega arith
 type_small types (Code t) m h = omega arith
 
--- what obeys the rules fits its fields
+-- a basic type that obeys the rules fits its fields
 base_fits : (types : ℕ) (b : Base) → types ≤ 4096 → IsBase types b → FitsBase b
 base_fits types Int m h = tt
 base_fits types (Code t) m h = omega arith
@@ -206,7 +204,7 @@ pub type_fits : (b : Base) → FitsBase b → base_type b < 2 ^ 16
 type_fits Int h = omega arith
 type_fits (Code t) h = h
 
--- words in two halves
+-- splitting a word into halves, and joining them
 pub high_back : (high low : ℕ) → low < 2 ^ 32 → high_half (joined high low) ≡ high
 high_back high low h = omega arith
 

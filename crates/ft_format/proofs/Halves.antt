@@ -1,11 +1,11 @@
--- Numbers of eight bytes, put by their halves.
+-- Eight-byte numbers are written as two halves.
 use Rattle.std.proofs.Common.{◌≡◌, ℕ, ◌+◌, ◌*◌, ◌<◌, ◌^◌, [], ◌∷◌, ◌++◌, refl, append_assoc, arith}
 use Rattle.std.proofs.lemmas.List.{append-nil}
 use Rattle.std.specs.Int.{w8, w32, w64, byte_at}
 use Rattle.ft_types.specs.NodeRows.{joined, row_words}
 use Rattle.ft_format.specs.Layout.{bytes_of, written, code_layout}
 
--- the bytes of a word are those of its upper half, and then those of its lower half
+-- the bytes of a word are those of its upper half followed by those of its lower half
 pub halves : (high low : ℕ) → low < 2 ^ 32 → bytes_of w64 (joined high low) ≡ bytes_of w32 high ++ bytes_of w32 low
 unfolding bytes_of
 halves high low fits =
@@ -19,7 +19,7 @@ halves high low fits =
     let e0 : byte_at 0 (joined high low) ≡ byte_at 0 low = omega arith in
     cc
 
--- four numbers of one byte are the bytes of the number that they make
+-- four one-byte numbers are the bytes of the number that they form
 front : (a b c d : ℕ) → a < 256 → b < 256 → c < 256 → d < 256 → bytes_of w32 (a * 2 ^ 24 + b * 2 ^ 16 + c * 2 ^ 8 + d)
     ≡ bytes_of w8 a ++ bytes_of w8 b ++ bytes_of w8 c ++ bytes_of w8 d
 unfolding bytes_of
@@ -31,7 +31,7 @@ front a b c d fa fb fc fd =
     let e0 : byte_at 0 f ≡ byte_at 0 d = omega arith in
     cc
 
--- the record of a node or an instruction is its two words
+-- the bytes of a node's or an instruction's record are those of its two words
 pub words_written : (k a b c x high low : ℕ) → k < 256 → a < 256 → b < 256 → c < 256 → x < 2 ^ 32 → low < 2 ^ 32 →
     bytes_of w64 (row_words (k ∷ a ∷ b ∷ c ∷ x ∷ high ∷ low ∷ [])).0
     ++ bytes_of w64 (row_words (k ∷ a ∷ b ∷ c ∷ x ∷ high ∷ low ∷ [])).1

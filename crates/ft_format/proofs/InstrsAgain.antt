@@ -1,4 +1,4 @@
--- Records that break no rule stand for instructions that obey the rules, and are written of them.
+-- A valid record encodes an instruction that obeys the rules, and is the record of that instruction.
 use Rattle.std.proofs.Common.{◌≡◌, ℕ, ◌+◌, ◌*◌, ◌/◌, ◌%◌, ◌^◌, ◌<◌, ◌≤◌, true, List, [], ◌∷◌, map, Option, None, Some}
 use Rattle.std.proofs.Common.{refl, sym, subst, arith}
 use Rattle.std.specs.Prelude.{◌==◌, nat_le}
@@ -26,21 +26,21 @@ use Rattle.ft_format.proofs.References.{AreNarrowNodes, number_again}
 use Rattle.ft_format.proofs.Versions.{instr_kinds, few_instr_kinds}
 use Rattle.ft_format.proofs.Nodes.{same_seven, length_again}
 
--- the parts of the number of a basic type
+-- joining the parts of a basic type's number gives the number back
 parts_joined : (x : ℕ) → x / 2 ^ 24 * 2 ^ 24 + x / 2 ^ 16 % 2 ^ 8 * 2 ^ 16 + x % 2 ^ 16 ≡ x
 parts_joined x = omega arith
 
--- what an instruction's substitution is, where earlier ones took the rows up to `first`
+-- an instruction's substitution obeys the rules, given that earlier ones took the rows up to `first`
 abbrev pub Carries : List Node → ℕ → ℕ → Option Subst → Type 0
 Carries nodes rows first None = Unit {0}
 Carries nodes rows first (Some s) = IsSubst nodes rows first s
 
--- the row after those that a substitution takes
+-- the row after the last one that a substitution takes
 abbrev pub past_of : ℕ → Option Subst → ℕ
 past_of first None = first
 past_of first (Some s) = s.past
 
--- what a record stands for, if it breaks no rule
+-- what holds of a valid record and of the instruction that it encodes
 pub record InstrAgain (h : Header) (nodes : List Node) (first : ℕ) (row : List ℕ) : Type 0 where
   pub written : instr_row (instr_of row) ≡ row
   pub instr : IsInstr h.types h.cells (instr_of row)
@@ -48,7 +48,7 @@ pub record InstrAgain (h : Header) (nodes : List Node) (first : ℕ) (row : List
   pub carries : Carries nodes h.substs first (subst_of (instr_of row))
   pub past : rows_past first row ≡ past_of first (subst_of (instr_of row))
 
--- a substitution
+-- the substitution of a blue jump or branch
 substitution_again : (h : Header) (nodes : List Node) (first at x past memory : ℕ) → AreNarrowNodes nodes
     → substitution_broken h nodes first at x past memory ≡ None
     → IsSubst nodes h.substs first (record { first = x; past = past; memory = memory })
@@ -65,11 +65,11 @@ substitution_again h nodes first at x past memory narrow n =
       memory = number_again nodes true (at + 8) memory narrow r.1.1.1.1.0;
     }
 
--- a field that is 0 for want of a count
+-- a field that must be 0, with error Count
 no_again : (at n : ℕ) → must (n == 0) (errors.Count at) ≡ None → 0 ≡ n
 no_again at n h = sym (eq_held n 0 (errors.Count at) h)
 
--- an instruction of each kind
+-- instructions, kind by kind
 module _ (h : Header) (nodes : List Node) (first at a b c x high low : ℕ) (narrow : AreNarrowNodes nodes)
     (fit_high : high < 2 ^ 32) (fit_low : low < 2 ^ 32) where
   abbrev Again : ℕ → Type 0
@@ -159,7 +159,7 @@ module _ (h : Header) (nodes : List Node) (first at a b c x high low : ℕ) (nar
       })
       c (le_held c 1 (errors.Kind (at + 3)) r.1.1.0) r.1.1.1.0
 
-  -- what a field that breaks no rule holds, and the kinds whose rules hang on a field
+  -- the facts about valid fields, and the kinds whose rules depend on a field
   ruleset again = (
     arith,
     same_seven,
@@ -181,11 +181,11 @@ module _ (h : Header) (nodes : List Node) (first at a b c x high low : ℕ) (nar
     instr_6,
   )
 
-  -- each kind, those to come too: the search reads the rules
+  -- each kind; the search reads the rules, so it covers new kinds too
   each_again : Each (λ kind. kind ≤ last_instr_kind v → Again kind) instr_kinds
   each_again = search again parts 12
 
--- a record that breaks no rule is written of its instruction, which obeys the rules
+-- a valid record encodes an instruction that obeys the rules, and is the record of that instruction
 pub instr_again : (h : Header) (nodes : List Node) (first at : ℕ) (row : List ℕ) → AreNarrowNodes nodes →
     Fit code_layout row → instr_broken h nodes first at row ≡ None → InstrAgain h nodes first row
 instr_again h nodes first at (kind ∷ a ∷ b ∷ c ∷ x ∷ high ∷ low ∷ []) narrow fit n =
@@ -206,14 +206,14 @@ instr_again h nodes first at (a ∷ b ∷ c ∷ d ∷ e ∷ []) narrow fit n = a
 instr_again h nodes first at (a ∷ b ∷ c ∷ d ∷ e ∷ f ∷ []) narrow fit n = absurd fit.1.1.1.1.1.1
 instr_again h nodes first at (a ∷ b ∷ c ∷ d ∷ e ∷ f ∷ g ∷ z ∷ zs) narrow fit n = absurd fit.1.1.1.1.1.1.1
 
--- records that break no rule are written of their instructions
+-- valid records encode instructions that obey the rules, and are the records of those instructions
 pub record InstrsAgain (h : Header) (nodes : List Node) (first : ℕ) (rs : List (List ℕ)) : Type 0 where
   pub written : map instr_row (map instr_of rs) ≡ rs
   pub instrs : AllByRecursion (IsInstr h.types h.cells) (map instr_of rs)
   pub has : AllByRecursion (SupportsInstr (version_of h)) (map instr_of rs)
   pub cover : Cover nodes h.substs first (substs_of (map instr_of rs))
 
--- the substitution of an instruction, before those of others
+-- putting an instruction's substitution before those of later instructions
 cover_first : (nodes : List Node) (rows first : ℕ) (s : Option Subst) (ss : List Subst) → Carries nodes rows first s →
     Cover nodes rows (past_of first s) ss → Cover nodes rows first (before s ss)
 cover_first nodes rows first None ss h c = c

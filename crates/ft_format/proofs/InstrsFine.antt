@@ -1,4 +1,4 @@
--- What is written of instructions that obey the rules fits the fields of records, breaks no rule, and stands for them.
+-- The record of an instruction that obeys the rules fits its fields, is valid, and decodes to that instruction.
 use Rattle.std.proofs.Common.{◌≡◌, ℕ, ◌/◌, ◌%◌, ◌^◌, ◌<◌, ◌≤◌, List, ◌∷◌, refl, arith, ◌+◌, true, [], length, map}
 use Rattle.std.proofs.Common.{Option, None, Some, sym, subst}
 use Rattle.std.specs.List.{AllByRecursion}
@@ -31,7 +31,7 @@ use Rattle.ft_format.proofs.Versions.{has_op, has_instr_kind}
 use Rattle.ft_format.proofs.References.{number_fine}
 use Rattle.ft_format.proofs.InstrsAgain.{Carries, past_of}
 
--- the number of a basic type, by its parts
+-- splitting the number of a basic type gives its parts
 pub refs_back : (b : Basic) → base_code b.base ≤ 1 → base_type b.base < 2 ^ 16 → basic_number b / 2 ^ 24 ≡ b.refs
 refs_back b p q = omega arith
 
@@ -43,7 +43,7 @@ pub own_back : (b : Basic) → base_code b.base ≤ 1 → base_type b.base < 2 ^
     ≡ base_type b.base
 own_back b p q = omega arith
 
--- parts that fit their fields
+-- each part of an instruction fits its field
 reg_fits : (r : Reg) → r.number < 2 ^ 8
 reg_fits r = omega (arith, r.in_range)
 
@@ -62,12 +62,12 @@ high_fits w h = omega (arith, h)
 low_fits : (w : ℕ) → low_half w < 2 ^ 32
 low_fits w = omega arith
 
--- the fields of a record can hold the numbers of an instruction that fits
+-- if an instruction fits, its record's fields can hold its numbers
 pub instr_fit : (i : Instr) → FitsInstr i → Fit code_layout (instr_row i)
 instr_fit Halt h = search arith
 instr_fit _ h = search (arith, reg_fits, colour_fits, op_fits, basic_number_fits, high_fits, low_fits)
 
--- and it is had back from them
+-- decoding these numbers gives the instruction back
 pub instr_back : (i : Instr) → FitsInstr i → instr_of (instr_row i) ≡ i
 instr_back (Mov rd value basic) h =
     let small = base_small basic.base in
@@ -84,7 +84,7 @@ instr_back (Mov rd value basic) h =
 instr_back Halt h = refl
 instr_back _ h = simp (op_back, register_back, colour_back, word_back)
 
--- a record is of one of nine kinds, an operation is one of ten, and three fields have registers, a colour or zero
+-- bounds on a record: nine kinds, ten operations, and three fields that each hold a register, a colour or zero
 abbrev pub IsPlain : List ℕ → Type 0
 IsPlain (kind ∷ a ∷ b ∷ c ∷ x ∷ rest) = (kind ≤ 8) × (kind ≤ 1 → x ≤ last_op_code) × (a < 64) × (b < 64) × (c < 64)
 IsPlain _ = Unit {0}
@@ -106,7 +106,7 @@ pub record AreFew (h : Header) (nodes : List Node) : Type 0 where
   pub substs : h.substs ≤ 1048576
   pub node_count : length nodes ≤ 1048576
 
--- what obeys the rules fits
+-- an instruction that obeys the rules fits
 subst_fits : (h : Header) (nodes : List Node) (first : ℕ) (s : Subst) → AreFew h nodes →
     IsSubst nodes h.substs first s → FitsSubst s
 subst_fits h nodes first s m i = (
@@ -123,7 +123,7 @@ instr_fits h nodes first (BzB rz rd subst) m i s = subst_fits h nodes first subs
 instr_fits h nodes first (Idx rd rs x n) m i s = (omega (arith, i.begins, m.cells), omega (arith, i.length.1))
 instr_fits h nodes first _ m i s = i
 
--- what is written of an instruction breaks no rule
+-- the record of an instruction that obeys the rules breaks no rule
 substitution_fine : (h : Header) (nodes : List Node) (first at : ℕ) (s : Subst) → IsSubst nodes h.substs first s →
     substitution_broken h nodes first at s.first s.past s.memory ≡ None
 substitution_fine h nodes first at s i =
@@ -155,7 +155,7 @@ instr_past : (first : ℕ) (i : Instr) → rows_past first (instr_row i) ≡ pas
 instr_past first (JmpB rd s) = refl
 instr_past first _ = refl
 
--- what is written of an instruction breaks no rule and stands for it
+-- the record of an instruction breaks no rule, and decodes to that instruction
 pub record InstrFine (h : Header) (nodes : List Node) (first at : ℕ) (i : Instr) : Type 0 where
   pub unbroken : instr_broken h nodes first at (instr_row i) ≡ None
   pub back : instr_of (instr_row i) ≡ i
@@ -174,13 +174,13 @@ instr_fine h nodes first at i m is has s =
       past = instr_past first i;
     }
 
--- what an instruction's substitution is, and those of the others
+-- an instruction's substitution and those of later instructions obey the rules
 carried_first : (nodes : List Node) (rows first : ℕ) (s : Option Subst) (ss : List Subst) →
     Cover nodes rows first (before s ss) → Carries nodes rows first s × Cover nodes rows (past_of first s) ss
 carried_first nodes rows first None ss c = (tt, c)
 carried_first nodes rows first (Some s) ss c = c
 
--- what is written of instructions breaks no rule, and stands for them
+-- the records of instructions break no rule, and decode to these instructions
 pub record InstrsFine (h : Header) (nodes : List Node) (first at : ℕ) (is : List Instr) : Type 0 where
   pub unbroken : instrs_broken h nodes first at (map instr_row is) ≡ None
   pub back : map instr_of (map instr_row is) ≡ is

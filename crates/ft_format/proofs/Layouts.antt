@@ -1,4 +1,4 @@
--- Records of bytes and their numbers, both ways.
+-- Converting between the bytes of records and their numbers.
 use Rattle.std.proofs.Common.{◌≡◌, ℕ, zero, suc, ◌+◌, ◌*◌, ◌^◌, ◌<◌, ◌≤◌, List, [], ◌∷◌, ◌++◌, length, take, drop, refl}
 use Rattle.std.proofs.Common.{sym, ap, ◌∙◌, append_assoc, arith}
 use Rattle.std.specs.Int.{Width, w8, w16, w32, w64, w128, byte_len, from_be_bytes, to_be_bytes}
@@ -36,7 +36,7 @@ abbrev pub AreNarrow : List Width → Type 0
 AreNarrow [] = Unit {0}
 AreNarrow (w ∷ ws) = IsNarrow w × AreNarrow ws
 
--- before and after a place among bytes there are bytes
+-- all elements of a prefix or suffix of bytes are bytes
 pub bytes_before : (k : ℕ) (bs : List ℕ) → AreBytes bs → AreBytes (take k bs)
 bytes_before zero bs h i = omega arith
 bytes_before (suc k) [] h i = omega arith
@@ -46,7 +46,7 @@ bytes_before (suc k) (b ∷ bs) h (suc i) = bytes_before k bs (λ j. h (suc j)) 
 pub bytes_after : (k : ℕ) (bs : List ℕ) → AreBytes bs → AreBytes (drop k bs)
 bytes_after k bs h i = rw get_or-drop (h (k + i))
 
--- a number that is written is read, whatever follows it
+-- reading back a written number gives that number, whatever follows it
 number_back : (w : Width) (n : ℕ) (rest : List ℕ) → FitsIn w n → number_of w (bytes_of w n ++ rest) ≡ n
 unfolding number_of bytes_of
 number_back w8 n rest h = omega arith
@@ -55,7 +55,7 @@ number_back w32 n rest h = from_be_bytes-to_be_bytes_4 n h
 number_back w64 n rest h = from_be_bytes-to_be_bytes_8 n h
 number_back w128 n rest h = absurd h
 
--- what follows a number that is written
+-- dropping a written number leaves what follows it
 after_number : (w : Width) (n : ℕ) (rest : List ℕ) → FitsIn w n → drop (byte_len w) (bytes_of w n ++ rest) ≡ rest
 unfolding bytes_of
 after_number w8 n rest h = refl
@@ -64,7 +64,7 @@ after_number w32 n rest h = refl
 after_number w64 n rest h = refl
 after_number w128 n rest h = absurd h
 
--- how many bytes a number is written in
+-- how many bytes a number takes
 length_number : (w : Width) (n : ℕ) → FitsIn w n → length (bytes_of w n) ≡ byte_len w
 unfolding bytes_of
 length_number w8 n h = refl
@@ -73,13 +73,13 @@ length_number w32 n h = refl
 length_number w64 n h = refl
 length_number w128 n h = absurd h
 
--- one byte is the bytes of its number
+-- writing the number of one byte gives that byte
 one_byte : (bs : List ℕ) → AreBytes bs → 1 ≤ length bs → to_be_bytes w8 (from_be_bytes w8 (take 1 bs)) ≡ take 1 bs
 one_byte [] h le = absurd (omega arith)
 one_byte (b ∷ bs) h le =
     ap (λ n. n ∷ []) (omega (arith, h 0))
 
--- bytes are the bytes of their number
+-- writing the number of some bytes gives these bytes
 number_again : (w : Width) (bs : List ℕ) → IsNarrow w → AreBytes bs → byte_len w ≤ length bs →
     bytes_of w (number_of w bs) ≡ take (byte_len w) bs
 unfolding number_of bytes_of
@@ -89,7 +89,7 @@ number_again w32 bs s h le = be_bytes_4 (take 4 bs) _ (length-take-le 4 bs le) (
 number_again w64 bs s h le = be_bytes_8 (take 8 bs) _ (length-take-le 8 bs le) (bytes_before 8 bs h) refl
 number_again w128 bs s h le = absurd s
 
--- a number that bytes make
+-- a number read from bytes fits its width
 number_fits : (w : Width) (bs : List ℕ) → IsNarrow w → AreBytes bs → FitsIn w (number_of w bs)
 unfolding number_of
 number_fits w8 bs s h = let b = bytes_before 1 bs h in omega (arith, b 0)
@@ -106,7 +106,7 @@ numbers_fit (w ∷ ws) bs s h = (
   numbers_fit ws (drop (byte_len w) bs) s.1 (bytes_after (byte_len w) bs h),
 )
 
--- numbers that are written are read, whatever follows them
+-- reading back the numbers of a written record gives these numbers, whatever follows them
 pub numbers_back : (ws : List Width) (ns rest : List ℕ) → Fit ws ns → numbers ws (written ws ns ++ rest) ≡ ns
 unfolding numbers written
 numbers_back [] [] rest h = refl
@@ -127,19 +127,19 @@ length_written [] (n ∷ ns) h = absurd h
 length_written (w ∷ ws) [] h = absurd h
 length_written (w ∷ ws) (n ∷ ns) h = rw (length-append, length_number w n h.0, length_written ws ns h.1) refl
 
--- nothing of nothing
+-- taking from an empty list gives an empty list
 take_none : (n : ℕ) → ◌≡◌ {A = List ℕ} (take n []) []
 take_none zero = refl
 take_none (suc n) = refl
 
--- one part after the other
+-- taking m elements, and then n more, takes m + n
 take_plus : (m n : ℕ) (xs : List ℕ) → take m xs ++ take n (drop m xs) ≡ take (m + n) xs
 take_plus zero n xs = let e : 0 + n ≡ n = omega arith in rw e refl
 take_plus (suc m) n [] = let e : suc m + n ≡ suc (m + n) = omega arith in rw e (take_none n)
 take_plus (suc m) n (x ∷ xs) = let e : suc m + n ≡ suc (m + n) = omega arith in
     rw e (ap (λ l. x ∷ l) (take_plus m n xs))
 
--- bytes are written of their numbers
+-- writing the numbers read from a record gives its bytes
 pub numbers_again : (ws : List Width) (bs : List ℕ) → AreNarrow ws → AreBytes bs → size ws ≤ length bs →
     written ws (numbers ws bs) ≡ take (size ws) bs
 unfolding numbers written
@@ -151,7 +151,7 @@ numbers_again (w ∷ ws) bs s h le =
     rw (number_again w bs s.0 h first, numbers_again ws rest s.1 (bytes_after (byte_len w) bs h) left)
     (take_plus (byte_len w) (size ws) bs)
 
--- n records, and one more
+-- reading n + 1 records: the first, and then n more
 pub rows_more : (ws : List Width) (m n : ℕ) (bs : List ℕ) → m ≡ suc n → rows ws m bs
     ≡ numbers ws (take (size ws) bs) ∷ rows ws n (drop (size ws) bs)
 unfolding rows
@@ -179,7 +179,7 @@ rows_fit ws (suc n) bs s h = (
   rows_fit ws n (drop (size ws) bs) s (bytes_after (size ws) bs h),
 )
 
--- records that are written are read, whatever follows them
+-- reading back written records gives their numbers, whatever follows them
 pub rows_back : (ws : List Width) (rs : List (List ℕ)) (rest : List ℕ) → AllFit ws rs →
     rows ws (length rs) (spelled ws rs ++ rest) ≡ rs
 unfolding rows
@@ -208,7 +208,7 @@ length_spelled ws (r ∷ rs) h = omega (
   length_spelled ws rs h.1,
 )
 
--- bytes are written of the numbers of their records
+-- writing the numbers read from records gives their bytes
 pub rows_again : (ws : List Width) (n : ℕ) (bs : List ℕ) → AreNarrow ws → AreBytes bs → size ws * n ≤ length bs →
     spelled ws (rows ws n bs) ≡ take (size ws * n) bs
 unfolding rows
@@ -223,7 +223,7 @@ rows_again ws (suc n) bs s h le =
     (omega (arith, length-take-le (size ws) bs first)) ∙ take-take (size ws) (size ws) bs (omega arith) in
     rw (row, rows_again ws n rest s (bytes_after (size ws) bs h) left, all) (take_plus (size ws) (size ws * n) bs)
 
--- some records, and then others
+-- reading `a` records, and then `b` more
 pub rows_plus : (ws : List Width) (a b : ℕ) (bs : List ℕ) → rows ws (a + b) bs ≡ rows ws a bs
     ++ rows ws b (drop (size ws * a) bs)
 unfolding rows

@@ -1,4 +1,4 @@
--- A loop over records: what the rest gives from here is what all of them give.
+-- A loop over records: whatever the remaining records give, all of them give.
 use Rattle.std.proofs.Common.{◌≡◌, ℕ, suc, List, [], ◌∷◌, ◌++◌, ◌+◌, ◌*◌, take, drop, Option, None, Some, sym, ap, ◌∙◌}
 use Rattle.std.proofs.Common.{append_assoc, arith}
 use Rattle.std.specs.Int.{Width}
@@ -8,12 +8,12 @@ use Rattle.ft_format.specs.Layout.{size, numbers, rows}
 use Rattle.ft_format.specs.Rules.{◌next◌}
 use Rattle.ft_format.proofs.Layouts.{rows_more, rows_none}
 
--- the rows from here, by the first of them
+-- splitting the first row off the remaining rows
 first_row : (ws : List Width) (m n : ℕ) (bs row : List ℕ) → m ≡ suc n → row ≡ numbers ws (take (size ws) bs) →
     rows ws m bs ≡ row ∷ rows ws n (drop (size ws) bs)
 first_row ws m n bs row e is = rows_more ws m n bs e ∙ ap (λ r. r ∷ rows ws n (drop (size ws) bs)) (sym is)
 
--- a record that breaks no rule leaves it to the others
+-- after a record that breaks no rule, the result is that of the remaining records
 pub goes : (ws : List Width) (m n : ℕ) (bs row : List ℕ) (rule broken : Option ObjectError)
     (judge after : List (List ℕ) → Option ObjectError)
     → m ≡ suc n → row ≡ numbers ws (take (size ws) bs) →
@@ -23,7 +23,7 @@ goes ws m n bs row rule broken judge after e is more none h =
     let rest = rows ws n (drop (size ws) bs) in
     sym (ap judge (first_row ws m n bs row e is) ∙ more rest ∙ ap (λ r. r next after rest) none) ∙ h
 
--- a record that breaks a rule is the first that does
+-- a record that breaks a rule determines the result
 pub stops : (ws : List Width) (m n : ℕ) (bs row : List ℕ) (rule broken : Option ObjectError) (why : ObjectError)
     (judge after : List (List ℕ) → Option ObjectError)
     → m ≡ suc n → row ≡ numbers ws (take (size ws) bs) →
@@ -39,7 +39,7 @@ pub ends : (ws : List Width) (m : ℕ) (bs : List ℕ) (broken last : Option Obj
     → m ≡ 0 → judge [] ≡ last → judge (rows ws m bs) ≡ broken → broken ≡ last
 ends ws m bs broken last judge e none h = sym h ∙ ap judge (rows_none ws m bs e) ∙ none
 
--- a value that was read, and those that the others give
+-- the values already read, the next one, and those of the remaining records
 pub gives : {A : Type 0} (ws : List Width) (m n : ℕ) (bs row : List ℕ) (done all : List A) (v : A)
     (values after : List (List ℕ) → List A)
     → m ≡ suc n → row ≡ numbers ws (take (size ws) bs) → ((rest : List (List ℕ)) → values (row ∷ rest) ≡ v ∷ after rest)
@@ -55,7 +55,7 @@ pub given : {A : Type 0} (ws : List Width) (m : ℕ) (bs : List ℕ) (done all :
 given ws m bs done all values e none h = sym (append-nil done)
     ∙ ap (λ l. done ++ l) (sym (ap values (rows_none ws m bs e) ∙ none)) ∙ h
 
--- what a value other than a row shows, of all rows
+-- a value computed from the remaining rows, if this row does not affect it
 pub follows : {A : Type 0} (ws : List Width) (m n : ℕ) (bs row : List ℕ) (all : A) (tells after : List (List ℕ) → A)
     → m ≡ suc n → row ≡ numbers ws (take (size ws) bs) → ((rest : List (List ℕ)) → tells (row ∷ rest) ≡ after rest)
     → tells (rows ws m bs) ≡ all → after (rows ws n (drop (size ws) bs)) ≡ all
@@ -63,7 +63,7 @@ follows ws m n bs row all tells after e is more h =
     let rest = rows ws n (drop (size ws) bs) in
     sym (ap tells (first_row ws m n bs row e is) ∙ more rest) ∙ h
 
--- the bytes after n records of a size, one record later
+-- dropping one more record
 pub past_more : (size i : ℕ) (bytes rest : List ℕ) → rest ≡ drop (size * i) bytes → drop size rest
     ≡ drop (size * (i + 1)) bytes
 past_more size i bytes rest h =

@@ -1,4 +1,4 @@
--- How many bytes the names of cells have.
+-- A bound on the size of the cells' names.
 use Rattle.std.proofs.Common.{◌≡◌, ℕ, zero, suc, ◌+◌, ◌-◌, ◌<◌, ◌≤◌, List, length, take, drop, None, refl, arith}
 use Rattle.std.specs.List.{sum_by}
 use Rattle.std.proofs.lemmas.Bool.Decides.{nat_tests}
@@ -14,7 +14,7 @@ use Rattle.ft_format.specs.Broken.{cells_broken}
 use Rattle.ft_format.proofs.Shapes.{shape_5}
 use Rattle.ft_format.proofs.Unbroken.{both}
 
--- a name that breaks no rule ends within the name bytes, and has no more bytes than its end allows
+-- a name that breaks no rule ends within the name bytes, and is no longer than its end allows
 name_within : (h : Header) (names : List ℕ) (start at : ℕ) (row : List ℕ) → length row ≡ 5 → cell_broken h start at row
     ≡ None
     → (start < past_of row) × (past_of row ≤ h.names) × (length (cell_of names start row).name ≤ past_of row - start)

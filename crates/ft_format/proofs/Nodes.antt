@@ -1,4 +1,4 @@
--- Nodes and their records, both ways.
+-- Converting nodes to records, and back.
 use Rattle.std.proofs.Common.{◌≡◌, ℕ, zero, suc, ◌+◌, ◌^◌, ◌<◌, ◌≤◌, Bool, List, [], ◌∷◌, ◌++◌, length, map, None, Some}
 use Rattle.std.proofs.Common.{refl, sym, subst, append_assoc, arith}
 use Rattle.std.specs.Prelude.{nat_le, slice_get}
@@ -26,13 +26,13 @@ use Rattle.ft_format.proofs.Codes.{word_back, op_code_again, op_has_again, Each,
 use Rattle.ft_format.proofs.Versions.{node_kinds, few_node_kinds, has_node_kind, has_op}
 use Rattle.ft_format.proofs.References.{named_again, named_fine, named_after, named_before}
 
--- what a record stands for, if it breaks no rule
+-- what holds of a valid record and of the node that it encodes
 pub record NodeAgain (v : Version) (earlier : List Node) (row : List ℕ) : Type 0 where
   pub written : node_row (node_of row) ≡ row
   pub node : IsNode earlier (length earlier) (node_of row)
   pub has : SupportsNode v (node_of row)
 
--- seven numbers, one by one
+-- two lists of seven numbers are equal if their numbers are, one by one
 pub same_seven : {a b c d e f g a' b' c' d' e' f' g' : ℕ} → a ≡ a' → b ≡ b' → c ≡ c' → d ≡ d' → e ≡ e' → f ≡ f' → g ≡ g'
     → ◌≡◌ {A = List ℕ} (a ∷ b ∷ c ∷ d ∷ e ∷ f ∷ g ∷ []) (a' ∷ b' ∷ c' ∷ d' ∷ e' ∷ f' ∷ g' ∷ [])
 same_seven p q r s t u v = rw (p, q, r, s, t, u, v) refl
@@ -42,7 +42,7 @@ pub length_again : (at n : ℕ) → some_broken 1024 at n ≡ None → IsLength 
 length_again at n h = let r = both (must (nat_le 1 n) (errors.Count at)) (count_broken 1024 at n) h in
     (le_held 1 n (errors.Count at) r.0, le_held n 1024 (errors.Count at) r.1)
 
--- what a field that breaks no rule holds
+-- the facts about valid fields
 ruleset fields_again = (
   arith,
   same_seven,
@@ -58,18 +58,18 @@ ruleset fields_again = (
   length_again,
 )
 
--- a node of each kind
+-- nodes, kind by kind
 module _ (v : Version) (earlier : List Node) (at op scope pad a b c : ℕ) (few : scope ≤ 128) (no_pad : 0 ≡ pad)
     (fit_b : b < 2 ^ 32) (fit_c : c < 2 ^ 32) where
   abbrev Again : ℕ → Type 0
   Again kind = kind ≤ last_node_kind v → node_op_broken v (at + 1) kind op ≡ None →
       parts_broken earlier at kind scope a b c ≡ None → NodeAgain v earlier (kind ∷ op ∷ scope ∷ pad ∷ a ∷ b ∷ c ∷ [])
 
-  -- each kind, those to come too: the search reads the rules
+  -- each kind; the search reads the rules, so it covers new kinds too
   each_again : Each Again node_kinds
   each_again = search fields_again parts 12
 
--- a record that breaks no rule is written of its node, which obeys the rules
+-- a valid record encodes a node that obeys the rules, and is the record of that node
 pub node_again : (v : Version) (earlier : List Node) (at : ℕ) (row : List ℕ) → Fit code_layout row →
     node_broken v earlier at row ≡ None → NodeAgain v earlier row
 node_again v earlier at (kind ∷ op ∷ scope ∷ pad ∷ a ∷ b ∷ c ∷ []) fit h =
@@ -92,12 +92,12 @@ node_again v earlier at (a ∷ b ∷ c ∷ d ∷ e ∷ []) fit h = absurd fit.1.
 node_again v earlier at (a ∷ b ∷ c ∷ d ∷ e ∷ f ∷ []) fit h = absurd fit.1.1.1.1.1.1
 node_again v earlier at (a ∷ b ∷ c ∷ d ∷ e ∷ f ∷ g ∷ x ∷ xs) fit h = absurd fit.1.1.1.1.1.1.1
 
--- nodes, each after those before it
+-- each node obeys the rules, given the nodes before it
 abbrev pub Follow : List Node → List Node → Type 0
 Follow earlier [] = Unit {0}
 Follow earlier (n ∷ ns) = IsNode earlier (length earlier) n × Follow (earlier ++ n ∷ []) ns
 
--- records that break no rule are written of their nodes
+-- valid records encode nodes that obey the rules, and are the records of those nodes
 pub record NodesAgain (v : Version) (earlier : List Node) (rs : List (List ℕ)) : Type 0 where
   pub written : map node_row (map node_of rs) ≡ rs
   pub follow : Follow earlier (map node_of rs)
@@ -117,7 +117,7 @@ nodes_again v earlier at (r ∷ rs) fit h =
       has = (here.has, after.has);
     }
 
--- a shape that names earlier nodes names nodes, and the other way round
+-- a shape obeys the rules among the earlier nodes exactly if it obeys them among all nodes
 shape_after : (earlier rest : List Node) (scope : ℕ) (s : Shape) → IsShape earlier (length earlier) scope s →
     IsShape (earlier ++ rest) (length earlier) scope s
 shape_after earlier rest scope Memory h = tt
@@ -128,7 +128,7 @@ shape_before : (earlier rest : List Node) (scope : ℕ) (s : Shape) → IsShape 
 shape_before earlier rest scope Memory h = tt
 shape_before earlier rest scope _ h = search named_before
 
--- nodes that follow one another are nodes
+-- if each node obeys the rules given those before it, each does among all nodes
 pub each_node : (earlier ns : List Node) → Follow earlier ns → (k : ℕ) (node : Node) → slice_get ns k ≡ Some node →
     IsNode (earlier ++ ns) (length earlier + k) node
 each_node earlier [] h k node e = absurd (cc)
@@ -144,7 +144,7 @@ each_node earlier (n ∷ ns) h (suc k) node e =
     subst (λ i. IsNode (earlier ++ n ∷ ns) i node) place
     (subst (λ all. IsNode all (length (earlier ++ n ∷ []) + k) node) (append_assoc earlier (n ∷ []) ns) after)
 
--- nodes follow one another
+-- conversely, if each node obeys the rules among all nodes, each does given those before it
 pub nodes_follow : (earlier ns : List Node) → ((k : ℕ) (node : Node) → slice_get ns k ≡ Some node →
     IsNode (earlier ++ ns) (length earlier + k) node) → Follow earlier ns
 nodes_follow earlier [] h = tt
@@ -160,7 +160,7 @@ nodes_follow earlier (n ∷ ns) h =
           (subst (λ i. IsNode (earlier ++ n ∷ ns) i node) next_place (h (suc k) node e))),
     )
 
--- the fields of a record can hold the numbers of a node that fits
+-- if a node fits, its record's fields can hold its numbers
 pub shape_fit : (scope : ℕ) (s : Shape) → Is8 scope → FitsShape s → Fit code_layout (shape_row scope s)
 shape_fit scope Memory k h = search arith
 shape_fit scope _ k h = search (arith, has_op)
@@ -171,7 +171,7 @@ shape_back scope (Word w) = rw (word_back w) refl
 shape_back scope (OpNode op a b) = rw (op_back op) refl
 shape_back scope _ = refl
 
--- what obeys the rules fits
+-- a node that obeys the rules fits
 pub named_fits : (nodes : List Node) (n scope : ℕ) (memory : Bool) (m : ℕ) → n ≤ 1048576 →
     MayName nodes n scope memory m → Is32 m
 named_fits nodes n scope memory m le h = let low = h.lower in omega arith
@@ -181,7 +181,7 @@ pub shape_fits : (nodes : List Node) (n scope : ℕ) (s : Shape) → n ≤ 10485
 shape_fits nodes n scope Memory le few h = tt
 shape_fits nodes n scope _ le few h = search (named_fits, arith)
 
--- what is written of a node breaks no rule
+-- the record of a node that obeys the rules breaks no rule
 ruleset rules_hold = (arith, has_node_kind, le_true, lt_true, named_fine, op_fine)
 
 shape_unbroken : (v : Version) (earlier : List Node) (at scope : ℕ) (s : Shape) → scope ≤ 128 →
@@ -190,7 +190,7 @@ shape_unbroken : (v : Version) (earlier : List Node) (at scope : ℕ) (s : Shape
 shape_unbroken v earlier at scope Memory few h has = search rules_hold
 shape_unbroken v earlier at scope _ few h has = search rules_hold
 
--- what is written of a node breaks no rule and stands for it
+-- the record of a node breaks no rule, and decodes to that node
 pub record NodeFine (v : Version) (earlier : List Node) (at : ℕ) (n : Node) : Type 0 where
   pub unbroken : node_broken v earlier at (node_row n) ≡ None
   pub back : node_of (node_row n) ≡ n
@@ -205,7 +205,7 @@ shape_fine v earlier at scope s m few h has = record {
   fit = shape_fit scope s (omega arith) (shape_fits earlier (length earlier) scope s m few h);
 }
 
--- what is written of nodes breaks no rule, and stands for them
+-- the records of nodes break no rule, and decode to these nodes
 pub nodes_fine : (v : Version) (earlier : List Node) (at : ℕ) (ns : List Node) → length (earlier ++ ns) ≤ 1048576 →
     Follow earlier ns → AllByRecursion (SupportsNode v) ns
     → (nodes_broken v earlier at (map node_row ns) ≡ None) × (map node_of (map node_row ns) ≡ ns)

@@ -1,4 +1,4 @@
--- Bytes that break no rule are spelled of the object that is read of them.
+-- Valid bytes are the spelling of the object read from them: the parts of the proof.
 use Rattle.std.proofs.Common.{◌≡◌, ℕ, suc, ◌+◌, ◌-◌, ◌*◌, ◌<◌, ◌≤◌, List, [], ◌∷◌, ◌++◌, length, drop, map, None, refl}
 use Rattle.std.proofs.Common.{sym, ap, ◌∙◌, subst, arith}
 use Rattle.std.specs.Prelude.{nat_le, nat_lt}
@@ -27,7 +27,7 @@ use Rattle.ft_format.proofs.Versions.{magic_names, short_names, few_name_bytes}
 use Rattle.ft_format.proofs.Cells.{IsCellBut, IsNamed}
 use Rattle.ft_format.proofs.Types.{TypesAre, types_again}
 
--- a header that breaks no rule
+-- what holds of a header that breaks no rule
 pub record IsHeader (h : Header) : Type 0 where
   pub magic_is : h.magic ≡ magic (version_of h)
   pub small : IsSmall h
@@ -85,7 +85,7 @@ header_again h n =
       entry = lt_held h.entry h.blocks (errors.Entry 44) r10.1;
     }
 
--- a section's records, and the bytes from the next section
+-- a section's bytes are the spelling of its records, followed by the bytes from the next section on
 pub section : (ws : List Width) (at n : ℕ) (bytes : List ℕ) → AreNarrow ws → AreBytes bytes →
     at + size ws * n ≤ length bytes
     → drop at bytes ≡ spelled ws (rows ws n (drop at bytes)) ++ drop (at + size ws * n) bytes
@@ -108,7 +108,7 @@ length_types_of start queue_start (r ∷ rs) regs queue =
     ap suc (length_types_of (regs_end_of r) (queue_end_of r) rs (drop (regs_end_of r - start) regs)
     (drop (queue_end_of r - queue_start) queue))
 
--- cells with names that are names
+-- a cell that obeys the other rules and has a valid name obeys all rules
 pub whole_cells : (v : Version) (types : ℕ) (cs : List Cell) → AllByRecursion (IsCellBut v types) cs →
     AllByRecursion (IsNamed v) cs → AllByRecursion (IsCell types) cs
 whole_cells v types [] p q = tt
@@ -130,7 +130,7 @@ named_cells v types (c ∷ cs) p q = (
   named_cells v types cs p.1 q.1,
 )
 
--- the types with their rows, from the first row
+-- all types with their rows
 pub record TypesRead (h : Header) (nodes : List Node) (trs : List (List ℕ)) (rb qb : List ℕ) (k l : ℕ) : Type 0 where
   pub are : TypesAre h nodes 0 0 trs (map reg_type_of (rows reg_layout k rb)) (map pair_of (rows pair_layout l qb))
       (types_of 0 0 trs (map reg_type_of (rows reg_layout k rb)) (map pair_of (rows pair_layout l qb)))
@@ -160,7 +160,7 @@ types_whole h nodes bytes b n =
       queue_written = t.queue_written;
     }))
 
--- a list with nothing after what it has
+-- a prefix of the same length is the whole list
 pub nothing_left : (all front left : List ℕ) → all ≡ front ++ left → length front ≡ length all → all ≡ front
 nothing_left all front [] e l = e ∙ append-nil front
 nothing_left all front (x ∷ xs) e l = absurd (omega (arith, ap length e, length-append front (x ∷ xs)))

@@ -1,4 +1,4 @@
--- Bytes that break no rule are spelled of the object that is read of them: all sections together.
+-- Valid bytes are the spelling of the object read from them: all sections together.
 use Rattle.std.proofs.Common.{◌≡◌, ℕ, ◌+◌, ◌*◌, ◌≤◌, false, min, List, [], ◌∷◌, ◌++◌, length, take, drop, map, None}
 use Rattle.std.proofs.Common.{Some, sym, ap, ◌∙◌, subst, arith}
 use Rattle.std.specs.Prelude.{◌==◌, nat_le, slice_get}
@@ -42,7 +42,7 @@ use Rattle.ft_format.proofs.Cells.{cells_again, names_again}
 use Rattle.ft_format.proofs.Read.{IsHeader, header_again, section, length_cells_of, length_types_of, whole_cells}
 use Rattle.ft_format.proofs.Read.{named_cells, types_whole, nothing_left}
 
--- what sections that break no rule are
+-- what holds of sections that break no rule
 pub record TablesAgain (h : Header) (bytes : List ℕ) : Type 0 where
   pub spellable : IsSpellable (tables_read h bytes)
   pub has : Supports (version_of h) (tables_read h bytes)
@@ -209,7 +209,7 @@ tables_again h bytes b head long n =
           ∙ ap (λ l. spelled subst_layout (map subst_row (substs_read h bytes)) ++ l) names_are))))))));
     }
 
--- the sections of bytes that break no rule
+-- the sections of valid bytes
 pub tables_of : (bytes : List ℕ) → AreBytes bytes → broken bytes ≡ None → (48 ≤ length bytes)
     × TablesAgain (header_at bytes) bytes
 unfolding broken
@@ -227,7 +227,7 @@ tables_of bytes b n =
       tables_again h bytes b (header_again h r3.0) long r0.1,
     )
 
--- bytes that break no rule are spelled of the object that is read of them
+-- valid bytes are the spelling of the object read from them
 pub read_spells : (bytes : List ℕ) → AreBytes bytes → broken bytes ≡ None →
     Spells bytes (version_at bytes) (object_of bytes)
 unfolding numbers

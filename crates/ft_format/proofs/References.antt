@@ -1,4 +1,4 @@
--- Nodes that are named by number, both ways.
+-- References to nodes: the rules hold exactly if the node may be named.
 use Rattle.std.proofs.Common.{◌≡◌, ℕ, ◌<◌, ◌≤◌, Bool, true, false, List, ◌++◌, length, Option, None, Some, refl, sym}
 use Rattle.std.proofs.Common.{ap, ◌∙◌, arith}
 use Rattle.std.specs.Prelude.{nat_lt, not, if◌then◌else◌, slice_get}
@@ -11,7 +11,7 @@ use Rattle.ft_format.specs.Rules.{must, is_of_sort, is_within, node_number_broke
 use Rattle.ft_format.proofs.Unbroken.{held, both}
 use Rattle.ft_format.proofs.Codes.{lt_held, lt_true, le_true}
 
--- sorts
+-- the sort of a node
 sort_of : (memory b : Bool) → (if memory then b else not b) ≡ true → b ≡ memory
 sort_of true true h = refl
 sort_of true false h = absurd (cc)
@@ -24,7 +24,7 @@ of_sort true false h = absurd (cc)
 of_sort false true h = absurd (cc)
 of_sort false false h = refl
 
--- the node that was found
+-- a node that exists and passes the tests may be named
 named_found : (nodes : List Node) (scope : ℕ) (memory : Bool) (n : ℕ) (o : Option Node) → slice_get nodes n ≡ o →
     n < length nodes → is_of_sort memory o ≡ true → is_within scope o ≡ true
     → MayName nodes (length nodes) scope memory n
@@ -47,7 +47,7 @@ named_again nodes scope memory at n none =
     named_found nodes scope memory n (slice_get nodes n) refl (lt_held n (length nodes) (errors.Index at) b.0)
     (held _ (errors.Kind at) b.1) (held _ (errors.Index at) a.1)
 
--- a node that is there has a scope of at most 128
+-- each node has a scope of at most 128
 abbrev pub AreNarrowNodes : List Node → Type 0
 AreNarrowNodes nodes = (k : ℕ) (node : Node) → slice_get nodes k ≡ Some node → node.scope ≤ 128
 
@@ -65,7 +65,7 @@ number_again nodes memory at n narrow none =
     named_found nodes 128 memory n (slice_get nodes n) refl (lt_held n (length nodes) (errors.Index at) b.0) sort
     (within_there nodes n memory (slice_get nodes n) refl narrow sort)
 
--- a node that may be named breaks no rule
+-- a reference to a node that may be named breaks no rule
 pub number_fine : (nodes : List Node) (scope : ℕ) (memory : Bool) (at n : ℕ) →
     MayName nodes (length nodes) scope memory n → node_number_broken nodes memory at n ≡ None
 number_fine nodes scope memory at n h =
@@ -81,7 +81,7 @@ named_fine nodes scope memory at n h =
     ∙ le_true h.node.scope scope h.scope_within in
     rw (number_fine nodes scope memory at n h, within) refl
 
--- a node that earlier ones hold is named among all, and the other way round
+-- a reference to an earlier node is valid among the earlier nodes exactly if it is valid among all nodes
 pub named_after : (earlier rest : List Node) (scope : ℕ) (memory : Bool) (n : ℕ) →
     MayName earlier (length earlier) scope memory n → MayName (earlier ++ rest) (length earlier) scope memory n
 named_after earlier rest scope memory n h = record {

@@ -1,4 +1,4 @@
--- Register rows, queue rows, blocks and substitution rows and their records, both ways.
+-- Converting register rows, queue rows, blocks and substitution rows to records, and back.
 use Rattle.std.proofs.Common.{◌≡◌, ℕ, suc, ◌+◌, ◌<◌, ◌≤◌, false, List, [], ◌∷◌, length, map, Option, None, Some, refl}
 use Rattle.std.proofs.Common.{sym, ap, subst, arith}
 use Rattle.std.specs.Prelude.{◌==◌, nat_le, nat_lt}
@@ -24,7 +24,7 @@ use Rattle.ft_format.proofs.Codes.{basic_back, colour_small, base_small, type_sm
 use Rattle.ft_format.proofs.References.{AreNarrowNodes, number_again, number_fine, named_again, named_fine}
 use Rattle.ft_format.proofs.Nodes.{same_seven}
 
--- what a register row stands for, if it breaks no rule
+-- what holds of a valid record and of the register row that it encodes
 pub record RegAgain (types : ℕ) (nodes : List Node) (ints least : ℕ) (row : List ℕ) : Type 0 where
   pub written : reg_row (reg_type_of row) ≡ row
   pub reg : IsRegRow types nodes ints (reg_type_of row)
@@ -61,7 +61,7 @@ reg_again types nodes ints least at (a ∷ b ∷ c ∷ d ∷ e ∷ []) fit none 
 reg_again types nodes ints least at (a ∷ b ∷ c ∷ d ∷ e ∷ f ∷ []) fit none = absurd fit.1.1.1.1.1.1
 reg_again types nodes ints least at (a ∷ b ∷ c ∷ d ∷ e ∷ f ∷ g ∷ z ∷ zs) fit none = absurd fit.1.1.1.1.1.1.1
 
--- register rows of one type
+-- what holds of the valid register rows of one type
 pub record RegsAgain (types : ℕ) (nodes : List Node) (ints least : ℕ) (rs : List (List ℕ)) : Type 0 where
   pub written : map reg_row (map reg_type_of rs) ≡ rs
   pub regs : AllByRecursion (IsRegRow types nodes ints) (map reg_type_of rs)
@@ -83,7 +83,7 @@ regs_again types nodes ints least at (r ∷ rs) fit n =
       rising = (here.rises, subst (λ k. AreRising k (map reg_type_of rs)) next_least after.rising);
     }
 
--- what is written of a register row
+-- the records of register rows break no rule, and decode to these rows
 pub record RegsFine (types : ℕ) (nodes : List Node) (ints least at : ℕ) (rs : List RegType) : Type 0 where
   pub unbroken : type_regs_broken types nodes ints least at (map reg_row rs) ≡ None
   pub back : map reg_type_of (map reg_row rs) ≡ rs
@@ -137,7 +137,7 @@ regs_fine types nodes ints least at (r ∷ rs) m k h up =
       fit = (reg_fit types nodes ints r m k h.0, after.fit);
     }
 
--- pairs of numbers
+-- queue rows
 pub pair_again : (row : List ℕ) → Fit pair_layout row → queue_row (pair_of row) ≡ row
 pair_again (a ∷ b ∷ []) fit = refl
 pair_again [] fit = absurd fit
@@ -184,7 +184,7 @@ queue_fine nodes ints at (q ∷ qs) k h =
       fit = ((omega (arith, h.0.address.lower), (omega (arith, h.0.value.lower), tt)), after.fit);
     }
 
--- where a block may begin at the earliest
+-- the earliest place where a block may begin
 abbrev pub least_after : Option ℕ → ℕ
 least_after None = 0
 least_after (Some previous) = suc previous
@@ -262,7 +262,7 @@ blocks_fine h at (b ∷ bs) p m k a t =
       fit = ((omega (arith, a.1), (omega (arith, t.0), tt)), after.fit);
     }
 
--- the same from the first block, which begins at 0
+-- the records of all blocks, the first of which begins at 0
 pub all_blocks_fine : (h : Header) (at : ℕ) (bs : List Block) → h.types ≤ 4096 → h.instrs ≤ 65536 → BeginAtZero bs →
     AreBlocks h.instrs 0 bs → AllByRecursion (HasCodeType h.types) bs → BlocksFine h None at bs
 unfolding blocks_broken

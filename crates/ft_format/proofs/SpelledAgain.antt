@@ -1,4 +1,4 @@
--- What is spelled breaks no rule in its tables, and they are read again.
+-- The sections of an object's spelling break no rule, and decode to the object.
 use Rattle.std.proofs.Common.{◌≡◌, ℕ, ◌+◌, ◌*◌, false, List, [], ◌++◌, length, drop, map, None, refl, sym, ap, ◌∙◌}
 use Rattle.std.proofs.Common.{subst, arith}
 use Rattle.std.specs.Prelude.{◌==◌}
@@ -38,7 +38,7 @@ use Rattle.ft_format.proofs.Types.{AreFewRows, type_rows_fine, all_regs_fine, al
 use Rattle.ft_format.proofs.SpelledSections.{header_for, cells_but, named, length_cell_rows, length_type_rows}
 use Rattle.ft_format.proofs.SpelledSections.{after_section, section_rows, small_for, header_fit}
 
--- what is spelled breaks no rule, and is read again
+-- the spelling of an object breaks no rule, and decodes to that object
 pub record Again (bytes : List ℕ) (v : Version) (o : Object) : Type 0 where
   pub header : header_at bytes ≡ header_for v o
   pub total_is : length bytes ≡ total (header_for v o)

@@ -1,4 +1,4 @@
--- What is spelled is bytes.
+-- A spelling consists of bytes.
 use Rattle.std.proofs.Common.{◌≡◌, ℕ, zero, suc, ◌<◌, true, List, [], ◌∷◌, ◌++◌, length, map, arith}
 use Rattle.std.specs.Int.{Width, byte_len, byte_at, bytes_high_first}
 use Rattle.std.specs.List.{AllByRecursion, flat_map, list_all}
@@ -16,7 +16,7 @@ use Rattle.ft_format.specs.Rows.{cell_rows, type_rows, reg_row, queue_row, block
 use Rattle.ft_format.specs.InstrRecords.{instr_row}
 use Rattle.ft_format.specs.Rows.{all_queue, header_row, spelling}
 
--- no byte, and a byte before others
+-- the empty list, and one more byte in front
 none_are : AreBytes []
 none_are i = omega arith
 
@@ -24,7 +24,7 @@ one_more : (b : ℕ) (bs : List ℕ) → b < 256 → AreBytes bs → AreBytes (b
 one_more b bs h rest zero = h
 one_more b bs h rest (suc i) = rest i
 
--- bytes, and then others
+-- concatenation
 then : (a b : List ℕ) → AreBytes a → AreBytes b → AreBytes (a ++ b)
 then [] b p q = q
 then (x ∷ xs) b p q = one_more x (xs ++ b) (p 0) (then xs b (λ i. p (suc i)) q)
@@ -34,24 +34,24 @@ byte_small : (i n : ℕ) → byte_at i n < 256
 byte_small zero n = omega arith
 byte_small (suc i) n = omega arith
 
--- a number that is written
+-- a written number
 high_first : (k n : ℕ) → AreBytes (bytes_high_first k n)
 high_first zero n = none_are
 high_first (suc k) n = one_more (byte_at k n) (bytes_high_first k n) (byte_small k n) (high_first k n)
 
--- a record that is written
+-- a written record
 written_bytes : (ws : List Width) (ns : List ℕ) → AreBytes (written ws ns)
 unfolding written bytes_of
 written_bytes [] ns = none_are
 written_bytes (w ∷ ws) [] = none_are
 written_bytes (w ∷ ws) (n ∷ ns) = then (bytes_of w n) (written ws ns) (high_first (byte_len w) n) (written_bytes ws ns)
 
--- records that are written
+-- written records
 spelled_bytes : (ws : List Width) (rs : List (List ℕ)) → AreBytes (spelled ws rs)
 spelled_bytes ws [] = none_are
 spelled_bytes ws (r ∷ rs) = then (written ws r) (spelled ws rs) (written_bytes ws r) (spelled_bytes ws rs)
 
--- the bytes of a name after its first, and all
+-- the bytes of a name after its first, and the whole name
 rest_bytes : (bs : List ℕ) → list_all is_name_byte bs ≡ true → AreBytes bs
 rest_bytes [] h = none_are
 rest_bytes (b ∷ bs) h = one_more b bs (grind arith) (rest_bytes bs (grind arith))

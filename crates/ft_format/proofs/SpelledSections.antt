@@ -1,4 +1,4 @@
--- The header and the sections of a spelled object.
+-- The header and the sections of an object's spelling.
 use Rattle.std.proofs.Common.{◌≡◌, ℕ, suc, ◌+◌, ◌*◌, ◌<◌, ◌≤◌, true, List, [], ◌∷◌, ◌++◌, length, drop, None, refl, sym}
 use Rattle.std.proofs.Common.{ap, ◌∙◌, arith}
 use Rattle.std.specs.Int.{Width}
@@ -39,12 +39,12 @@ header_for v o = record {
   entry = o.entry;
 }
 
--- a name has a byte
+-- a name has at least one byte
 first_byte : (name : List ℕ) → is_name name ≡ true → 0 < length name
 first_byte [] h = absurd (cc)
 first_byte (b ∷ bs) h = omega arith
 
--- cells, and their names
+-- the rules for cells, and those for their names
 pub cells_but : (v : Version) (types : ℕ) (cs : List Cell) → AllByRecursion (IsCell types) cs →
     AllByRecursion (SupportsName v) cs → AllByRecursion (IsCellBut v types) cs
 cells_but v types [] h has = tt
@@ -63,7 +63,7 @@ pub named : (v : Version) (types : ℕ) (cs : List Cell) → AllByRecursion (IsC
 named v types [] h has = tt
 named v types (c ∷ cs) h has = (record { name = h.0.name; bytes = has.0.bytes }, named v types cs h.1 has.1)
 
--- how many records there are
+-- cells and types have as many records as there are cells and types
 pub length_cell_rows : (start : ℕ) (cs : List Cell) → length (cell_rows start cs) ≡ length cs
 length_cell_rows start [] = refl
 length_cell_rows start (c ∷ cs) = ap suc (length_cell_rows (start + length c.name) cs)
@@ -74,7 +74,7 @@ length_type_rows start queue_start [] = refl
 length_type_rows start queue_start (t ∷ ts) = ap suc
     (length_type_rows (start + length t.regs) (queue_start + length t.queue) ts)
 
--- the bytes after a section, and its rows
+-- the bytes after a section, and the section's rows
 pub after_section : (ws : List Width) (rs : List (List ℕ)) (at n : ℕ) (bytes tail : List ℕ) → AllFit ws rs → length rs
     ≡ n → drop at bytes ≡ spelled ws rs ++ tail → drop (at + size ws * n) bytes ≡ tail
 after_section ws rs at n bytes tail fit count e =
@@ -86,7 +86,7 @@ pub section_rows : (ws : List Width) (rs : List (List ℕ)) (at n : ℕ) (bytes 
 section_rows ws rs at n bytes tail fit count e =
     ap (rows ws n) e ∙ ap (λ k. rows ws k (spelled ws rs ++ tail)) (sym count) ∙ rows_back ws rs tail fit
 
--- how many bytes the names of cells have
+-- a bound on the size of the cells' names
 few_bytes : (v : Version) (o : Object) → IsSpellable o → Supports v o → length (all_names o) ≤ most_name_bytes v
 few_bytes v o s has = omega (arith, length-flat_map name_of o.cells, few_names v o.cells s.few_cells has.names)
 
@@ -104,7 +104,7 @@ small_for v o s has = record {
   names = omega (arith, few_bytes v o s has, few_name_bytes v);
 }
 
--- its header breaks no rule, and its fields can hold it
+-- the header of a spellable object breaks no rule, and its fields can hold the numbers
 pub header_fine : (v : Version) (o : Object) → IsSpellable o → Supports v o → header_broken (header_for v o) ≡ None
 header_fine v o s has =
     let m = small_for v o s has in

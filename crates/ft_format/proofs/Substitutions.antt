@@ -1,4 +1,4 @@
--- The rows that substitutions take.
+-- The rows that substitutions take stay within the table.
 use Rattle.std.proofs.Common.{◌≡◌, ℕ, ◌+◌, ◌≤◌, Bool, true, false, List, [], ◌∷◌, None, sym, subst, arith, inl, inr}
 use Rattle.std.specs.Prelude.{◌==◌, nat_le, if◌then◌else◌}
 use Rattle.std.proofs.lemmas.Bool.{cases_eq}
@@ -16,7 +16,7 @@ substitution_within : (h : Header) (nodes : List Node) (first at x past memory :
     substitution_broken h nodes first at x past memory ≡ None → past ≤ h.substs
 substitution_within h nodes first at x past memory none = grind (arith, nat_tests)
 
--- the same for a jump or branch, by whether it is green
+-- likewise for a jump or branch, green or blue
 transfer_within : (h : Header) (nodes : List Node) (first at colour x high low : ℕ) (green : Bool)
     → (if green then zero_broken at x next (zero_broken (at + 4) high next zero_broken (at + 4) low)
     else substitution_broken h nodes first at x high low) ≡ None
@@ -24,7 +24,7 @@ transfer_within : (h : Header) (nodes : List Node) (first at colour x high low :
 transfer_within h nodes first at colour x high low true none few = few
 transfer_within h nodes first at colour x high low false none few = substitution_within h nodes first at x high low none
 
--- the fields of a jump, and of a branch
+-- a jump, and a branch
 jump_past : (h : Header) (nodes : List Node) (first at a b c x high low : ℕ) →
     fields_broken h nodes first at 5 a b c x high low ≡ None → first ≤ h.substs
     → rows_past first (5 ∷ a ∷ b ∷ c ∷ x ∷ high ∷ low ∷ []) ≤ h.substs
@@ -39,7 +39,7 @@ branch_past h nodes first at a b c x high low none few =
     transfer_within h nodes first (at + 4) c x high low (c == 0)
     (after_three (register_broken (at + 1) a) (register_broken (at + 2) b) (colour_broken (at + 3) c) _ none) few
 
--- the fields of an instruction
+-- an instruction, by its fields
 past_of_fields : (h : Header) (nodes : List Node) (first at kind a b c x high low : ℕ) →
     fields_broken h nodes first at kind a b c x high low ≡ None → first ≤ h.substs
     → rows_past first (kind ∷ a ∷ b ∷ c ∷ x ∷ high ∷ low ∷ []) ≤ h.substs
@@ -59,7 +59,7 @@ past_of_fields h nodes first at kind a b c x high low none few =
       ]
     ]
 
--- the rows after an instruction's
+-- the rows up to and including an instruction's are within the table
 pub past_within : (h : Header) (nodes : List Node) (first at : ℕ) (row : List ℕ) → instr_broken h nodes first at row
     ≡ None → first ≤ h.substs → rows_past first row ≤ h.substs
 past_within h nodes first at (kind ∷ a ∷ b ∷ c ∷ x ∷ high ∷ low ∷ []) none few =

@@ -1,4 +1,4 @@
--- Types with their register rows and queue rows, both ways.
+-- Converting types with their register rows and queue rows to records, and back.
 use Rattle.std.proofs.Common.{◌≡◌, ℕ, ◌+◌, ◌-◌, ◌*◌, ◌≤◌, true, List, [], ◌∷◌, ◌++◌, length, take, drop, map, None}
 use Rattle.std.proofs.Common.{refl, sym, ap, ◌∙◌, subst, append_assoc, arith}
 use Rattle.std.specs.Prelude.{nat_le}
@@ -29,7 +29,7 @@ use Rattle.ft_format.proofs.References.{named_again, named_fine}
 use Rattle.ft_format.proofs.Nodes.{same_seven}
 use Rattle.ft_format.proofs.SmallRows.{regs_again, regs_fine, queue_again, queue_fine}
 
--- what a type's record that breaks no rule says
+-- what holds of a valid type record
 pub record TypeAgain (h : Header) (nodes : List Node) (regs queue : ℕ) (row : List ℕ) : Type 0 where
   pub written : regs_end_of row ∷ queue_end_of row ∷ type_memory_of row ∷ type_ints_of row ∷ 0 ∷ 0 ∷ 0 ∷ [] ≡ row
   pub regs_from : regs ≤ regs_end_of row
@@ -80,7 +80,7 @@ type_again h nodes regs queue at (a ∷ b ∷ c ∷ d ∷ e ∷ []) fit n = absu
 type_again h nodes regs queue at (a ∷ b ∷ c ∷ d ∷ e ∷ f ∷ []) fit n = absurd fit.1.1.1.1.1.1
 type_again h nodes regs queue at (a ∷ b ∷ c ∷ d ∷ e ∷ f ∷ g ∷ z ∷ zs) fit n = absurd fit.1.1.1.1.1.1.1
 
--- the values of some rows, and those of the others
+-- the values of the first n rows, and those of the other k
 values_split : {A : Type 0} (f : List ℕ → A) (ws : List Width) (m n k : ℕ) (bs : List ℕ) → m ≡ n + k →
     map f (rows ws m bs) ≡ map f (rows ws n bs) ++ map f (rows ws k (drop (size ws * n) bs))
 values_split f ws m n k bs e = ap (λ i. map f (rows ws i bs)) e ∙ ap (map f) (rows_plus ws n k bs)
@@ -93,7 +93,7 @@ first_part all a b n e long = ap (take n) e ∙ take_at a b n long
 second_part : {A : Type 0} (all a b : List A) (n : ℕ) → all ≡ a ++ b → length a ≡ n → drop n all ≡ b
 second_part all a b n e long = ap (drop n) e ∙ drop_at a b n long
 
--- code types that records and rows stand for
+-- the code types that records and rows encode
 pub record TypesAre (h : Header) (nodes : List Node) (start queue_start : ℕ) (trs : List (List ℕ)) (regs : List RegType)
     (queue : List (ℕ × ℕ)) (ts : List CodeType) : Type 0 where
   pub written : type_rows start queue_start ts ≡ trs
@@ -101,14 +101,14 @@ pub record TypesAre (h : Header) (nodes : List Node) (start queue_start : ℕ) (
   pub all_regs : flat_map regs_of ts ≡ regs
   pub all_queue : flat_map queue_of ts ≡ queue
 
--- the register rows and queue rows that are left
+-- the remaining register rows and queue rows
 abbrev pub regs_left : Header → ℕ → List ℕ → List RegType
 regs_left h start bytes = map reg_type_of (rows reg_layout (h.regs - start) bytes)
 
 abbrev pub queue_left : Header → ℕ → List ℕ → List (ℕ × ℕ)
 queue_left h start bytes = map pair_of (rows pair_layout (h.queue - start) bytes)
 
--- records and rows that break no rule
+-- what holds of valid records and rows
 pub record TypesAgain (h : Header) (nodes : List Node) (start queue_start : ℕ) (trs : List (List ℕ)) (rb qb : List ℕ) :
     Type 0 where
   pub are : TypesAre h nodes start queue_start trs (regs_left h start rb) (queue_left h queue_start qb)
@@ -210,7 +210,7 @@ types_again h nodes start queue_start at regs_at queue_at (row ∷ trs) rb qb fr
           ∙ rows_plus pair_layout queue_count (h.queue - queue_end) qb);
     }
 
--- what is written of code types breaks no rule
+-- the records of code types break no rule
 pub record TypeRowsFine (h : Header) (nodes : List Node) (start queue_start at : ℕ) (ts : List CodeType) : Type 0 where
   pub unbroken : types_broken h nodes start queue_start at (type_rows start queue_start ts) ≡ None
   pub fit : AllFit type_layout (type_rows start queue_start ts)
@@ -262,7 +262,7 @@ type_rows_fine h nodes start queue_start at (t ∷ ts) m i r q =
       );
     }
 
--- one part of what is spelled, and the rest
+-- splitting a spelling into one part and the rest
 spelled_split : {A : Type 0} (ws : List Width) (row : A → List ℕ) (xs ys : List A) (rest : List ℕ) →
     spelled ws (map row (xs ++ ys)) ++ rest ≡ spelled ws (map row xs) ++ (spelled ws (map row ys) ++ rest)
 spelled_split ws row xs ys rest =
@@ -291,7 +291,7 @@ pub fit_append : (ws : List Width) (xs ys : List (List ℕ)) → AllFit ws xs �
 fit_append ws [] ys p q = q
 fit_append ws (x ∷ xs) ys p q = (p.0, fit_append ws xs ys p.1 q)
 
--- what is written of all register rows
+-- the records of all register rows break no rule, and decode to these rows
 pub record AllRegsFine (h : Header) (nodes : List Node) (start queue_start at : ℕ) (ts : List CodeType) (rest : List ℕ)
     : Type 0 where
   pub unbroken : regs_broken h nodes start at (type_rows start queue_start ts)
@@ -327,7 +327,7 @@ all_regs_fine h nodes start queue_start at (t ∷ ts) rest m i e =
           (fit_append reg_layout (map reg_row t.regs) (map reg_row more) own.fit after.fit);
     }
 
--- what is written of all queue rows
+-- the records of all queue rows break no rule, and decode to these rows
 pub record AllQueueFine (h : Header) (nodes : List Node) (start queue_start at : ℕ) (ts : List CodeType) (rest : List ℕ)
     : Type 0 where
   pub unbroken : queues_broken h nodes queue_start at (type_rows start queue_start ts)
@@ -362,7 +362,7 @@ all_queue_fine h nodes start queue_start at (t ∷ ts) rest m i e =
           (fit_append pair_layout (map queue_row t.queue) (map queue_row more) own.fit after.fit);
     }
 
--- the code types that their records and rows stand for
+-- decoding the records and rows of code types gives these code types back
 pub types_back : (start queue_start : ℕ) (ts : List CodeType) →
     types_of start queue_start (type_rows start queue_start ts) (flat_map regs_of ts) (flat_map queue_of ts) ≡ ts
 types_back start queue_start [] = refl

@@ -23,12 +23,12 @@ use Rattle.ft_format.specs.Versions.{magic, is_magic, version_of, last_op, last_
 use Rattle.ft_format.specs.Versions.{longest_name, most_name_bytes, may_follow}
 use Rattle.ft_format.specs.Format.{SupportsOp, SupportsShape, SupportsInstr, SupportsName, Supports}
 
--- bounds of what a version has
+-- bounds that hold in both versions
 pub few_ops : (v : Version) → last_op v ≤ last_op_code
 few_ops First = omega arith
 few_ops Second = omega arith
 
--- the greatest kinds of all versions
+-- the largest kinds in any version
 abbrev pub node_kinds : ℕ
 node_kinds = last_node_kind Second
 
@@ -103,7 +103,7 @@ are_bytes_of_name v [] h = refl
 are_bytes_of_name v (b ∷ bs) h = let two = and_parts (may_follow v b) (list_all (may_follow v) bs) h in
     rw (is_byte_of_name v b two.0, are_bytes_of_name v bs two.1) refl
 
--- how many bytes the names of cells have
+-- the names of at most 1,024 cells are within the maximum size of all names
 pub few_names : (v : Version) (cs : List Cell) → length cs ≤ 1024 → All (SupportsName v) cs →
     sum_by (λ c. length (name_of c)) cs ≤ most_name_bytes v
 few_names First cs few h = omega (
@@ -117,7 +117,7 @@ few_names Second cs few h = omega (
       (h k d lt).short),
 )
 
--- version 2 has all that an object may have
+-- version 2 supports everything that an object may contain
 pub has_op : (op : Op) → SupportsOp Second op
 has_op Add = omega arith
 has_op op = omega arith

@@ -1,4 +1,4 @@
--- What is spelled breaks no rule, and is read again.
+-- The spelling of an object breaks no rule, and decodes to that object.
 use Rattle.std.proofs.Common.{◌≡◌, ℕ, List, [], ◌∷◌, ◌++◌, length, map, None, refl, sym, ap, ◌∙◌, append_assoc, arith}
 use Rattle.ft_types.specs.declared.object.Object.{Object}
 use Rattle.ft_types.specs.Spellable.{IsSpellable}
@@ -20,7 +20,7 @@ use Rattle.ft_format.proofs.Versions.{names_magic}
 use Rattle.ft_format.proofs.SpelledSections.{header_for, small_for, header_fine, header_fit}
 use Rattle.ft_format.proofs.SpelledAgain.{spelled_again}
 
--- the header is the first bytes, whatever follows
+-- the header is read from the first bytes, whatever follows
 header_first : (v : Version) (o : Object) (rest : List ℕ) → IsSpellable o → Supports v o →
     header_at (spelling v o ++ rest) ≡ header_for v o
 unfolding spelling
@@ -42,12 +42,12 @@ header_first v o rest s has =
     ++ (spelled code_layout (map instr_row o.instrs)
     ++ (spelled subst_layout (map subst_row o.substs) ++ all_names o)))))))) ++ rest) (header_fit v o s has))
 
--- a list of no more length
+-- a list that is extended to one of the same length is extended by nothing
 no_more : (a b rest : List ℕ) → a ++ rest ≡ b → length a ≡ length b → rest ≡ []
 no_more a b [] e l = refl
 no_more a b (x ∷ xs) e l = absurd (omega (arith, ap length e, length-append a (x ∷ xs)))
 
--- no spelling begins another
+-- no spelling is a proper prefix of another
 spellings_apart : (v w : Version) (a b : Object) (rest : List ℕ) → IsSpellable a → Supports v a → IsSpellable b →
     Supports w b → spelling v a ++ rest ≡ spelling w b → rest ≡ []
 spellings_apart v w a b rest s m t n e =
@@ -94,7 +94,7 @@ spells_version bytes v o i =
     let a = spelled_again bytes v o i.spellable i.has i.spelled in
     ap version_of a.header ∙ names_magic (header_for v o) v refl
 
--- bytes that spell an object begin no other bytes that do
+-- bytes that spell an object are not a proper prefix of other such bytes
 pub spells_apart : (bytes rest : List ℕ) (v w : Version) (o other : Object) → Spells bytes v o →
     Spells (bytes ++ rest) w other → rest ≡ []
 spells_apart bytes rest v w o other p q = spellings_apart v w o other rest p.spellable p.has q.spellable q.has

@@ -1,4 +1,4 @@
--- Bytes that are put at the end one after the other.
+-- Appending pieces one after the other.
 use Rattle.std.proofs.Common.{ℕ, List, [], ◌++◌, sym, ap, ◌∙◌, append_assoc}
 use Rattle.std.proofs.lemmas.List.{append-nil}
 use Rattle.ft_format.specs.Puts.{Puts}

@@ -26,86 +26,86 @@ abbrev pub first_of_row : List ℕ → ℕ
 first_of_row (n ∷ rest) = n
 first_of_row [] = 0
 
--- cells, whose names begin at `start`
+-- the rules for cells whose names begin at `start`
 unfoldable pub cells_broken : Header → ℕ → ℕ → List (List ℕ) → Option ObjectError
 cells_broken h start at [] = None
 cells_broken h start at (row ∷ rest) = cell_broken h start at row next cells_broken h (past_of row) (at + 16) rest
 
--- nodes, after earlier ones
+-- the rules for nodes that follow the earlier ones
 unfoldable pub nodes_broken : Version → List Node → ℕ → List (List ℕ) → Option ObjectError
 nodes_broken v earlier at [] = None
 nodes_broken v earlier at (row ∷ rest) = node_broken v earlier at row next nodes_broken v (earlier ++ node_of row ∷ []) (at + 16) rest
 
--- types, whose register rows and queue rows begin at these numbers
+-- the rules for types whose register rows and queue rows begin at these numbers
 unfoldable pub types_broken : Header → List Node → ℕ → ℕ → ℕ → List (List ℕ) → Option ObjectError
 types_broken h nodes regs queue at [] = None
 types_broken h nodes regs queue at (row ∷ rest) = type_broken h nodes regs queue at row next types_broken h nodes (regs_end_of row) (queue_end_of row) (at + 16) rest
 
--- register rows of one type
+-- the rules for the register rows of one type
 unfoldable pub type_regs_broken : ℕ → List Node → ℕ → ℕ → ℕ → List (List ℕ) → Option ObjectError
 type_regs_broken types nodes ints least at [] = None
 type_regs_broken types nodes ints least at (row ∷ rest) = reg_broken types nodes ints least at row next type_regs_broken types nodes ints (first_of_row row + 1) (at + 12) rest
 
--- the register rows of types, from row `start`; a row that is left over belongs to none
+-- the rules for the register rows of all types, from row `start`; a left-over row breaks a rule
 unfoldable pub regs_broken : Header → List Node → ℕ → ℕ → List (List ℕ) → List ℕ → Option ObjectError
 regs_broken h nodes start at [] bytes = must (start == h.regs) (errors.Order at)
 regs_broken h nodes start at (row ∷ rest) bytes =
     type_regs_broken h.types nodes (type_ints_of row) 0 at (rows reg_layout (regs_end_of row - start) bytes)
     next regs_broken h nodes (regs_end_of row) (at + 12 * (regs_end_of row - start)) rest (drop (12 * (regs_end_of row - start)) bytes)
 
--- queue rows of one type
+-- the rules for the queue rows of one type
 unfoldable pub type_queue_broken : List Node → ℕ → ℕ → List (List ℕ) → Option ObjectError
 type_queue_broken nodes ints at [] = None
 type_queue_broken nodes ints at (row ∷ rest) = queue_broken nodes ints at row next type_queue_broken nodes ints (at + 8) rest
 
--- the queue rows of types, from row `start`; a row that is left over belongs to none
+-- the rules for the queue rows of all types, from row `start`; a left-over row breaks a rule
 unfoldable pub queues_broken : Header → List Node → ℕ → ℕ → List (List ℕ) → List ℕ → Option ObjectError
 queues_broken h nodes start at [] bytes = must (start == h.queue) (errors.Order at)
 queues_broken h nodes start at (row ∷ rest) bytes =
     type_queue_broken nodes (type_ints_of row) at (rows pair_layout (queue_end_of row - start) bytes)
     next queues_broken h nodes (queue_end_of row) (at + 8 * (queue_end_of row - start)) rest (drop (8 * (queue_end_of row - start)) bytes)
 
--- blocks, after a block that begins at the previous place
+-- the rules for blocks; `previous` is where the block before them begins
 unfoldable pub blocks_broken : Header → Option ℕ → ℕ → List (List ℕ) → Option ObjectError
 blocks_broken h previous at [] = None
 blocks_broken h previous at (row ∷ rest) = block_broken h previous at row next blocks_broken h (Some (first_of_row row)) (at + 8) rest
 
--- instructions, where earlier substitutions took the rows up to `first`
+-- the rules for instructions, where earlier substitutions took the rows up to `first`
 unfoldable pub instrs_broken : Header → List Node → ℕ → ℕ → List (List ℕ) → Option ObjectError
 instrs_broken h nodes first at [] = None
 instrs_broken h nodes first at (row ∷ rest) = instr_broken h nodes first at row next instrs_broken h nodes (rows_past first row) (at + 16) rest
 
--- how many substitution rows the substitutions of instructions take
+-- how many substitution rows the instructions take
 unfoldable pub rows_taken : ℕ → List (List ℕ) → ℕ
 rows_taken first [] = first
 rows_taken first (row ∷ rest) = rows_taken (rows_past first row) rest
 
--- substitution rows
+-- the rules for substitution rows
 unfoldable pub subst_rows_broken : List Node → ℕ → List (List ℕ) → Option ObjectError
 subst_rows_broken nodes at [] = None
 subst_rows_broken nodes at (row ∷ rest) = subst_broken nodes at row next subst_rows_broken nodes (at + 4) rest
 
--- the substitution rows that substitutions take; a row that is left over belongs to none
+-- the rules for the substitution rows that are taken; a left-over row breaks a rule
 abbrev pub substs_broken : Header → List Node → ℕ → ℕ → List ℕ → Option ObjectError
 substs_broken h nodes taken at bytes =
     subst_rows_broken nodes at (rows subst_layout taken bytes)
     next must (taken == h.substs) (errors.Order (at + 4 * taken))
 
--- the bytes of a name after its first
+-- the rules for the bytes of a name after its first
 unfoldable pub name_rest_broken : Version → ℕ → List ℕ → Option ObjectError
 name_rest_broken v at [] = None
 name_rest_broken v at (b ∷ bs) = must (may_follow v b) (errors.Name at) next name_rest_broken v (at + 1) bs
 
--- the bytes of a name
+-- the rules for the bytes of a name
 unfoldable pub name_bytes_broken : Version → ℕ → List ℕ → Option ObjectError
 name_bytes_broken v at [] = None
 name_bytes_broken v at (b ∷ bs) = must (is_letter b) (errors.Name at) next name_rest_broken v (at + 1) bs
 
--- a name, after those of earlier cells
+-- the rules for a name, given the earlier cells
 abbrev pub name_broken : Version → List Cell → ℕ → List ℕ → Option ObjectError
 name_broken v earlier at name = name_bytes_broken v at name next must (not (list_any (λ c. bytes_eq name c.name) earlier)) (errors.Name at)
 
--- the names of cells, after those of earlier ones, up to the end; a byte that is left over belongs to none
+-- the rules for the names of cells, after those of earlier cells, up to `end`; a left-over byte breaks a rule
 unfoldable pub names_broken : Version → ℕ → List Cell → ℕ → List Cell → Option ObjectError
 names_broken v end earlier at [] = must (at == end) (errors.Order at)
 names_broken v end earlier at (c ∷ cs) = name_broken v earlier at c.name next names_broken v end (earlier ++ c ∷ []) (at + length c.name) cs
@@ -194,15 +194,15 @@ substs_part h bytes = drop (substs_at h) bytes
 abbrev pub names_part : Header → List ℕ → List ℕ
 names_part h bytes = drop (names_at h) bytes
 
--- the rows of the types, which the sections of their rows read
+-- the records of the types; the sections of register rows and queue rows use them too
 abbrev pub type_rows_of : Header → List ℕ → List (List ℕ)
 type_rows_of h bytes = rows type_layout h.types (types_part h bytes)
 
--- the rows of the instructions, which the section of substitution rows reads
+-- the records of the instructions; the section of substitution rows uses them too
 abbrev pub instr_rows_of : Header → List ℕ → List (List ℕ)
 instr_rows_of h bytes = rows code_layout h.instrs (instrs_part h bytes)
 
--- the cells that their section spells, with the name bytes
+-- the cells that their section and the name bytes spell
 abbrev pub cells_read : Header → List ℕ → List Cell
 cells_read h bytes = cells_of (names_part h bytes) 0 (rows cell_layout h.cells (cells_part bytes))
 
@@ -218,7 +218,7 @@ regs_read h bytes = map reg_type_of (rows reg_layout h.regs (regs_part h bytes))
 abbrev pub queue_read : Header → List ℕ → List (ℕ × ℕ)
 queue_read h bytes = map pair_of (rows pair_layout h.queue (queue_part h bytes))
 
--- the types that their section spells, with their register rows and queue rows
+-- the types that their section spells, together with the sections of register rows and queue rows
 abbrev pub types_read : Header → List ℕ → List CodeType
 types_read h bytes = types_of 0 0 (type_rows_of h bytes) (regs_read h bytes) (queue_read h bytes)
 
@@ -246,14 +246,14 @@ tables_read h bytes = record {
   entry = h.entry;
 }
 
--- the types with their register rows and queue rows
+-- the rules for types, their register rows and their queue rows
 unfoldable pub code_types_broken : Header → List Node → List ℕ → Option ObjectError
 code_types_broken h nodes bytes =
     types_broken h nodes 0 0 (types_at h) (type_rows_of h bytes)
     next regs_broken h nodes 0 (regs_at h) (type_rows_of h bytes) (regs_part h bytes)
     next queues_broken h nodes 0 (queue_at h) (type_rows_of h bytes) (queue_part h bytes)
 
--- the nine sections in order
+-- the rules for the nine sections, in order
 unfoldable pub tables_broken : Header → List ℕ → Option ObjectError
 tables_broken h bytes =
     cells_broken h 0 48 (rows cell_layout h.cells (cells_part bytes))
@@ -264,15 +264,15 @@ tables_broken h bytes =
     next substs_broken h (nodes_read h bytes) (rows_taken 0 (instr_rows_of h bytes)) (substs_at h) (substs_part h bytes)
     next names_broken (version_of h) (total h) [] (names_at h) (cells_read h bytes)
 
--- the header of bytes
+-- the header of these bytes
 abbrev pub header_at : List ℕ → Header
 header_at bytes = header_of (numbers header_layout bytes)
 
--- the version that the bytes name
+-- the version that these bytes name
 abbrev pub version_at : List ℕ → Version
 version_at bytes = version_of (header_at bytes)
 
--- the rules that come before those of the sections: of the length, of the header, of the total
+-- the rules that are checked before those for the sections: length, header, total
 abbrev pub front_broken : List ℕ → Option ObjectError
 front_broken bytes =
     must (nat_le (length bytes) 67108864) (errors.Length 67108864)
@@ -284,6 +284,6 @@ front_broken bytes =
 unfoldable pub broken : List ℕ → Option ObjectError
 broken bytes = front_broken bytes next tables_broken (header_at bytes) bytes
 
--- the object of bytes that break no rule
+-- the object that valid bytes spell
 abbrev pub object_of : List ℕ → Object
 object_of bytes = tables_read (header_at bytes) bytes

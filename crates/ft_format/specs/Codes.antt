@@ -1,4 +1,4 @@
--- The fields of records: the numbers of colours, registers and basic types, what numbers stand for, and which fit.
+-- Fields of records: the codes of colours, registers and basic types, how codes are decoded, and which values fit.
 use Rattle.std.specs.Prelude.{ℕ, ◌+◌, ◌*◌, ◌^◌, ◌<◌, ◌==◌, Option, Some, None, if◌then◌else◌}
 use Rattle.std.proofs.Common.{refl}
 use borrow.Author.Tests.{ltb-true}
@@ -12,7 +12,7 @@ use Rattle.ft_isa.specs.declared.basic.Base.TheVariants.{Int, Code}
 use Rattle.ft_isa.specs.declared.basic.Basic.{Basic}
 use Rattle.ft_types.specs.NodeRows.{joined}
 
--- a number of this many bits
+-- a number that fits in this many bits
 abbrev pub Is8 : ℕ → Type 0
 Is8 n = n < 2 ^ 8
 
@@ -31,7 +31,7 @@ abbrev pub or_first : Option Reg → Reg
 or_first None = first_register
 or_first (Some r) = r
 
--- the register of a number
+-- the register with this number
 abbrev pub register_of : ℕ → Reg
 register_of n = or_first (reg_of n)
 
@@ -44,7 +44,7 @@ colour_code Blue = 1
 abbrev pub colour_of : ℕ → Colour
 colour_of n = if n == 0 then Green else Blue
 
--- a coloured word, by the code of its colour and the two halves of the word
+-- a coloured word, from its colour code and the two halves of the word
 abbrev pub coloured : ℕ → ℕ → ℕ → Coloured
 coloured colour high low = record { colour = colour_of colour; word = joined high low }
 
@@ -58,11 +58,11 @@ abbrev pub base_type : Base → ℕ
 base_type Int = 0
 base_type (Code t) = t
 
--- a base, by its code and its code type
+-- a base, from its code and its code type
 abbrev pub base_of : ℕ → ℕ → Base
 base_of base code_type = if base == 0 then Int else Code code_type
 
--- a basic type, by its refs, the code of its base and its code type
+-- a basic type, from its refs, the code of its base and its code type
 abbrev pub basic_type_of : ℕ → ℕ → ℕ → Basic
 basic_type_of refs base code_type = record { refs = refs; base = base_of base code_type }
 
@@ -70,11 +70,11 @@ basic_type_of refs base code_type = record { refs = refs; base = base_of base co
 abbrev pub basic_number : Basic → ℕ
 basic_number b = b.refs * 2 ^ 24 + base_code b.base * 2 ^ 16 + base_type b.base
 
--- a base whose code type has 16 bits
+-- a base whose code type fits in 16 bits
 abbrev pub FitsBase : Base → Type 0
 FitsBase Int = Unit {0}
 FitsBase (Code t) = Is16 t
 
--- a basic type of at most 255 refs
+-- a basic type with at most 255 refs and a base that fits
 abbrev pub FitsBasic : Basic → Type 0
 FitsBasic basic = Is8 basic.refs × FitsBase basic.base

@@ -13,11 +13,11 @@ use Rattle.ft_format.specs.Codes.{Is8, Is32, FitsBasic}
 use Rattle.ft_format.specs.NodeRecords.{FitsNode}
 use Rattle.ft_format.specs.InstrRecords.{FitsInstr}
 
--- how many bytes the names of cells have in all
+-- the total size of the cells' names in bytes
 abbrev pub name_byte_count : List Cell → ℕ
 name_byte_count cs = sum_by (λ c. length (name_of c)) cs
 
--- there are fewer than 2^32 rows in each table, register rows in all, queue rows in all, and bytes of names in all
+-- there are fewer than 2^32 rows in each table, and fewer than 2^32 register rows, queue rows and name bytes in all
 pub record HasCounts (o : Object) : Type 0 where
   pub cells : Is32 (length o.cells)
   pub nodes : Is32 (length o.nodes)
@@ -29,25 +29,25 @@ pub record HasCounts (o : Object) : Type 0 where
   pub substs : Is32 (length o.substs)
   pub names : Is32 (name_byte_count o.cells)
 
--- the numbers of a cell
+-- the numbers of a cell fit
 abbrev pub FitsCell : Cell → Type 0
 FitsCell c = FitsBasic c.basic × IsWord c.init
 
--- the numbers of a register row, and of a queue row
+-- the numbers of a register row fit, and those of a queue row
 abbrev pub FitsReg : RegType → Type 0
 FitsReg r = FitsBasic r.basic × Is32 r.expr
 
 abbrev pub FitsPair : ℕ × ℕ → Type 0
 FitsPair q = Is32 q.0 × Is32 q.1
 
--- the numbers of a code type and of its rows
+-- the numbers of a code type and of its rows fit
 pub record FitsType (t : CodeType) : Type 0 where
   pub ints : Is8 t.ints
   pub memory : Is32 t.memory
   pub regs : AllByRecursion FitsReg t.regs
   pub queue : AllByRecursion FitsPair t.queue
 
--- the numbers of a block
+-- the numbers of a block fit
 abbrev pub FitsBlock : Block → Type 0
 FitsBlock b = Is32 b.start × Is32 b.code_type
 

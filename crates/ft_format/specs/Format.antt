@@ -15,33 +15,33 @@ use Rattle.ft_format.specs.declared.version.Version.{Version}
 use Rattle.ft_format.specs.Versions.{last_op, last_node_kind, last_instr_kind, longest_name, may_follow}
 use Rattle.ft_format.specs.Rows.{spelling}
 
--- a version has this operation
+-- the version supports this operation
 abbrev pub SupportsOp : Version → Op → Type 0
 SupportsOp v op = op_code op ≤ last_op v
 
--- a version has nodes of this shape; a remainder is of kind 6
+-- the version supports nodes of this shape; a remainder has kind 6
 abbrev pub SupportsShape : Version → Shape → Type 0
 SupportsShape v (OpNode op a b) = SupportsOp v op
 SupportsShape v (Rem a m) = 6 ≤ last_node_kind v
 SupportsShape v _ = Unit {0}
 
--- a version has this node
+-- the version supports this node
 abbrev pub SupportsNode : Version → Node → Type 0
 SupportsNode v n = SupportsShape v n.shape
 
--- a version has this instruction; an `idx` is of kind 8
+-- the version supports this instruction; an `idx` has kind 8
 abbrev pub SupportsInstr : Version → Instr → Type 0
 SupportsInstr v (OpReg op rd rs rt) = SupportsOp v op
 SupportsInstr v (OpWord op rd rs value) = SupportsOp v op
 SupportsInstr v (Idx rd rs first m) = 8 ≤ last_instr_kind v
 SupportsInstr v _ = Unit {0}
 
--- a version has cells of this name
+-- the version supports the name of this cell
 pub record SupportsName (v : Version) (c : Cell) : Type 0 where
   pub short : length c.name ≤ longest_name v
   pub bytes : list_all (may_follow v) c.name ≡ true
 
--- a version has all that is in this object
+-- the version supports everything in this object
 pub record Supports (v : Version) (o : Object) : Type 0 where
   pub names : All (SupportsName v) o.cells
   pub nodes : All (SupportsNode v) o.nodes

@@ -1,4 +1,4 @@
--- The record of an instruction: its numbers, what they stand for, which instructions fit, and the rules.
+-- The record of an instruction: its numbers, what they encode, which instructions fit, and the rules.
 use Rattle.std.specs.Prelude.{ℕ, ◌+◌, ◌/◌, ◌%◌, ◌^◌, true, ◌==◌, nat_lt, nat_le, List, [], ◌∷◌, Option, Some, None, if◌then◌else◌}
 use Rattle.ft_isa.specs.Words.{IsWord}
 use Rattle.ft_isa.specs.Operations.{op_code, op_of}
@@ -44,7 +44,7 @@ abbrev pub branch_of : Reg → Reg → Option Subst → Instr
 branch_of rz rd None = BzG rz rd
 branch_of rz rd (Some s) = BzB rz rd s
 
--- an instruction, by its kind
+-- an instruction, from its kind and its fields
 abbrev pub instr_by : ℕ → ℕ → ℕ → ℕ → ℕ → ℕ → ℕ → Instr
 instr_by kind a b c x high low =
     if kind == 0 then OpReg (op_of x) (register_of a) (register_of b) (register_of c)
@@ -57,12 +57,12 @@ instr_by kind a b c x high low =
     else (if kind == 7 then Halt
     else Idx (register_of a) (register_of b) x low)))))))
 
--- an instruction, by its record
+-- an instruction, from its record
 abbrev pub instr_of : List ℕ → Instr
 instr_of (kind ∷ a ∷ b ∷ c ∷ x ∷ high ∷ low ∷ []) = instr_by kind a b c x high low
 instr_of _ = Halt
 
--- the row after those that the substitutions up to this instruction take
+-- the row after the last one that the substitutions up to this instruction take
 abbrev pub rows_past : ℕ → List ℕ → ℕ
 rows_past first (kind ∷ a ∷ b ∷ c ∷ x ∷ high ∷ low ∷ []) = if kind == 5 then (if c == 0 then first else high) else (if kind == 6 then (if c == 0 then first else high) else first)
 rows_past first _ = first
@@ -80,7 +80,7 @@ FitsInstr (BzB rz rd subst) = FitsSubst subst
 FitsInstr (Idx rd rs first m) = Is32 first × Is32 m
 FitsInstr _ = Unit {0}
 
--- v, 8 bytes in two halves, that is zero
+-- v, 8 bytes in two halves, is zero
 abbrev pub no_word_broken : ℕ → ℕ → ℕ → Option ObjectError
 no_word_broken at high low = zero_broken at high next zero_broken at low
 
@@ -162,7 +162,7 @@ halt_broken at a b c x high low =
     next zero_broken (at + 4) x
     next no_word_broken (at + 8) high low
 
--- v, 8 bytes in two halves, that is the length of a run from cell x
+-- v, 8 bytes in two halves, is the length of a run that starts at cell x
 abbrev pub run_broken : ℕ → ℕ → ℕ → ℕ → ℕ → Option ObjectError
 run_broken cells at x high low =
     must (high == 0) (errors.Count at)

@@ -1,13 +1,13 @@
--- Records of bytes: a record has fields, and each field is a big-endian number of a width.
+-- Records of bytes: a record has fields, each of them a big-endian number of some width.
 use Rattle.std.specs.Prelude.{ℕ, zero, suc, ◌+◌, List, [], ◌∷◌, ◌++◌, take, drop}
 use Rattle.std.specs.Int.{Width, w8, w16, w32, w64, byte_len, to_be_bytes, from_be_bytes}
 use Rattle.std.specs.List.{flat_map}
 
--- the number in the first bytes, as many as the width has
+-- the number of this width in the first bytes
 unfoldable pub number_of : Width → List ℕ → ℕ
 number_of w bytes = from_be_bytes w (take (byte_len w) bytes)
 
--- a number in as many bytes as the width has
+-- the bytes of a number of this width
 unfoldable pub bytes_of : Width → ℕ → List ℕ
 bytes_of w n = to_be_bytes w n
 
@@ -21,7 +21,7 @@ unfoldable pub numbers : List Width → List ℕ → List ℕ
 numbers [] bytes = []
 numbers (w ∷ ws) bytes = number_of w bytes ∷ numbers ws (drop (byte_len w) bytes)
 
--- the bytes of a record of these numbers
+-- the bytes of a record with these numbers
 unfoldable pub written : List Width → List ℕ → List ℕ
 written [] ns = []
 written (w ∷ ws) [] = []

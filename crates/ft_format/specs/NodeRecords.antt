@@ -1,4 +1,4 @@
--- The record of a node, whose numbers `node_row` has: what they stand for, which nodes fit, and the rules.
+-- The record of a node: what its numbers encode, which nodes fit, and the rules. `node_row` gives the numbers.
 use Rattle.std.specs.Prelude.{ℕ, ◌+◌, Bool, true, false, ◌==◌, nat_lt, nat_le, List, [], ◌∷◌, Option, None, if◌then◌else◌}
 use Rattle.ft_isa.specs.Words.{IsWord}
 use Rattle.ft_isa.specs.Operations.{op_of}
@@ -13,7 +13,7 @@ use Rattle.ft_format.specs.Versions.{last_node_kind}
 use Rattle.ft_format.specs.Codes.{Is8, Is32}
 use Rattle.ft_format.specs.Rules.{must, ◌next◌, zero_broken, count_broken, some_broken, op_broken, named_broken}
 
--- a shape, by its kind
+-- a shape, from its kind and its parts
 abbrev pub shape_of : ℕ → ℕ → ℕ → ℕ → ℕ → Shape
 shape_of kind op a b c =
     if kind == 0 then Word (joined b c)
@@ -24,12 +24,12 @@ shape_of kind op a b c =
     else (if kind == 5 then Upd a b c
     else Rem a b)))))
 
--- a node, by its record
+-- a node, from its record
 abbrev pub node_of : List ℕ → Node
 node_of (kind ∷ op ∷ scope ∷ pad ∷ a ∷ b ∷ c ∷ []) = record { scope = scope; shape = shape_of kind op a b c }
 node_of _ = record { scope = 0; shape = Memory }
 
--- the numbers of a node after its scope fit their fields
+-- the numbers of a shape fit their fields
 abbrev pub FitsShape : Shape → Type 0
 FitsShape (Word w) = IsWord w
 FitsShape (Var i) = Is8 i
@@ -51,7 +51,7 @@ node_op_broken v at kind op = if kind == 2 then op_broken v at op else zero_brok
 abbrev pub variable_broken : ℕ → ℕ → ℕ → ℕ → ℕ → Option ObjectError
 variable_broken at scope a b c = must (nat_lt a scope) (errors.Index (at + 4)) next zero_broken (at + 8) b next zero_broken (at + 12) c
 
--- an operation, or a word of a memory: a node of the sort, and an integer
+-- an operation, or a word of a memory: a node of the given sort, and an integer
 abbrev pub pair_broken : List Node → Bool → ℕ → ℕ → ℕ → ℕ → ℕ → Option ObjectError
 pair_broken earlier memory at scope a b c =
     named_broken earlier scope memory (at + 4) a
@@ -69,7 +69,7 @@ upd_broken earlier at scope a b c =
     next named_broken earlier scope false (at + 8) b
     next named_broken earlier scope false (at + 12) c
 
--- the remainder of an integer by a length
+-- the remainder of an integer divided by a length
 abbrev pub rem_broken : List Node → ℕ → ℕ → ℕ → ℕ → ℕ → Option ObjectError
 rem_broken earlier at scope a b c =
     named_broken earlier scope false (at + 4) a

@@ -1,4 +1,4 @@
--- The numbers that stand for each part of an object but nodes and instructions, and the bytes that are written for an
+-- The numbers that encode the parts of an object, except nodes and instructions, and the bytes that spell a whole
 -- object.
 use Rattle.std.specs.Prelude.{ℕ, ◌+◌, List, [], ◌∷◌, ◌++◌, length, map}
 use Rattle.std.specs.List.{flat_map}

@@ -1,5 +1,5 @@
--- The rules of fields, and of the records but those of nodes and instructions. A broken rule gives its error and its
--- place, and the first one counts.
+-- The rules for fields, and for all records except those of nodes and instructions. A broken rule gives an error with
+-- its place, and only the first one counts.
 use Rattle.std.specs.Prelude.{ℕ, ◌+◌, Bool, true, false, not, ◌==◌, nat_lt, nat_le, List, [], ◌∷◌, length, Option, Some, None, if◌then◌else◌, slice_get}
 use Rattle.ft_static.specs.declared.node.Node.{Node}
 use Rattle.ft_static.specs.NodeRules.{is_memory}
@@ -15,7 +15,7 @@ must true e = None
 must false e = Some e
 
 infixr 5 ◌next◌
--- the result of the first rules, or that of the next ones if none of them is broken
+-- the result of the first rules, or of the next ones if the first are unbroken
 abbrev pub ◌next◌ : Option ObjectError → Option ObjectError → Option ObjectError
 None next rules = rules
 (Some e) next rules = Some e
@@ -79,23 +79,23 @@ cell_broken h start at (past ∷ refs ∷ base ∷ code_type ∷ init ∷ []) =
     next basic_broken h.types (at + 4) refs base code_type
 cell_broken h start at _ = None
 
--- whether a node exists and is of the sort: an integer, or a memory
+-- whether the node exists and has the given sort, integer or memory
 abbrev pub is_of_sort : Bool → Option Node → Bool
 is_of_sort memory None = false
 is_of_sort memory (Some n) = if memory then is_memory n.shape else not (is_memory n.shape)
 
--- whether a node exists and has at most this scope
+-- whether the node exists and its scope is at most this
 abbrev pub is_within : ℕ → Option Node → Bool
 is_within scope None = false
 is_within scope (Some n) = nat_le n.scope scope
 
--- the number of a node of the sort
+-- the number of a node of the given sort
 abbrev pub node_number_broken : List Node → Bool → ℕ → ℕ → Option ObjectError
 node_number_broken nodes memory at n =
     must (nat_lt n (length nodes)) (errors.Index at)
     next must (is_of_sort memory (slice_get nodes n)) (errors.Kind at)
 
--- the number of a node of the sort, within a scope
+-- the number of a node of the given sort, within a scope
 abbrev pub named_broken : List Node → ℕ → Bool → ℕ → ℕ → Option ObjectError
 named_broken nodes scope memory at n =
     node_number_broken nodes memory at n
@@ -116,7 +116,7 @@ type_broken h nodes regs queue at (regs_end ∷ queue_end ∷ memory ∷ ints �
     next zero_broken (at + 13) pad2
 type_broken h nodes regs queue at _ = None
 
--- register row, 12 bytes, of a type with this many variables, where its earlier rows leave registers from `least`
+-- register row, 12 bytes, of a type with this many variables; its register is at least `least`
 abbrev pub reg_broken : ℕ → List Node → ℕ → ℕ → ℕ → List ℕ → Option ObjectError
 reg_broken types nodes ints least at (reg ∷ colour ∷ pad ∷ refs ∷ base ∷ code_type ∷ expr ∷ []) =
     register_broken at reg
@@ -134,7 +134,7 @@ queue_broken nodes ints at (address ∷ value ∷ []) =
     next named_broken nodes ints false (at + 4) value
 queue_broken nodes ints at _ = None
 
--- whether a block may begin here, after a block that begins at that place
+-- whether a block may begin here, given where the previous block begins
 abbrev pub may_begin : Option ℕ → ℕ → Bool
 may_begin None start = start == 0
 may_begin (Some previous) start = nat_lt previous start

@@ -1,4 +1,4 @@
--- The part of an object that the numbers of a record stand for, if they break no rule: all but nodes and instructions.
+-- The parts of an object that valid records encode, except nodes and instructions.
 use Rattle.std.specs.Prelude.{ℕ, ◌-◌, List, [], ◌∷◌, take, drop}
 use Rattle.ft_isa.specs.declared.colour.Colour.TheVariants.{Green}
 use Rattle.ft_types.specs.declared.object.Cell.{Cell}
@@ -43,7 +43,7 @@ abbrev pub type_ints_of : List ℕ → ℕ
 type_ints_of (regs ∷ queue ∷ memory ∷ ints ∷ rest) = ints
 type_ints_of _ = 0
 
--- types, which take the rows that follow one another
+-- types, which take consecutive rows
 abbrev pub types_of : ℕ → ℕ → List (List ℕ) → List RegType → List (ℕ × ℕ) → List CodeType
 types_of regs_start queue_start [] regs queue = []
 types_of regs_start queue_start (row ∷ rest) regs queue =
@@ -55,17 +55,17 @@ types_of regs_start queue_start (row ∷ rest) regs queue =
     }
     ∷ types_of (regs_end_of row) (queue_end_of row) rest (drop (regs_end_of row - regs_start) regs) (drop (queue_end_of row - queue_start) queue)
 
--- a register row, by its record
+-- a register row, from its record
 abbrev pub reg_type_of : List ℕ → RegType
 reg_type_of (reg ∷ colour ∷ pad ∷ refs ∷ base ∷ code_type ∷ expr ∷ []) = record { reg = register_of reg; colour = colour_of colour; basic = basic_type_of refs base code_type; expr = expr }
 reg_type_of _ = record { reg = first_register; colour = Green; basic = basic_type_of 0 0 0; expr = 0 }
 
--- a queue row, by its record: address and value
+-- a queue row, from its record: address and value
 abbrev pub pair_of : List ℕ → ℕ × ℕ
 pair_of (address ∷ value ∷ []) = (address, value)
 pair_of _ = (0, 0)
 
--- a block, by its record
+-- a block, from its record
 abbrev pub block_of : List ℕ → Block
 block_of (start ∷ code_type ∷ []) = record { start = start; code_type = code_type }
 block_of _ = record { start = 0; code_type = 0 }
@@ -75,7 +75,7 @@ abbrev pub subst_node_of : List ℕ → ℕ
 subst_node_of (n ∷ rest) = n
 subst_node_of [] = 0
 
--- the header that its numbers stand for
+-- a header, from its numbers
 abbrev pub header_of : List ℕ → Header
 header_of (magic ∷ cells ∷ nodes ∷ types ∷ regs ∷ queue ∷ blocks ∷ instrs ∷ substs ∷ names ∷ entry ∷ []) = record { magic = magic; cells = cells; nodes = nodes; types = types; regs = regs; queue = queue; blocks = blocks; instrs = instrs; substs = substs; names = names; entry = entry }
 header_of _ = record { magic = 0; cells = 0; nodes = 0; types = 0; regs = 0; queue = 0; blocks = 0; instrs = 0; substs = 0; names = 0; entry = 0 }

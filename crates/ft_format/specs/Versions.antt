@@ -10,7 +10,7 @@ abbrev pub number : Version → ℕ
 number First = 1
 number Second = 2
 
--- the magic number and the version: `TALFT`, and then the number of the version in three bytes
+-- the magic number and the version: `TALFT`, then the version number in three bytes
 abbrev pub magic : Version → ℕ
 magic v = 0x54414c4654000000 + number v
 
@@ -22,17 +22,17 @@ is_magic n = (n == magic First) || (n == magic Second)
 abbrev pub version_of : Header → Version
 version_of h = if h.magic == magic First then First else Second
 
--- the greatest code of an operation
+-- the largest operation code
 abbrev pub last_op : Version → ℕ
 last_op First = 4
 last_op Second = 9
 
--- the greatest code of a node's kind
+-- the largest code of a node kind
 abbrev pub last_node_kind : Version → ℕ
 last_node_kind First = 5
 last_node_kind Second = 6
 
--- the greatest code of an instruction's kind
+-- the largest code of an instruction kind
 abbrev pub last_instr_kind : Version → ℕ
 last_instr_kind First = 7
 last_instr_kind Second = 8

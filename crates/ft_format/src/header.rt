@@ -1,5 +1,4 @@
-//! The numbers of the header: magic and version, the count of each section's records, and the entry
-//! block.
+//! The numbers of the header: magic and version, the number of records in each section, and the entry block.
 ghost use Rattle.std.specs.Prelude.{◌≡◌, ◌≤◌, length, OnOk};
 ghost use Rattle.ft_format.specs.Layout.{numbers, written, header_layout};
 ghost use Rattle.ft_format.specs.Puts.{Puts};
@@ -10,8 +9,8 @@ use crate::numbers::{put_u32, put_u64, read_u32, read_u64};
 use crate::version::Version;
 use ft_isa::NoMemory;
 
-/// The numbers of the header: magic and version, the count of each section's records (of bytes, for the
-/// names), and the entry block.
+/// The numbers of the header: magic and version, the number of records in each section (of bytes, for the names), and
+/// the entry block.
 #[derive(Clone, Copy)]
 pub struct Header {
     pub magic: u64,
@@ -28,7 +27,7 @@ pub struct Header {
 }
 
 impl Header {
-    /// The numbers of the record in the first 48 bytes.
+    /// Reads the record in the first 48 bytes.
     #[tactic(auto, unfolding(crate::specs::Layout::numbers))]
     pub fn read(bytes: &[u8]) -> Header
         requires { 48 ≤ length bytes.now }
@@ -71,7 +70,7 @@ impl Header {
         }
     }
 
-    /// Appends the record's bytes. If memory runs out, some of them may be there.
+    /// Appends the record's bytes. If memory runs out, some of them may have been appended.
     #[tactic(auto, unfolding(crate::specs::Layout::written))]
     pub fn write(self, out: &mut Vec<u8>) -> Result<(), NoMemory>
         ensures { OnOk result (Puts out.old.items out.new.items (written header_layout (header_numbers self))) }

@@ -8,28 +8,28 @@ ghost use Rattle.ft_format.specs.Versions.{number};
 ghost use Rattle.ft_format.specs.declared.version.Version.{Version};
 ghost use Rattle.ft_format.specs.declared.version.Version.TheVariants.{First, Second};
 
-/// Bytes break no rule exactly if they spell an object, and there is only one such object and version.
+/// Bytes break no rule exactly if they spell an object, and the object and the version are unique.
 pub fn rules_are_exact()
-    // If no rule is broken, an object is spelled, in the version that the bytes name.
+    // Bytes that break no rule spell an object, in the version that they name.
     ensures spelled { (bytes : List ℕ) → AreBytes bytes → broken bytes ≡ None → Spells bytes (version_at bytes) (object_of bytes) }
-    // If an object is spelled, no rule is broken.
+    // Bytes that spell an object break no rule.
     ensures unbroken { (bytes : List ℕ) (v : Version) (o : Object) → Spells bytes v o → broken bytes ≡ None }
-    // No other object is spelled, and in no other version.
+    // They spell no other object, and in no other version.
     ensures one { (bytes : List ℕ) (v : Version) (o : Object) → Spells bytes v o → object_of bytes ≡ o }
     ensures version { (bytes : List ℕ) (v : Version) (o : Object) → Spells bytes v o → version_at bytes ≡ v }
     // Byte 7 is the number of the version.
     ensures number { (bytes : List ℕ) (v : Version) (o : Object) → Spells bytes v o → slice_get bytes 7 ≡ Some (number v) }
 {}
 
-/// An object obeys the rules of its tables exactly if some bytes of version 2 spell it, which are those that break no
-/// rule and stand for it; and each version has at most one such list of bytes. In `exact` and `one` the bytes
-/// are judged by `broken` and read by `object_of`, without regard to what is written for an object.
+/// An object obeys the rules of its tables exactly if some version 2 bytes spell it. These are the version 2 bytes that
+/// break no rule and stand for it, and each version has at most one such list of bytes. The clauses `exact` and `one`
+/// judge bytes by `broken` and read them by `object_of`; they don't mention how an object is written.
 pub fn spellings_are_one()
-    // The objects that obey the rules are those that some bytes of version 2 spell.
+    // The objects that obey the rules are those that some version 2 bytes spell.
     ensures spelled { (o : Object) → IsSpellable o ↔ ((bytes : List ℕ) × Spells bytes Second o) }
-    // They are those that bytes of version 2 stand for, if these break no rule.
+    // They are those that valid version 2 bytes stand for.
     ensures exact { (o : Object) → IsSpellable o ↔ ((bytes : List ℕ) × AreBytes bytes × (broken bytes ≡ None) × (version_at bytes ≡ Second) × (object_of bytes ≡ o)) }
-    // Bytes of one version that break no rule and stand for the same object are the same.
+    // Valid bytes of the same version that stand for the same object are equal.
     ensures one { (a b : List ℕ) → AreBytes a → AreBytes b → broken a ≡ None → broken b ≡ None → version_at a ≡ version_at b → object_of a ≡ object_of b → a ≡ b }
 {}
 

@@ -1,12 +1,11 @@
 //! The object format: which bytes spell which object.
 //!
-//! `specs/Rows.antt` says how an object is written. `specs/Rules.antt` and `specs/Broken.antt` have the
-//! rules in their order; `specs/NodeRecords.antt` and `specs/InstrRecords.antt` have those of two records.
-//! `specs/Versions.antt` has what differs between the two versions of the format.
-//! `specs/Format.antt` says which bytes spell which object. The crate promises that these agree
-//! (`src/laws.rt`): bytes break no rule exactly when they spell an object, they spell at most one, an
-//! object has at most one spelling per version, and what version 1 spells, version 2 spells with one byte
-//! changed. It also has each record as a struct of numbers, for reading and writing.
+//! `specs/Rows.antt` says how an object is written. `specs/Rules.antt` and `specs/Broken.antt` have the rules in order,
+//! except those for nodes and instructions, which are in `specs/NodeRecords.antt` and `specs/InstrRecords.antt`.
+//! `specs/Versions.antt` lists what differs between the two versions of the format. `specs/Format.antt` says which
+//! bytes spell which object. The crate promises that these agree (`src/laws.rt`): bytes break no rule exactly when they
+//! spell an object, they spell at most one, an object has at most one spelling per version, and what version 1 spells,
+//! version 2 spells with one byte changed. It also provides each record as a struct of numbers, to read or write.
 #![tactic(auto)]
 
 mod header;

@@ -1,4 +1,4 @@
-//! Big-endian numbers, read from the front of bytes and appended to others.
+//! Reads big-endian numbers from the front of a byte slice, and appends them to a byte vector.
 ghost use Rattle.std.specs.Prelude.{◌≡◌, ◌≤◌, ◌+◌, ◌++◌, ◌∷◌, [], length, drop, OnOk};
 ghost use Rattle.std.specs.Int.{w8, w16, w32, w64};
 ghost use Rattle.ft_format.specs.Puts.{Puts};
@@ -8,7 +8,7 @@ use byteorder::{BigEndian, ByteOrder};
 use ft_isa::NoMemory;
 use ft_types::{joined, row_words};
 
-/// A number of one byte, and the bytes after it.
+/// Reads a one-byte number; also returns the bytes after it.
 #[tactic(auto, unfolding(crate::specs::Layout::number_of))]
 pub(crate) fn read_u8(bytes: &[u8]) -> (u8, &[u8])
     requires { 1 ≤ length bytes.now }
@@ -20,7 +20,7 @@ pub(crate) fn read_u8(bytes: &[u8]) -> (u8, &[u8])
     (front[0], rest)
 }
 
-/// A number of two bytes, and the bytes after it.
+/// Reads a two-byte number; also returns the bytes after it.
 #[tactic(auto, unfolding(crate::specs::Layout::number_of))]
 pub(crate) fn read_u16(bytes: &[u8]) -> (u16, &[u8])
     requires { 2 ≤ length bytes.now }
@@ -32,7 +32,7 @@ pub(crate) fn read_u16(bytes: &[u8]) -> (u16, &[u8])
     (u16::from_be_bytes([front[0], front[1]]), rest)
 }
 
-/// A number of four bytes, and the bytes after it.
+/// Reads a four-byte number; also returns the bytes after it.
 #[tactic(auto, unfolding(crate::specs::Layout::number_of))]
 pub(crate) fn read_u32(bytes: &[u8]) -> (u32, &[u8])
     requires { 4 ≤ length bytes.now }
@@ -47,7 +47,7 @@ pub(crate) fn read_u32(bytes: &[u8]) -> (u32, &[u8])
     )
 }
 
-/// A number of eight bytes, and the bytes after it.
+/// Reads an eight-byte number; also returns the bytes after it.
 #[tactic(auto, unfolding(crate::specs::Layout::number_of))]
 pub(crate) fn read_u64(bytes: &[u8]) -> (u64, &[u8])
     requires { 8 ≤ length bytes.now }
@@ -62,7 +62,7 @@ pub(crate) fn read_u64(bytes: &[u8]) -> (u64, &[u8])
     (number, rest)
 }
 
-/// Appends bytes. It is compiled inline, since the number of bytes is known at each call.
+/// Appends bytes. Always inlined, since each call knows how many bytes there are.
 #[inline(always)]
 pub fn put(out: &mut Vec<u8>, bytes: &[u8]) -> Result<(), NoMemory>
     ensures { OnOk result (Puts out.old.items out.new.items (bytes.now)) }
@@ -71,7 +71,7 @@ pub fn put(out: &mut Vec<u8>, bytes: &[u8]) -> Result<(), NoMemory>
     Ok(())
 }
 
-/// Appends a number of four bytes.
+/// Appends a four-byte number.
 #[tactic(auto, unfolding(crate::specs::Layout::bytes_of))]
 pub(crate) fn put_u32(out: &mut Vec<u8>, n: u32) -> Result<(), NoMemory>
     ensures { OnOk result (Puts out.old.items out.new.items (bytes_of w32 n)) }
@@ -81,7 +81,7 @@ pub(crate) fn put_u32(out: &mut Vec<u8>, n: u32) -> Result<(), NoMemory>
     put(out, &bytes)
 }
 
-/// Appends a number of eight bytes.
+/// Appends an eight-byte number.
 #[inline(always)]
 #[tactic(auto, unfolding(crate::specs::Layout::bytes_of))]
 pub(crate) fn put_u64(out: &mut Vec<u8>, n: u64) -> Result<(), NoMemory>
@@ -92,7 +92,7 @@ pub(crate) fn put_u64(out: &mut Vec<u8>, n: u64) -> Result<(), NoMemory>
     put(out, &bytes)
 }
 
-/// The record of four numbers of one byte and three of four bytes, as two numbers of eight bytes.
+/// A record of four one-byte and three four-byte numbers, as two eight-byte numbers.
 #[inline(always)]
 pub(crate) fn code_words(a: u8, b: u8, c: u8, d: u8, x: u32, y: u32, z: u32) -> (u64, u64)
     ensures { bytes_of w64 result.0 ++ bytes_of w64 result.1 ≡ written code_layout (a ∷ b ∷ c ∷ d ∷ x ∷ y ∷ z ∷ []) }
@@ -100,7 +100,7 @@ pub(crate) fn code_words(a: u8, b: u8, c: u8, d: u8, x: u32, y: u32, z: u32) -> 
     row_words(a, b, c, d, x, y, z)
 }
 
-/// Appends two numbers of eight bytes.
+/// Appends two eight-byte numbers.
 #[inline(always)]
 pub(crate) fn put_words(out: &mut Vec<u8>, words: (u64, u64)) -> Result<(), NoMemory>
     ensures { OnOk result (Puts out.old.items out.new.items (bytes_of w64 words.0 ++ bytes_of w64 words.1)) }
@@ -109,7 +109,7 @@ pub(crate) fn put_words(out: &mut Vec<u8>, words: (u64, u64)) -> Result<(), NoMe
     put_u64(out, words.1)
 }
 
-/// Appends two numbers of four bytes, as one of eight bytes.
+/// Appends two four-byte numbers as one eight-byte number.
 #[inline(always)]
 pub fn put_pair(out: &mut Vec<u8>, first: u32, second: u32) -> Result<(), NoMemory>
     ensures { OnOk result (Puts out.old.items out.new.items (bytes_of w32 first ++ bytes_of w32 second)) }

@@ -3,16 +3,16 @@ ghost use Rattle.std.specs.Prelude.{◌≡◌};
 
 use thiserror::Error;
 
-/// The first rule of the format that bytes break. `at` is the place of the field that breaks it, counted in bytes from
-/// 0; but for `Length` it is 67,108,864 if there are more bytes than that, else the smaller of the number of bytes and
-/// of the required number, 48 for the header or the header's total.
+/// The first rule of the format that bytes break. `at` is the offset in bytes of the field that breaks it. For `Length`
+/// it is 67,108,864 if there are more bytes than that, else the smaller of the number of bytes and the required number,
+/// which is 48 for the header and then the header's total.
 #[derive(Clone, Copy, Debug, PartialEq, Eq, Error)]
 pub enum ObjectError {
     /// The bytes do not begin with the magic number of a version.
     #[error("object 1 {at}")]
     Magic { at: usize },
-    /// There are more than 67,108,864 bytes, or fewer than the 48 of a header, or not as many as the header's counts
-    /// need.
+    /// There are more than 67,108,864 bytes, fewer than the 48 of a header, or not exactly as many as the header's
+    /// counts require.
     #[error("object 2 {at}")]
     Length { at: usize },
     /// A count, a scope or a length is out of its range.
@@ -24,14 +24,14 @@ pub enum ObjectError {
     /// A code has no meaning, there are too many refs, or a node is of the wrong sort.
     #[error("object 5 {at}")]
     Kind { at: usize },
-    /// The number of a part that does not exist, or may not be used here.
+    /// A number refers to a part that does not exist or may not be used here.
     #[error("object 6 {at}")]
     Index { at: usize },
-    /// Ends, beginnings or registers do not increase, or exceed what there is; the rows of a substitution do not follow
-    /// those before; or rows or name bytes belong to nothing.
+    /// Ends or beginnings are out of order or out of range, registers are out of order, the rows of a substitution do
+    /// not follow the previous ones, or there are stray rows or name bytes.
     #[error("object 7 {at}")]
     Order { at: usize },
-    /// A name is too long, has a byte that is not allowed there, or is another cell's too.
+    /// A name is too long, has a byte that is not allowed there, or is another cell's name.
     #[error("object 8 {at}")]
     Name { at: usize },
     /// The entry block does not exist.
@@ -42,7 +42,7 @@ pub enum ObjectError {
 impl ObjectError {
     ghost use Rattle.ft_format.specs.Errors.{error_number, error_place};
 
-    /// The number of the rule, from 1.
+    /// The number of the error, from 1.
     pub fn number(self) -> u32
         ensures { result ≡ error_number self }
     {
@@ -59,7 +59,7 @@ impl ObjectError {
         }
     }
 
-    /// The `at` of the error.
+    /// The place of the error, its `at`.
     pub fn place(self) -> usize
         ensures { result ≡ error_place self }
     {

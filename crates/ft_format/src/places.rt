@@ -20,7 +20,7 @@ pub struct Places {
 impl Places {
     ghost use Rattle.ft_format.specs.Places.{ArePlaces};
 
-    /// The places that the counts of a header give.
+    /// Computes the places from the counts of a header.
     pub fn of(header: Header) -> Places
         requires { IsSmall header }
         ensures { ArePlaces header result }

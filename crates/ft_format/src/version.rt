@@ -1,7 +1,7 @@
 //! The versions of the object format, and what differs between them.
 ghost use Rattle.std.specs.Prelude.{◌≡◌};
 
-/// A version of the object format. The second one has all that the first one has, and more.
+/// A version of the object format. The second extends the first.
 #[derive(Clone, Copy, Debug, PartialEq, Eq)]
 pub enum Version {
     /// Version 1.
@@ -13,7 +13,7 @@ pub enum Version {
 impl Version {
     ghost use Rattle.ft_format.specs.Versions.{magic, last_op, last_node_kind, last_instr_kind, longest_name, most_name_bytes};
 
-    /// The magic number and the version: `TALFT`, and then the number of the version in three bytes.
+    /// The magic number and the version: `TALFT`, then the version number in three bytes.
     pub fn magic(self) -> u64
         ensures { result ≡ magic self }
     {
@@ -23,7 +23,7 @@ impl Version {
         }
     }
 
-    /// The greatest code of an operation.
+    /// The largest operation code.
     pub fn last_op(self) -> u32
         ensures { result ≡ last_op self }
     {
@@ -33,7 +33,7 @@ impl Version {
         }
     }
 
-    /// The greatest code of a node's kind.
+    /// The largest code of a node kind.
     pub fn last_node_kind(self) -> u8
         ensures { result ≡ last_node_kind self }
     {
@@ -43,7 +43,7 @@ impl Version {
         }
     }
 
-    /// The greatest code of an instruction's kind.
+    /// The largest code of an instruction kind.
     pub fn last_instr_kind(self) -> u8
         ensures { result ≡ last_instr_kind self }
     {

@@ -1,4 +1,4 @@
--- What came out of a test, of a value's map or of a choice by words.
+-- What follows from the result of a test, of a map over an option, or of a choice by words.
 use Rattle.std.proofs.Common.{◌≡◌, ℕ, Bool, true, false, List, Option, Some, None, eqb, ◌⊎◌, refl, sym, subst, inl, inr}
 use Rattle.std.proofs.Common.{if◌then◌else◌}
 use Rattle.std.specs.Option.{option_map}
@@ -6,24 +6,24 @@ use Rattle.std.specs.Str.{bytes_eq}
 use Rattle.std.proofs.lemmas.Bool.{eqb-true}
 use Rattle.std.proofs.lemmas.Slice.Eq.{bytes_eq-Decides}
 
--- a value that a test let through
+-- a value returned because a test held
 pub if_some : {A : Type 0} (test : Bool) (x y : A) → (if test then Some x else None) ≡ Some y → (test ≡ true) × (x ≡ y)
 if_some true x y e = (refl, cc)
 if_some false x y e = absurd cc
 
--- a value that came out of one of two branches
+-- a value returned by one of two branches
 pub of_branch : {A : Type 0} (test : Bool) (o p : Option A) (y : A) → (if test then o else p) ≡ Some y →
     ((test ≡ true) × (o ≡ Some y)) ⊎ (p ≡ Some y)
 of_branch true o p y e = inl (refl, e)
 of_branch false o p y e = inr e
 
--- a value that was made of another
+-- a value mapped from another
 pub of_map : {A B : Type 0} (f : A → B) (o : Option A) (y : B) → option_map f o ≡ Some y → (x : A)
     × ((o ≡ Some x) × (f x ≡ y))
 of_map f None y e = absurd cc
 of_map f (Some x) y e = (x, (refl, cc))
 
--- what holds at one letter, or past it, holds of what came out of the test for that letter
+-- if P holds for this letter and for the result on other letters, it holds for the result of testing for this letter
 pub of_letter : {A : Type 0} (P : ℕ → A → Type 0) (b c : ℕ) (made after : A) (o : Option A) → P c made →
     (o ≡ Some after → P b after) → (if eqb b c then Some made else o) ≡ Some after → P b after
 of_letter {A} P b c made after o here other e =
@@ -34,11 +34,11 @@ of_letter {A} P b c made after o here other e =
       | inr left ↦ other left
     ]
 
--- a word that is this one
+-- a word that tests equal to another is that other word
 pub same_word : (w v : List ℕ) → bytes_eq w v ≡ true → w ≡ v
 same_word w v e = (bytes_eq-Decides w v).0 e
 
--- what came of a word, or of none of the words before
+-- the result of a choice by words comes from this word or from a later one
 pub chosen : {A : Type 0} (P : List ℕ → A → Type 0) (v w : List ℕ) (x y : Option A) → ((a : A) → x ≡ Some a → P v a) →
     ((a : A) → y ≡ Some a → P w a) → (a : A) → (if bytes_eq w v then x else y) ≡ Some a → P w a
 chosen P v w x y h i a e = elim (of_branch (bytes_eq w v) x y a e) [
@@ -46,7 +46,7 @@ chosen P v w x y h i a e = elim (of_branch (bytes_eq w v) x y a e) [
   | inr other ↦ i a other
 ]
 
--- the value of a word that is known
+-- the known value of a word
 pub known : {A : Type 0} (P : List ℕ → A → Type 0) (v : List ℕ) (b : A) → P v b → (a : A) → Some b ≡ Some a → P v a
 known P v b h a e = let same : b ≡ a = cc in subst (P v) same h
 

@@ -1,4 +1,4 @@
--- The derived tests of colours and of operations find the same ones.
+-- The derived equality tests on colours and on operations are exact.
 use Rattle.std.proofs.Common.{◌≡◌, Decides}
 use denote.Enum.Bare.{sameb, same_true, true_same}
 use Rattle.ft_isa.specs.contracts.colour.Colour as the_colour

@@ -1,4 +1,4 @@
--- What the kinds of instructions exclude, and cases of an instruction by what it does.
+-- Which kinds of instructions exclude each other, and case analysis by what an instruction does.
 use Rattle.std.proofs.Common.{◌≡◌, ℕ, Bool, true, false, ◌||◌, Option, Some, None, refl}
 use Rattle.ft_isa.specs.declared.colour.Colour.{Colour}
 use Rattle.ft_isa.specs.declared.reg.Reg.{Reg}
@@ -21,7 +21,7 @@ kind_of (BzB rz rd subst) = fixed refl refl
 kind_of Halt = fixed refl refl
 kind_of i = write _ refl refl
 
--- an instruction that leads is not fixed
+-- a leading instruction is not fixed
 pub leading_is_free : (i : Instr) → is_leading i ≡ true → is_fixed i ≡ false
 leading_is_free i h = by_kind (kind_of i) h
   where
@@ -30,7 +30,7 @@ leading_is_free i h = by_kind (kind_of i) h
     by_kind (store colour rd rs) h = refl
     by_kind (write r f w) h = f
 
--- an instruction that is fixed does not lead
+-- a fixed instruction is not leading
 pub fixed_never_leads : (i : Instr) → is_fixed i ≡ true → is_leading i ≡ false
 fixed_never_leads i h = by_kind (kind_of i) h
   where

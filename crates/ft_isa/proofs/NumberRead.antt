@@ -21,7 +21,7 @@ pub is_digit-from : (d : ℕ) → d < 10 → is_digit (48 + d) ≡ true
 is_digit-from d h = and_from (nat_le 48 (48 + d)) (nat_le (48 + d) 57) (le-leb 48 (48 + d) (omega arith))
     (le-leb (48 + d) 57 (omega arith))
 
--- what was read of a number
+-- the text of what has been read of a number
 abbrev pub number_told : Option ℕ → List ℕ
 number_told None = []
 number_told (Some n) = decimal n
@@ -35,7 +35,7 @@ IsNumberRead (Some n) = IsWord n
 abbrev pub next_number : Option ℕ → ℕ → Option (Option ℕ)
 next_number number byte = option_map Some (with_digit number byte)
 
--- a digit that was taken is a digit
+-- a byte that was read as a digit is one
 pub taken_digit : (number : Option ℕ) (b n : ℕ) → with_digit number b ≡ Some n → (48 ≤ b) × (b ≤ 57)
 taken_digit None b n e = is_digit-true b (if_some (is_digit b) (b - 48) n e).0
 taken_digit (Some m) b n e =

@@ -1,4 +1,4 @@
--- Operations: what each gives of two words is a word, and its code and its word name no other.
+-- Operations: the result on two words is a word, and no two operations share a code or a word.
 use Rattle.std.proofs.Common.{◌≡◌, ℕ, zero, suc, ◌*◌, ◌/◌, ◌%◌, ◌^◌, ◌≤◌, ◌==◌, Bool, true, false, List, Some, codes}
 use Rattle.std.proofs.Common.{nat_lt, lit<, refl, arith}
 use Rattle.std.specs.Prelude.{if◌then◌else◌}
@@ -22,7 +22,7 @@ word_or_nothing : (b : Bool) (x : ℕ) → IsWord x → IsWord (if b then x else
 word_or_nothing true x h = h
 word_or_nothing false x h = lit< tt
 
--- what an operation gives of two words is a word
+-- the result of an operation on two words is a word
 pub apply_is_word : (o : Op) (a b : ℕ) → IsWord a → IsWord b → IsWord (apply o a b)
 unfolding apply
 apply_is_word Add a b h k = mod-lt _ (lit< tt)
@@ -39,17 +39,17 @@ apply_is_word Shr a b h k = word_or_nothing (nat_lt b 64) (a / 2 ^ b) (let e = d
 
 -- CODES
 
--- an operation is that of its code
+-- the code of an operation gives the operation back
 pub op_back : (o : Op) → op_of (op_code o) ≡ o
 op_back Add = refl
 op_back o = refl
 
--- the code of an operation is at most the greatest one
+-- the code of an operation is at most the largest one
 pub op_small : (o : Op) → op_code o ≤ last_op_code
 op_small Add = omega arith
 op_small o = omega arith
 
--- a code up to the greatest one is that of its operation
+-- a code up to the largest one is the code of its operation
 pub code_again : (n : ℕ) → n ≤ last_op_code → op_code (op_of n) ≡ n
 code_again zero h = refl
 code_again (suc zero) h = refl
@@ -68,7 +68,7 @@ code_again (suc (suc (suc (suc (suc (suc (suc (suc (suc (suc n)))))))))) h = abs
 abbrev IsItsWord : List ℕ → Op → Type 0
 IsItsWord w o = w ≡ op_word o
 
--- a word that is read as an operation is that of the operation
+-- a word that is read as an operation is the word of that operation
 pub op_sound : (w : List ℕ) (o : Op) → op_in w ≡ Some o → w ≡ op_word o
 unfolding op_in
 op_sound w =
@@ -84,7 +84,7 @@ op_sound w =
     (chosen IsItsWord (codes "shr") w _ _ (known IsItsWord (codes "shr") Shr refl)
     (none_is (IsItsWord w)))))))))))
 
--- the word of an operation is read as the operation
+-- the word of an operation is read as that operation
 pub op_complete : (o : Op) → op_in (op_word o) ≡ Some o
 unfolding op_in
 op_complete Add = refl

@@ -1,4 +1,4 @@
--- Readers that go byte by byte: what holds of any reader whose states record what was read.
+-- Readers that work byte by byte: what holds of any reader whose states record what was read.
 use Rattle.std.proofs.Common.{◌≡◌, ℕ, ◌+◌, ◌<◌, ◌≤◌, List, [], ◌∷◌, ◌++◌, length, take, drop, get_or, Option, Some}
 use Rattle.std.proofs.Common.{None, refl, sym, ap, ◌∙◌, subst, inl, inr, arith, append_assoc}
 use Rattle.std.specs.Option.{option_and_then}
@@ -7,7 +7,7 @@ use Rattle.std.proofs.lemmas.Bool.{cases_lt}
 use Rattle.ft_isa.specs.PlanText.{IsViable, IsRefusedAt}
 use Rattle.ft_isa.specs.Reading.{state_after}
 
--- the state after two pieces is that after the second, from that after the first
+-- the state after two pieces is reached by reading the second from the state after the first
 pub state_after-append : {S : Type 0} (next : S → ℕ → Option S) (s : S) (xs ys : List ℕ) → state_after next s (xs ++ ys)
     ≡ option_and_then (λ t. state_after next t ys) (state_after next s xs)
 state_after-append next s [] ys = refl
@@ -16,7 +16,7 @@ state_after-append next s (x ∷ xs) ys =
     ≡ option_and_then (λ t. state_after next t ys) (option_and_then (λ a. state_after next a xs) o))
     [ None ↦ refl | Some t ↦ state_after-append next t xs ys ]
 
--- a second piece is read from where the first led
+-- a second piece is read from the state after the first
 pub state_after-on : {S : Type 0} (next : S → ℕ → Option S) (s t : S) (xs ys : List ℕ) → state_after next s xs
     ≡ Some t → state_after next s (xs ++ ys) ≡ state_after next t ys
 state_after-on next s t xs ys e = state_after-append next s xs ys ∙ ap (option_and_then (λ a. state_after next a ys)) e
@@ -31,7 +31,7 @@ pub state_after-byte : {S : Type 0} (next : S → ℕ → Option S) (s t : S) (x
     state_after next s (x ∷ xs) ≡ state_after next t xs
 state_after-byte next s t x xs e = ap (option_and_then (λ a. state_after next a xs)) e
 
--- a loop's step: one more byte of a text
+-- one step of a loop: one more byte of a text
 pub state_after-more : {S : Type 0} (next : S → ℕ → Option S) (s t u : S) (xs : List ℕ) (i : ℕ) → i < length xs →
     state_after next s (take i xs) ≡ Some t → next t (get_or xs i 0) ≡ Some u → state_after next s (take (i + 1) xs)
     ≡ Some u
@@ -39,7 +39,7 @@ state_after-more next s t u xs i below e f =
     ap (state_after next s) (take_more xs i 0 below) ∙ state_after-on next s t (take i xs) (get_or xs i 0 ∷ []) e
     ∙ state_after-byte next t u (get_or xs i 0) [] f
 
--- a reader inside another goes as it does by itself
+-- a reader inside another behaves as it does on its own
 pub state_after-inside : {S T : Type 0} (next : S → ℕ → Option S) (outer : T → ℕ → Option T) (f : S → T) →
     ((s t : S) (b : ℕ) → next s b ≡ Some t → outer (f s) b ≡ Some (f t)) → (s t : S) (xs : List ℕ) →
     state_after next s xs ≡ Some t → state_after outer (f s) xs ≡ Some (f t)
@@ -54,7 +54,7 @@ state_after-inside {S} {T} next outer f h s t (x ∷ xs) e =
     ] in
     go refl e
 
--- the states of a reader record what was read, begin some text, and end as the text's value
+-- a reader's states record what was read, which is the beginning of some text; a complete text gives its value
 pub record IsReader {S V : Type 0} (next : S → ℕ → Option S) (whole : S → Option V) (start : S) (told : S →
     List ℕ) (Good : S → Type 0) (Tells : List ℕ → V → Type 0) : Type 0 where
   pub begins : told start ≡ []
@@ -64,7 +64,7 @@ pub record IsReader {S V : Type 0} (next : S → ℕ → Option S) (whole : S �
   pub goes_on : (s : S) → Good s → IsViable Tells (told s)
   pub complete : (xs : List ℕ) (v : V) → Tells xs v → option_and_then whole (state_after next start xs) ≡ Some v
 
--- a place within a front, and what follows there
+-- a position within a prefix, and what follows there
 pub split_front : (xs zs : List ℕ) (i n : ℕ) → i < n → n ≤ length xs → (ws : List ℕ)
     × (take n xs ++ zs ≡ take i xs ++ get_or xs i 0 ∷ ws)
 split_front xs zs i n below within =
@@ -107,7 +107,7 @@ module _ {S V : Type 0} (next : S → ℕ → Option S) (whole : S → Option V)
       let all = told_after start s xs reader.good e in
       (all.0 ∙ ap (λ ys. ys ++ xs) reader.begins, all.1)
 
-  -- a value that was read whole has the text
+  -- a value that was read completely has this text
   pub reads_ok : (s : S) (v : V) (xs : List ℕ) → state_after next start xs ≡ Some s → whole s ≡ Some v → Tells xs v
   reads_ok s v xs e f =
       let all = told_whole s xs e in
@@ -117,7 +117,7 @@ module _ {S V : Type 0} (next : S → ℕ → Option S) (whole : S → Option V)
   pub reads_only : (s : S) (v : V) (xs : List ℕ) → state_after next start xs ≡ Some s → Tells xs v → whole s ≡ Some v
   reads_only s v xs e h = sym (ap (option_and_then whole) e) ∙ reader.complete xs v h
 
-  -- no text goes on by a byte at which a state has no next one
+  -- no text continues with a byte for which the state has no next state
   pub no_text_past : (s : S) (xs ys : List ℕ) (b : ℕ) (v : V) → state_after next start xs ≡ Some s → next s b ≡ None →
       ¬ (Tells (xs ++ b ∷ ys) v)
   no_text_past s xs ys b v e f h =
@@ -128,7 +128,7 @@ module _ {S V : Type 0} (next : S → ℕ → Option S) (whole : S → Option V)
       ≡ None = ap (option_and_then whole) (on ∙ stops) in
       cc
 
-  -- a text is refused at the byte at which a state has no next one
+  -- a text is refused at the byte for which the state has no next state
   pub refused_at : (s : S) (xs : List ℕ) (i : ℕ) → i < length xs → state_after next start (take i xs) ≡ Some s →
       next s (get_or xs i 0) ≡ None → IsRefusedAt Tells xs i
   refused_at s xs i below e f =
@@ -150,7 +150,7 @@ module _ {S V : Type 0} (next : S → ℕ → Option S) (whole : S → Option V)
         };
       }
 
-  -- a text that only lacks something is refused at its end
+  -- an incomplete text is refused at its end
   pub refused_at_end : (s : S) (xs : List ℕ) → state_after next start xs ≡ Some s → whole s ≡ None →
       IsRefusedAt Tells xs (length xs)
   refused_at_end s xs e f =

@@ -5,23 +5,23 @@ use Rattle.std.proofs.Math.Bridge.{le_prop}
 use Rattle.ft_isa.specs.Registers.{reg_if, reg_of}
 use Rattle.ft_isa.specs.declared.reg.Reg.{Reg}
 
--- a number below 64 makes one register
+-- a number below 64 determines its register
 pub some_reg : (n : ℕ) (b : Bool) (e : nat_lt n 64 ≡ b) (h : n < 64) → b ≡ true →
     Some (record { number = n; in_range = h }) ≡ reg_if n b e
 some_reg n true e h t = ap (λ p. Some (record { number = n; in_range = p })) (le_prop h (ltb-true n 64 e))
 some_reg n false e h t = absurd (true≢false (sym t))
 
--- the register of a register's number is that register
+-- a register's number gives the register back
 pub reg_of-number : (reg : Reg) → reg_of reg.number ≡ Some reg
 reg_of-number reg = sym (some_reg reg.number (nat_lt reg.number 64) refl reg.in_range
     (lt-ltb reg.number 64 reg.in_range))
 
--- a register that was made of a number has that number
+-- a register made from a number has that number
 reg_if-number : (n : ℕ) (b : Bool) (e : nat_lt n 64 ≡ b) (reg : Reg) → reg_if n b e ≡ Some reg → reg.number ≡ n
 reg_if-number n true e reg f = let same : record { number = n; in_range = ltb-true n 64 e } ≡ reg = cc in
     sym (ap (λ (r : Reg). r.number) same)
 reg_if-number n false e reg f = absurd cc
 
--- a register of a number has that number
+-- the register that `reg_of` gives for a number has that number
 pub number-reg_of : (n : ℕ) (reg : Reg) → reg_of n ≡ Some reg → reg.number ≡ n
 number-reg_of n reg f = reg_if-number n (nat_lt n 64) refl reg f

@@ -18,7 +18,7 @@ use Rattle.ft_isa.proofs.Registers.{reg_of-number, number-reg_of}
 use Rattle.ft_isa.proofs.Branches.{if_some, of_map, of_letter}
 use Rattle.ft_isa.proofs.NumberRead.{number_told, IsNumberRead, more_digits, first_digit, last_digit}
 
--- what was read of a site
+-- the text of what has been read of a site
 abbrev pub site_told : SiteRead → List ℕ
 site_told sites.Empty = []
 site_told sites.P = codes "p"
@@ -29,7 +29,7 @@ site_told sites.Qv = codes "qv"
 site_told sites.R = codes "r"
 site_told (sites.Whole site) = site_text site
 
--- a site that was read has its place in the queue
+-- the queue place of a site that was read is below 8
 abbrev pub IsSiteRead : SiteRead → Type 0
 IsSiteRead (sites.Whole site) = IsSite site
 IsSiteRead _ = Unit {0}
@@ -92,7 +92,7 @@ site_step (sites.Whole PcB) t b g e = absurd cc
 site_step (sites.Whole (QAddr place)) t b g e = absurd cc
 site_step (sites.Whole (QVal place)) t b g e = absurd cc
 
--- no site goes on by a colon
+-- no site continues with a colon
 no_colon : (s : SiteRead) → next_site s 58 ≡ None
 no_colon sites.Empty = refl
 no_colon sites.P = refl
@@ -168,7 +168,7 @@ reads_site (QVal place) g =
     ap (state_after next_site sites.Qv) (decimal_digit place (omega arith))
     ∙ state_after-byte next_site sites.Qv (sites.Whole (QVal place)) (48 + place) [] (reads_place QVal place g)
 
--- what was read of a site goes on to the text of some site
+-- what was read of a site can be continued to the text of some site
 pub site_goes_on : (s : SiteRead) → IsSiteRead s → (site : Site)
     × ((rest : List ℕ) × (IsSite site × (site_told s ++ rest ≡ site_text site)))
 site_goes_on sites.Empty g = (D, (codes "d", (tt, refl)))
@@ -182,7 +182,7 @@ site_goes_on sites.R g =
     (R zeroth, (decimal 0, (tt, refl)))
 site_goes_on (sites.Whole site) g = (site, ([], (g, append-nil (site_text site))))
 
--- a site that was read whole
+-- the state of a site that was read completely
 pub is_whole : (s : SiteRead) (site : Site) → whole_site s ≡ Some site → s ≡ sites.Whole site
 is_whole (sites.Whole whole) site e = cc
 is_whole sites.Empty site e = absurd cc
@@ -193,13 +193,13 @@ is_whole sites.Qa site e = absurd cc
 is_whole sites.Qv site e = absurd cc
 is_whole sites.R site e = absurd cc
 
--- a site that was read completely is recorded by its text
+-- the state of a completely read site records the text of that site
 site_ends : (s : SiteRead) (site : Site) → IsSiteRead s → whole_site s ≡ Some site → IsSiteText (site_told s) site
 site_ends s site g e =
     let whole : s ≡ sites.Whole site = is_whole s site e in
     (subst IsSiteRead whole g, ap site_told whole)
 
--- what was read of a site begins a site's text
+-- what was read of a site is a prefix of some site's text
 site_viable : (s : SiteRead) → IsSiteRead s → IsViable IsSiteText (site_told s)
 site_viable s g = (let on = site_goes_on s g in (on.0, (on.1.0, on.1.1)))
 
@@ -209,7 +209,7 @@ site_complete : (text : List ℕ) (site : Site) → IsSiteText text site →
 site_complete text site h = ap (λ t. option_and_then whole_site (state_after next_site sites.Empty t)) h.1
     ∙ ap (option_and_then whole_site) (reads_site site h.0)
 
--- sites are read byte by byte
+-- the reader of sites records what it read
 pub site_reader : IsReader next_site whole_site sites.Empty site_told IsSiteRead IsSiteText
 site_reader = record {
   begins = refl;

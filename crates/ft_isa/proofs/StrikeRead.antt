@@ -19,13 +19,13 @@ use Rattle.ft_isa.proofs.Branches.{of_branch, of_map}
 use Rattle.ft_isa.proofs.NumberRead.{number_told, IsNumberRead, next_number, taken_digit, more_digits, reads_decimal}
 use Rattle.ft_isa.proofs.SiteRead.{site_told, IsSiteRead, is_whole, site_step, site_byte, reads_site, site_goes_on}
 
--- what was read of a strike
+-- the text of what has been read of a strike
 abbrev pub strike_told : StrikeRead → List ℕ
 strike_told (AtStep number) = number_told number
 strike_told (AtSite step site) = decimal step ++ codes ":" ++ site_told site
 strike_told (AtValue step site value) = decimal step ++ codes ":" ++ site_text site ++ codes ":" ++ number_told value
 
--- a strike that was read has words for numbers, and a place of the queue
+-- the numbers of a strike that was read are words, and its queue place is below 8
 abbrev pub IsStrikeRead : StrikeRead → Type 0
 IsStrikeRead (AtStep number) = IsNumberRead number
 IsStrikeRead (AtSite step site) = IsWord step × IsSiteRead site
@@ -39,7 +39,7 @@ GoesOn told b after = (strike_told after ≡ told ++ b ∷ []) × IsStrikeRead a
 digit_byte : (number : Option ℕ) (b n : ℕ) → with_digit number b ≡ Some n → eqb b 58 ≡ false
 digit_byte number b n e = let digit = taken_digit number b n e in ne_eqb b 58 (λ f. omega (arith, digit.1))
 
--- the step is read as a number is
+-- the step is read like a number on its own
 step_inside : (m n : Option ℕ) (b : ℕ) → next_number m b ≡ Some n → next_strike (AtStep m) b ≡ Some (AtStep n)
 step_inside m n b e =
     let made = of_map {A = ℕ} Some (with_digit m b) n e in
@@ -47,7 +47,7 @@ step_inside m n b e =
     else option_map (λ step. AtStep (Some step)) (with_digit m b)) (digit_byte m b made.0 made.1.0)
     ∙ ap (option_map (λ step. AtStep (Some step))) made.1.0 ∙ ap (λ x. Some (AtStep x)) made.1.1
 
--- the site is read as a site is
+-- the site is read like a site on its own
 site_inside : (step : ℕ) (s t : SiteRead) (b : ℕ) → next_site s b ≡ Some t → next_strike (AtSite step s) b
     ≡ Some (AtSite step t)
 site_inside step s t b e =
@@ -55,14 +55,14 @@ site_inside step s t b e =
     else option_map (AtSite step) (next_site s b)) (site_byte s t b e)
     ∙ ap (option_map (AtSite step)) e
 
--- the value is read as a number is
+-- the value is read like a number on its own
 value_inside : (step : ℕ) (site : Site) (m n : Option ℕ) (b : ℕ) → next_number m b ≡ Some n →
     next_strike (AtValue step site m) b ≡ Some (AtValue step site n)
 value_inside step site m n b e =
     let made = of_map {A = ℕ} Some (with_digit m b) n e in
     ap (option_map (λ more. AtValue step site (Some more))) made.1.0 ∙ ap (λ x. Some (AtValue step site x)) made.1.1
 
--- pieces around a site that continues
+-- a site that continues, with the pieces around it
 joined : (step told rest site value : List ℕ) → told ++ rest ≡ site → step ++ codes ":" ++ told
     ++ (rest ++ codes ":" ++ value) ≡ step ++ codes ":" ++ site ++ codes ":" ++ value
 joined step told rest site value e = sym (ap (λ ds. step ++ codes ":" ++ ds ++ codes ":" ++ value) (sym e)
@@ -117,7 +117,7 @@ strike_step (AtValue step site value) t b g e =
       (g.0, g.1, more.1),
     )
 
--- a strike that was read completely is recorded by its text
+-- the state of a completely read strike records the text of that strike
 strike_ends : (s : StrikeRead) (strike : Strike) → IsStrikeRead s → whole_strike s ≡ Some strike →
     IsStrikeText (strike_told s) strike
 strike_ends (AtStep number) strike g e = absurd cc
@@ -128,7 +128,7 @@ strike_ends (AtValue step site (Some value)) strike g e =
     let same : made ≡ strike = cc in
     subst (λ (s : Strike). IsStrikeText (strike_text made) s) same (g, refl)
 
--- what was read of a strike goes on to the text of some strike
+-- what was read of a strike can be continued to the text of some strike
 strike_goes_on : (s : StrikeRead) → IsStrikeRead s → IsViable IsStrikeText (strike_told s)
 strike_goes_on (AtStep None) g =
     let zeroth : Strike = record { step = 0; site = D; value = 0 } in

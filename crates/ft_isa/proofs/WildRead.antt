@@ -17,7 +17,7 @@ use Rattle.ft_isa.proofs.Readers.{state_after-on, state_after-byte, state_after-
 use Rattle.ft_isa.proofs.Branches.{of_branch, of_map, of_letter}
 use Rattle.ft_isa.proofs.NumberRead.{next_number, taken_digit, more_digits, reads_decimal}
 
--- what was read of a wild answer
+-- the text of what has been read of a wild answer
 abbrev pub answer_told : AnswerRead → List ℕ
 answer_told answers.Empty = []
 answer_told (answers.Number word) = decimal word
@@ -59,7 +59,7 @@ no_comma answers.St = refl
 no_comma answers.Sto = refl
 no_comma answers.Stop = refl
 
--- a wild answer that was read completely is recorded by its text
+-- the state of a completely read wild answer records the text of that answer
 answer_ends : (s : AnswerRead) (answer : Wild) → IsAnswerRead s → whole_answer s ≡ Some answer →
     (answer_told s ≡ answer_text answer) × IsAnswer answer
 answer_ends answers.Empty answer g e = absurd cc
@@ -73,7 +73,7 @@ answer_ends answers.Stop answer g e =
     let same : wilds.Stop ≡ answer = cc in
     subst (λ (w : Wild). (codes "stop" ≡ answer_text w) × IsAnswer w) same (refl, tt)
 
--- what was read of a wild answer continues to the text of some answer
+-- what was read of a wild answer can be continued to the text of some answer
 answer_goes_on : (s : AnswerRead) → IsAnswerRead s → (answer : Wild)
     × ((rest : List ℕ) × (IsAnswer answer × (answer_told s ++ rest ≡ answer_text answer)))
 answer_goes_on answers.Empty g = (wilds.Stop, (codes "stop", (tt, refl)))
@@ -88,7 +88,7 @@ abbrev number_state : Option ℕ → AnswerRead
 number_state None = answers.Empty
 number_state (Some word) = answers.Number word
 
--- a number is read as a number is
+-- a number in a wild answer is read like a number on its own
 number_inside : (m n : Option ℕ) (b : ℕ) → next_number m b ≡ Some n → next_answer (number_state m) b
     ≡ Some (number_state n)
 number_inside None n b e =
@@ -113,17 +113,17 @@ reads_answer (wilds.Word word) g = state_after-inside next_number next_answer nu
     (Some word) (decimal word) (reads_decimal word g)
 reads_answer wilds.Stop g = refl
 
--- the answer of its state
+-- the state of an answer gives the answer back
 whole_state : (answer : Wild) → whole_answer (answer_state answer) ≡ Some answer
 whole_state (wilds.Word word) = refl
 whole_state wilds.Stop = refl
 
--- wild answers that were read, each before its comma
+-- the text of wild answers that were read, each followed by a comma
 abbrev pub passed_text : List Wild → List ℕ
 passed_text [] = []
 passed_text (answer ∷ done) = answer_text answer ++ codes "," ++ passed_text done
 
--- what was read of wild answers
+-- the text of what has been read of wild answers
 abbrev pub wild_told : WildRead → List ℕ
 wild_told read = passed_text read.done ++ answer_told read.part
 
@@ -131,11 +131,11 @@ wild_told read = passed_text read.done ++ answer_told read.part
 abbrev pub IsWildRead : WildRead → Type 0
 IsWildRead read = (length read.done < 4096) × AllByRecursion IsAnswer read.done × IsAnswerRead read.part
 
--- a state of these answers and this part
+-- a state with these answers and this part
 abbrev pub wild_at : List Wild → AnswerRead → WildRead
 wild_at done part = record { done = done; part = part }
 
--- one more answer before its comma
+-- one more answer, followed by its comma
 passed_text_push : (done : List Wild) (answer : Wild) → passed_text (done ++ answer ∷ []) ≡ passed_text done
     ++ (answer_text answer ++ codes ",")
 passed_text_push [] answer = append-nil (answer_text answer ++ codes ",")
@@ -143,14 +143,14 @@ passed_text_push (first ∷ done) answer =
     ap (λ ds. answer_text first ++ codes "," ++ ds) (passed_text_push done answer)
     ∙ sym (append_assoc (answer_text first ++ codes ",") (passed_text done) (answer_text answer ++ codes ","))
 
--- a comma before each is a comma after each but the last
+-- a comma before each answer is one in front, and one after each answer but the last
 more_answers_push : (done : List Wild) (answer : Wild) → more_answers_text (done ++ answer ∷ []) ≡ codes ","
     ++ (passed_text done ++ answer_text answer)
 more_answers_push [] answer = append-nil (codes "," ++ answer_text answer)
 more_answers_push (first ∷ done) answer =
     ap (λ ds. codes "," ++ answer_text first ++ ds) (more_answers_push done answer) ∙ simp append_assoc
 
--- the text of wild answers, by its last one
+-- the text of wild answers, split before the last one
 wild_text_push : (done : List Wild) (answer : Wild) → wild_text (done ++ answer ∷ []) ≡ passed_text done
     ++ answer_text answer
 wild_text_push [] answer = append-nil (answer_text answer)
@@ -206,7 +206,7 @@ wild_step s t b g e =
           )
     ]
 
--- wild answers that were read completely are recorded by their text
+-- the state of completely read wild answers records the text of these answers
 wild_ends : (s : WildRead) (list : List Wild) → IsWildRead s → whole_wild s ≡ Some list → IsWildText (wild_told s) list
 wild_ends s list g e =
     let made = of_map (λ answer. s.done ++ answer ∷ []) (whole_answer s.part) list e in
@@ -217,7 +217,7 @@ wild_ends s list g e =
           ∙ sym (wild_text_push s.done made.0),
     )
 
--- what was read of wild answers continues to the text of some
+-- what was read of wild answers can be continued to the text of some answers
 wild_goes_on : (s : WildRead) → IsWildRead s → IsViable IsWildText (wild_told s)
 wild_goes_on s g =
     let last = answer_goes_on s.part g.2 in (
@@ -232,7 +232,7 @@ wild_goes_on s g =
       ),
     )
 
--- a comma past the last answer that there is room for
+-- a comma when there is no room for another answer
 pub no_room : (done : List Wild) (part : AnswerRead) (b : ℕ) → b ≡ 44 → 4096 ≤ length done + 1 →
     next_wild (wild_at done part) b ≡ None
 no_room done part b comma full =
@@ -261,7 +261,7 @@ next_in_part done part b other =
     then option_map (λ answer. wild_at (done ++ answer ∷ []) answers.Empty) (whole_answer part) else None)
     else option_map (λ s. wild_at done s) (next_answer part b)) (ne_eqb b 44 other)
 
--- an answer is read after others as it is by itself
+-- an answer after others is read like an answer on its own
 answer_inside : (done : List Wild) (s t : AnswerRead) (b : ℕ) → next_answer s b ≡ Some t → next_wild (wild_at done s) b
     ≡ Some (wild_at done t)
 answer_inside done s t b e =

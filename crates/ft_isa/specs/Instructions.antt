@@ -1,5 +1,5 @@
--- What each instruction is: whether it is fixed, its colour, the registers that it reads and writes, and the stores.
--- Other crates use these definitions.
+-- Properties of instructions: which are fixed, which are leading, which registers each reads and writes, and which are
+-- green or blue stores. Other crates use these definitions.
 use Rattle.std.specs.Prelude.{ℕ, Bool, true, false, ◌||◌, ◌==◌, nat_lt, Option, Some, None}
 use Rattle.ft_isa.specs.declared.colour.Colour.{Colour}
 use Rattle.ft_isa.specs.declared.colour.Colour.TheVariants.{Green, Blue}
@@ -62,7 +62,7 @@ first_read (BzB rz rd subst) = Some rz.number
 first_read (Idx rd rs first m) = Some rs.number
 first_read i = None
 
--- the second one, if any
+-- the second register that an instruction reads, if any
 abbrev pub second_read : Instr → Option ℕ
 second_read (OpReg op rd rs rt) = Some rt.number
 second_read (St colour rd rs) = Some rs.number
@@ -70,7 +70,7 @@ second_read (BzG rz rd) = Some rd.number
 second_read (BzB rz rd subst) = Some rd.number
 second_read i = None
 
--- whether a register, if one is given, is register r
+-- whether a register is given and is register r
 abbrev pub is_register : Option ℕ → ℕ → Bool
 is_register None r = false
 is_register (Some q) r = q == r

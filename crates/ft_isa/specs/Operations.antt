@@ -17,11 +17,11 @@ op_code Xor = 7
 op_code Shl = 8
 op_code Shr = 9
 
--- the greatest code
+-- the largest code
 abbrev pub last_op_code : ℕ
 last_op_code = 9
 
--- the operation of a code
+-- the operation with this code
 abbrev pub op_of : ℕ → Op
 op_of n =
     if n == 0 then Add
@@ -48,7 +48,7 @@ op_word Xor = codes "xor"
 op_word Shl = codes "shl"
 op_word Shr = codes "shr"
 
--- the operation of a word
+-- the operation that a word names, if any
 unfoldable pub op_in : List ℕ → Option Op
 op_in word =
     if bytes_eq word (codes "add") then Some Add

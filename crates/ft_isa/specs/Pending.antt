@@ -2,7 +2,7 @@
 use Rattle.std.specs.Prelude.{ℕ, zero, suc, Bool, false, ◌&&◌, List, [], ◌∷◌, Option, Some, None, ◌==◌, if◌then◌else◌}
 use Rattle.std.specs.Option.{option_or}
 
--- the stores that wait to be committed, oldest first
+-- the stores waiting to be committed, oldest first
 abbrev pub Pending : Type 0
 Pending = List (ℕ × ℕ)
 
@@ -16,13 +16,13 @@ unfoldable pub newest_at : Pending → ℕ → Option ℕ
 newest_at [] a = None
 newest_at (e ∷ q) a = option_or (newest_at q a) (if e.0 == a then Some e.1 else None)
 
--- the queue with another address in entry i, counted from the oldest as 0
+-- the queue with the address of entry i replaced; the oldest entry is entry 0
 unfoldable pub with_address : Pending → ℕ → ℕ → Pending
 with_address [] i v = []
 with_address (e ∷ q) zero v = (v, e.1) ∷ q
 with_address (e ∷ q) (suc i) v = e ∷ with_address q i v
 
--- the queue with another value in entry i
+-- the queue with the value of entry i replaced
 unfoldable pub with_value : Pending → ℕ → ℕ → Pending
 with_value [] i v = []
 with_value (e ∷ q) zero v = (e.0, v) ∷ q

@@ -1,4 +1,4 @@
--- The texts of strikes and of wild answers, by how they are written, and where other texts are refused.
+-- The texts of strikes and of wild answers, and where other texts are refused.
 use Rattle.std.specs.Prelude.{◌≡◌, ℕ, ◌<◌, ◌≤◌, List, [], ◌∷◌, ◌++◌, length, take, decimal, codes}
 use Rattle.std.specs.List.{AllByRecursion}
 use Rattle.ft_isa.specs.Words.{IsWord}
@@ -10,7 +10,7 @@ use Rattle.ft_isa.specs.declared.plan.Wild.TheVariants.{Word, Stop}
 use Rattle.ft_isa.specs.declared.wild_text.WildError.{WildError}
 use Rattle.ft_isa.specs.declared.wild_text.WildError.TheVariants.{Form, NoMemory}
 
--- a number text is the decimal digits of a word
+-- a number text consists of the decimal digits of a word
 abbrev pub IsNumberText : List ℕ → ℕ → Type 0
 IsNumberText text n = IsWord n × (text ≡ decimal n)
 
@@ -33,7 +33,7 @@ site_text (QVal place) = codes "qv" ++ decimal place
 abbrev pub IsSiteText : List ℕ → Site → Type 0
 IsSiteText text site = IsSite site × (text ≡ site_text site)
 
--- a strike has a text if its numbers are words and its site's place is one of the queue
+-- a strike has a text if its numbers are words and any queue place in its site is below 8
 abbrev pub IsStrike : Strike → Type 0
 IsStrike strike = IsWord strike.step × IsSite strike.site × IsWord strike.value
 
@@ -83,12 +83,12 @@ pub record IsLongestViable {V : Type 0} (Tells : List ℕ → V → Type 0) (tex
   pub viable : IsViable Tells (take at text)
   pub longest : (n : ℕ) → n ≤ length text → IsViable Tells (take n text) → n ≤ at
 
--- the text spells no value, and is refused at the end of its longest prefix with which some such text begins
+-- the text spells no value, and is refused at the end of its longest prefix that begins some text of this kind
 pub record IsRefusedAt {V : Type 0} (Tells : List ℕ → V → Type 0) (text : List ℕ) (at : ℕ) : Type 0 where
   pub none : (value : V) → ¬ (Tells text value)
   pub place : IsLongestViable Tells text at
 
--- a refusal of the text of wild answers is at its place; running out of memory claims nothing
+-- `Form` gives the place where a text that spells no wild answers is refused; `NoMemory` claims nothing
 abbrev pub IsWildError : List ℕ → WildError → Type 0
 IsWildError text (Form at) = IsRefusedAt IsWildText text at
 IsWildError text NoMemory = Unit {0}

@@ -23,12 +23,12 @@ state_after next state (byte ∷ bytes) = option_and_then (λ after. state_after
 abbrev pub is_digit : ℕ → Bool
 is_digit byte = nat_le 48 byte && nat_le byte 57
 
--- a number and one more digit, if that is the number text of a word
+-- a number with one more digit, if that is a number text
 abbrev pub with_digit : Option ℕ → ℕ → Option ℕ
 with_digit None byte = if is_digit byte then Some (byte - 48) else None
 with_digit (Some n) byte = if is_digit byte && not (n == 0) && nat_lt (n * 10 + (byte - 48)) (2 ^ 64) then Some (n * 10 + (byte - 48)) else None
 
--- a register's number and one more digit
+-- a register's number with one more digit, if that is a register's number
 abbrev pub with_register_digit : Option ℕ → ℕ → Option SiteRead
 with_register_digit number byte = option_map (λ reg. sites.Whole (R reg)) (option_and_then reg_of (with_digit number byte))
 
@@ -36,7 +36,7 @@ with_register_digit number byte = option_map (λ reg. sites.Whole (R reg)) (opti
 abbrev pub queue_place : (ℕ → Site) → ℕ → Option SiteRead
 queue_place site byte = if nat_le 48 byte && nat_le byte 55 then Some (sites.Whole (site (byte - 48))) else None
 
--- a site and one more byte
+-- what has been read of a site, after one more byte
 abbrev pub next_site : SiteRead → ℕ → Option SiteRead
 next_site sites.Empty byte = if byte == 100 then Some (sites.Whole D) else (if byte == 112 then Some sites.P else (if byte == 113 then Some sites.Q else (if byte == 114 then Some sites.R else None)))
 next_site sites.P byte = if byte == 99 then Some sites.Pc else None
@@ -52,23 +52,23 @@ next_site (sites.Whole PcB) byte = None
 next_site (sites.Whole (QAddr place)) byte = None
 next_site (sites.Whole (QVal place)) byte = None
 
--- the site that was read completely
+-- the site, if it was read completely
 abbrev pub whole_site : SiteRead → Option Site
 whole_site (sites.Whole site) = Some site
 whole_site _ = None
 
--- a strike and one more byte
+-- what has been read of a strike, after one more byte
 abbrev pub next_strike : StrikeRead → ℕ → Option StrikeRead
 next_strike (AtStep number) byte = if byte == 58 then option_map (λ step. AtSite step sites.Empty) number else option_map (λ step. AtStep (Some step)) (with_digit number byte)
 next_strike (AtSite step site) byte = if byte == 58 then option_map (λ whole. AtValue step whole None) (whole_site site) else option_map (AtSite step) (next_site site byte)
 next_strike (AtValue step site value) byte = option_map (λ more. AtValue step site (Some more)) (with_digit value byte)
 
--- the strike that was read completely
+-- the strike, if it was read completely
 abbrev pub whole_strike : StrikeRead → Option Strike
 whole_strike (AtValue step site (Some value)) = Some (record { step = step; site = site; value = value })
 whole_strike _ = None
 
--- a wild answer and one more byte
+-- what has been read of a wild answer, after one more byte
 abbrev pub next_answer : AnswerRead → ℕ → Option AnswerRead
 next_answer answers.Empty byte = if byte == 115 then Some answers.S else option_map answers.Number (with_digit None byte)
 next_answer (answers.Number word) byte = option_map answers.Number (with_digit (Some word) byte)
@@ -77,7 +77,7 @@ next_answer answers.St byte = if byte == 111 then Some answers.Sto else None
 next_answer answers.Sto byte = if byte == 112 then Some answers.Stop else None
 next_answer answers.Stop byte = None
 
--- the wild answer that was read completely
+-- the wild answer, if it was read completely
 abbrev pub whole_answer : AnswerRead → Option Wild
 whole_answer (answers.Number word) = Some (wilds.Word word)
 whole_answer answers.Stop = Some wilds.Stop
@@ -88,10 +88,10 @@ pub record WildRead : Type 0 where
   pub done : List Wild
   pub part : AnswerRead
 
--- wild answers and one more byte
+-- what has been read of wild answers, after one more byte
 abbrev pub next_wild : WildRead → ℕ → Option WildRead
 next_wild read byte = if byte == 44 then (if nat_lt (length read.done + 1) 4096 then option_map (λ answer. record { done = read.done ++ answer ∷ []; part = answers.Empty }) (whole_answer read.part) else None) else option_map (λ part. record { done = read.done; part = part }) (next_answer read.part byte)
 
--- the wild answers that were read completely
+-- the wild answers, if they were read completely
 abbrev pub whole_wild : WildRead → Option (List Wild)
 whole_wild read = option_map (λ answer. read.done ++ answer ∷ []) (whole_answer read.part)

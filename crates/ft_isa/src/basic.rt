@@ -9,7 +9,7 @@ pub enum Base {
     Code(u16),
 }
 
-/// A basic type: `refs` times `ref`, and then the base.
+/// A basic type: `ref` repeated `refs` times, then the base.
 #[derive(Clone, Copy, Debug, PartialEq, Eq)]
 pub struct Basic {
     pub refs: u8,

@@ -1,11 +1,11 @@
 //! The words, instructions and plans of the machine.
 //!
-//! The crate promises that operations are arithmetic modulo 2^64, bitwise operations or shifts, that one
-//! table gives their codes and words, that another says which registers each instruction reads and writes,
-//! that a register's number is below 64, that an output's line is its cell's name and its value in decimal
-//! digits, that a count of steps grows by exactly what is counted, and that the texts of sites, strikes and
-//! wild answers are read exactly. Its definitions: `specs/Words.antt`, `specs/Operations.antt`,
-//! `specs/Instructions.antt`, `specs/Registers.antt`, `specs/PlanText.antt`.
+//! The crate promises that operations are arithmetic modulo 2^64, bitwise operations or shifts, that one table gives
+//! their codes and words, that another says which registers each instruction reads and writes, that a register's number
+//! is below 64, that an output's line is its cell's name and its value in decimal digits, that a count of steps grows
+//! by exactly what is counted, and that the readers of sites, strikes and wild answers accept exactly their texts. Its
+//! definitions: `specs/Words.antt`, `specs/Operations.antt`, `specs/Instructions.antt`, `specs/Registers.antt`,
+//! `specs/PlanText.antt`.
 #![tactic(auto)]
 
 mod basic;

@@ -1,4 +1,4 @@
-//! Out of memory.
+//! The error of running out of memory.
 use std::alloc::AllocError;
 use thiserror::Error;
 

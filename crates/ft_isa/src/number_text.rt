@@ -3,7 +3,7 @@ ghost use Rattle.std.specs.Prelude.{◌≡◌, ℕ, Some, IfSome};
 ghost use Rattle.ft_isa.specs.PlanText.{IsNumberText};
 ghost use Rattle.ft_isa.specs.Reading.{with_digit};
 
-/// A number and one more digit; `None` if no number text begins like this.
+/// A number with one more digit; `None` if no number text begins like this.
 pub(crate) fn with_digit(number: Option<u64>, byte: u8) -> Option<u64>
     ensures { result ≡ with_digit number byte }
 {

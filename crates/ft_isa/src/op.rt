@@ -22,9 +22,9 @@ pub enum Op {
     Or,
     /// The bits set in exactly one of the words.
     Xor,
-    /// The first word times 2 to the second, modulo 2^64: 0 if the second is 64 or more.
+    /// The first word times 2 to the power of the second, modulo 2^64: 0 if the second is 64 or more.
     Shl,
-    /// The first word divided by 2 to the second, rounded down: 0 if the second is 64 or more.
+    /// The first word divided by 2 to the power of the second, rounded down: 0 if the second is 64 or more.
     Shr,
 }
 
@@ -49,7 +49,7 @@ impl Op {
         }
     }
 
-    /// The operation of a code; any code above 8 is `shr`.
+    /// The operation with this code; any code above 8 is `shr`.
     #[inline(always)]
     pub fn of_code(code: u32) -> Op
         ensures { result ≡ op_of code }
@@ -86,7 +86,7 @@ impl Op {
         }
     }
 
-    /// The operation of a word; `None` if the word is not an operation's.
+    /// The operation that a word names; `None` if it names none.
     #[tactic(auto, unfolding(crate::specs::Operations::op_in))]
     pub fn of_word(word: &[u8]) -> Option<Op>
         ensures { result ≡ op_in word.now }

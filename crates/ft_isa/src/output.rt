@@ -11,16 +11,16 @@ pub struct Output {
     pub value: u64,
 }
 
-/// The address of the first cell; the others follow one by one.
+/// The address of the first cell; the others follow consecutively.
 pub const FIRST_CELL: u64 = 1_048_576;
 
-/// The maximum number of bytes of a line besides its name: a space, 20 digits and a line feed.
+/// The maximum number of bytes in a line besides the name: a space, 20 digits and a line feed.
 pub const VALUE_ROOM: usize = 22;
 
-/// The maximum number of bytes of an output's line if the name has at most 40 bytes.
+/// The maximum number of bytes in an output's line if the name has at most 40 bytes.
 pub const LINE_ROOM: usize = 62;
 
-/// Puts a piece into a buffer so that it ends at a place, and returns where it begins.
+/// Writes a piece into a buffer so that it ends at `end`, and returns where it begins.
 #[inline(always)]
 fn put_before(buf: &mut [u8], end: usize, piece: &[u8]) -> usize
     requires room { length piece.now ≤ end }
@@ -34,8 +34,8 @@ fn put_before(buf: &mut [u8], end: usize, piece: &[u8]) -> usize
     start
 }
 
-/// Writes an output's line into a buffer, up to its end, and returns where the line begins. Digits are found from the
-/// last to the first, so each is written where it stays.
+/// Writes an output's line at the end of a buffer, and returns where the line begins. Digits are produced last to
+/// first, so each is written directly to its final place.
 #[inline(always)]
 pub fn write_line(buf: &mut [u8], name: &[u8], value: u64) -> usize
     requires { length name.now + VALUE_ROOM ≤ length buf.old }

@@ -1,8 +1,8 @@
 //! What happens to a run: at most one strike, and the answers to wild loads.
 use crate::reg::Reg;
 
-/// A place that a fault may strike. Queue places count from the oldest entry as 0; a plan's are 0
-/// to 7.
+/// A place that a fault may strike. Queue places are counted from the oldest entry, which is 0; in a plan they are 0 to
+/// 7.
 #[derive(Clone, Copy, Debug, PartialEq, Eq)]
 pub enum Site {
     /// The word of a general register.
@@ -36,7 +36,7 @@ pub enum Wild {
     Stop,
 }
 
-/// What happens to a run: a strike or none, and the answers to its wild loads in turn.
+/// What happens to a run: at most one strike, and the answers to its wild loads in order.
 #[derive(Clone, Copy)]
 pub struct Plan<'w> {
     pub strike: Option<Strike>,

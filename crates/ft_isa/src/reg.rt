@@ -11,7 +11,7 @@ pub struct Reg {
 impl Reg {
     ghost use Rattle.ft_isa.specs.Registers.{reg_of};
 
-    /// The register of a number; `None` exactly if the number is 64 or more.
+    /// The register with this number; `None` exactly if the number is 64 or more.
     pub fn new(n: u8) -> Option<Reg>
         ensures { result ≡ reg_of n }
     {
@@ -22,7 +22,7 @@ impl Reg {
         }
     }
 
-    /// The register of a number below 64.
+    /// The register with this number, which is below 64.
     pub fn below(n: u8) -> Reg
         requires { n < 64 }
         ensures { result.number ≡ n }

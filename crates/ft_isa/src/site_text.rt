@@ -7,7 +7,7 @@ use crate::number_text::with_digit;
 use crate::plan::Site;
 use crate::reg::Reg;
 
-/// What was read of a site: its first letters, or all of it. A register's number may still continue.
+/// What has been read of a site: its first letters, or all of it. A register's number may still continue.
 #[derive(Clone, Copy)]
 pub(crate) enum SiteRead {
     Empty,
@@ -20,7 +20,7 @@ pub(crate) enum SiteRead {
     Whole(Site),
 }
 
-/// A register's number and one more digit; `None` if no register's number begins like this.
+/// A register's number with one more digit; `None` if no register's number begins like this.
 fn with_register_digit(number: Option<u8>, byte: u8) -> Option<SiteRead>
     ensures { result ≡ with_register_digit number byte }
 {

@@ -16,7 +16,7 @@ pub struct Form {
     pub at: usize,
 }
 
-/// What was read of a strike, by the part that was begun last.
+/// What has been read of a strike, by the part that is being read.
 #[derive(Clone, Copy)]
 enum StrikeRead {
     AtStep(Option<u64>),

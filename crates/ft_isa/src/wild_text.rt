@@ -11,8 +11,8 @@ use thiserror::Error;
 /// Why a text spells no wild answers.
 #[derive(Clone, Copy, Debug, PartialEq, Eq, Error)]
 pub enum WildError {
-    /// The text is not one of wild answers. `at` is the length of its longest prefix that is a prefix of some text of
-    /// wild answers.
+    /// The text does not spell wild answers. `at` is the length of its longest prefix that is also a prefix of some
+    /// text that does.
     #[error("no wild answers at byte {at}")]
     Form { at: usize },
     /// Memory ran out.
@@ -23,7 +23,7 @@ pub enum WildError {
 /// The maximum number of answers in a text.
 const WILD_LIMIT: usize = 4_096;
 
-/// What was read of a wild answer.
+/// What has been read of a wild answer.
 #[derive(Clone, Copy)]
 enum AnswerRead {
     Empty,
@@ -80,7 +80,7 @@ pub fn read_wild(alloc: Global, text: &[u8]) -> Result<Vec<Wild>, WildError>
     let mut read = AnswerRead::Empty;
     for (at, byte) in text.iter().enumerate() {
         if *byte == b',' {
-            // The part before this comma would have to be the last.
+            // There is no room for an answer after this comma.
             if answers.len() + 1 >= WILD_LIMIT {
                 return Err(WildError::Form { at });
             }

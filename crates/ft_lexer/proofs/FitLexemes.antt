@@ -1,4 +1,4 @@
--- The names and numbers of a text are fit: a name has at most 32 bytes, and a number is below 2^64.
+-- The names and numbers of a text fit: a name has at most 32 bytes, and a number is below 2^64.
 use Rattle.std.proofs.Common.{◌≡◌, ℕ, ◌+◌, ◌^◌, ◌<◌, ◌≤◌, Bool, true, false, ◌&&◌, ◌==◌, List, [], ◌∷◌, ◌++◌, length}
 use Rattle.std.proofs.Common.{Option, Some, None, refl, ◌∙◌, subst, arith, length-append}
 use Rattle.std.specs.Prelude.{Result, Ok, Err, if◌then◌else◌, nat_le, nat_lt, codes}
@@ -14,12 +14,12 @@ use Rattle.ft_lexer.specs.Numeral.{numeral}
 use Rattle.ft_lexer.specs.Scan.{Lexeme, Scan, over, wrong, token, Mode, gap, comment, name, number, once, number_token}
 use Rattle.ft_lexer.specs.Scan.{ends, sign_at, sign_from, begins, in_name, reads, scan_from, scan, with_token, all_of}
 
--- a letter and then bytes of names
+-- a letter, followed by bytes of a name
 abbrev pub is_word : List ℕ → Bool
 is_word [] = false
 is_word (b ∷ bs) = is_letter b && list_all is_name_byte bs
 
--- a word with one more byte of names
+-- a word with one more byte of a name
 word_more : (t : List ℕ) (b : ℕ) → is_word t ≡ true → is_name_byte b ≡ true → is_word (t ++ b ∷ []) ≡ true
 word_more [] b e f = cc
 word_more (c ∷ cs) b e f =
@@ -28,17 +28,17 @@ word_more (c ∷ cs) b e f =
     (list_all-append is_name_byte cs (b ∷ []) ∙ and_from (list_all is_name_byte cs) (is_name_byte b
     && true) p.1 (and_from (is_name_byte b) true f refl))
 
--- a text of a name: at most 32 bytes
+-- the text of a name: a word of at most 32 bytes
 pub record IsNameText (t : List ℕ) : Type 0 where
   pub word : is_word t ≡ true
   pub short : length t ≤ 32
 
--- the lexeme of a name has such a text, and that of a number is one below 2^64
+-- a name has such a text, and a number is below 2^64
 pub record IsFit (l : Lexeme) : Type 0 where
   pub name_fits : l.kind ≡ kinds.Name → IsNameText l.text
   pub number_fits : l.kind ≡ kinds.Number → numeral 0 l.text < 2 ^ 64
 
--- a scan all tokens of which fit
+-- a scan whose tokens all fit
 data AreFit : Scan → Type 0 where
   over_fits : AreFit over
   wrong_fits : {e : LexError} → AreFit (wrong e)
@@ -48,30 +48,30 @@ data AreFit : Scan → Type 0 where
 token_parts : (l : Lexeme) (rest : Scan) → AreFit (token l rest) → IsFit l × AreFit rest
 token_parts l rest (token_fits a b) = (a, b)
 
--- the kind of neither a name nor a number
+-- a kind other than names and numbers
 abbrev IsPlain : Kind → Type 0
 IsPlain kinds.Name = ⊥
 IsPlain kinds.Number = ⊥
 IsPlain _ = Unit {0}
 
--- a kind other than that of numbers
+-- a kind other than numbers
 abbrev IsNoNumber : Kind → Type 0
 IsNoNumber kinds.Number = ⊥
 IsNoNumber _ = Unit {0}
 
--- a lexeme that is neither name nor number is fit
+-- a lexeme that is neither a name nor a number fits
 plain_fits : (k : Kind) (t : List ℕ) (at : ℕ) → IsPlain k → IsFit (record { kind = k; text = t; at = at })
 plain_fits k t at h = record {
   name_fits = λ e. absurd (subst IsPlain e h);
   number_fits = λ e. absurd (subst IsPlain e h);
 }
 
--- a choice of two such scans is one
+-- a choice between two such scans is one
 if_fits : (c : Bool) (x y : Scan) → AreFit x → AreFit y → AreFit (if c then x else y)
 if_fits true x y h k = h
 if_fits false x y h k = k
 
--- the kinds of words are other ones
+-- a choice among the kinds of words is not that of numbers
 word_choice : (a b c d e : Bool) → IsNoNumber (if a then kinds.Cell
     else (if b then kinds.Var else (if c then kinds.While
     else (if d then kinds.If else (if e then kinds.Else else kinds.Name)))))
@@ -82,23 +82,23 @@ word_choice false false false true e = tt
 word_choice false false false false true = tt
 word_choice false false false false false = tt
 
--- so the kind of a word is another
+-- so the kind of a word is not that of numbers
 word_kind_plain : (t : List ℕ) → IsNoNumber (word_kind t)
 unfolding word_kind
 word_kind_plain t = word_choice (bytes_eq t (codes "cell")) (bytes_eq t (codes "var")) (bytes_eq t (codes "while"))
     (bytes_eq t (codes "if")) (bytes_eq t (codes "else"))
 
--- nothing, or the kind of neither a name nor a number
+-- no kind, or one other than names and numbers
 abbrev IsPlainSign : Option Kind → Type 0
 IsPlainSign None = Unit {0}
 IsPlainSign (Some k) = IsPlain k
 
--- so is a choice of a sign and other kinds
+-- a choice between such a kind and others is one
 if_plain : (c : Bool) (k : Kind) (o : Option Kind) → IsPlain k → IsPlainSign o → IsPlainSign (if c then Some k else o)
 if_plain true k o h g = h
 if_plain false k o h g = g
 
--- the kind of a sign is neither
+-- the kind of a sign is neither that of names nor that of numbers
 sign_kind_plain : (b : ℕ) → IsPlainSign (sign_kind b)
 unfolding sign_kind
 sign_kind_plain b =
@@ -132,7 +132,7 @@ sign_kind_plain b =
     (if_plain (b == 124) kinds.Or fourteen tt
     (if_plain (b == 94) kinds.Xor None tt tt))))))))))))))
 
--- the kind of a sign that comes twice is neither
+-- nor is the kind of a doubled sign
 pair_kind_plain : (b : ℕ) → IsPlainSign (pair_kind b)
 unfolding pair_kind
 pair_kind_plain b =
@@ -142,7 +142,7 @@ pair_kind_plain b =
     (if_plain (b == 60) kinds.Shl two tt
     (if_plain (b == 62) kinds.Shr None tt tt))
 
--- what has begun may become a lexeme
+-- what has begun may end as a lexeme
 abbrev MayEnd : Mode → Type 0
 MayEnd gap = Unit {0}
 MayEnd comment = Unit {0}
@@ -150,7 +150,7 @@ MayEnd (name start t) = (is_word t ≡ true) × (length t ≤ 32)
 MayEnd (number start t) = Unit {0}
 MayEnd (once k start b) = IsPlain k
 
--- a number that is returned is a word
+-- a number token is below 2^64
 number_token_fits : (b : Bool) (start : ℕ) (t : List ℕ) (rest : Scan) → nat_lt (numeral 0 t) (2 ^ 64) ≡ b →
     AreFit rest → AreFit (number_token b start t rest)
 number_token_fits true start t rest e h = token_fits (record {
@@ -162,12 +162,12 @@ number_token_fits true start t rest e h = token_fits (record {
     no f = cc
 number_token_fits false start t rest e h = wrong_fits
 
--- a sign before a fit scan leaves a fit scan
+-- a sign before a scan that fits makes one that fits
 sign_fits : (o : Option Kind) (at b : ℕ) (rest : Scan) → IsPlainSign o → AreFit rest → AreFit (sign_at o at b rest)
 sign_fits None at b rest p h = wrong_fits
 sign_fits (Some k) at b rest p h = token_fits (plain_fits k (b ∷ []) at p) h
 
--- what ends before a fit scan leaves a fit scan
+-- ending what has begun before a scan that fits makes one that fits
 ends_fits : (m : Mode) (rest : Scan) → MayEnd m → AreFit rest → AreFit (ends m rest)
 ends_fits gap rest m h = h
 ends_fits comment rest m h = h
@@ -178,7 +178,7 @@ ends_fits (name start t) rest m h = token_fits (record {
 ends_fits (number start t) rest m h = number_token_fits (nat_lt (numeral 0 t) (2 ^ 64)) start t rest refl h
 ends_fits (once k start b) rest m h = sign_fits (sign_kind b) start b rest (sign_kind_plain b) h
 
--- what a sign begins leaves a fit scan
+-- what a sign begins makes a scan that fits
 sign_from_fits : (o : Option Kind) (at b : ℕ) (after : Mode → Scan) → IsPlainSign o →
     ((n : Mode) → MayEnd n → AreFit (after n)) → AreFit (sign_from o at b after)
 sign_from_fits None at b after p h = sign_fits (sign_kind b) at b (after gap) (sign_kind_plain b) (h gap tt)
@@ -193,7 +193,7 @@ begins_choice false false true d u v w x y hu hv hw hx hy = hw refl
 begins_choice false false false true u v w x y hu hv hw hx hy = hx
 begins_choice false false false false u v w x y hu hv hw hx hy = hy
 
--- what a byte begins leaves a fit scan
+-- what a byte begins makes a scan that fits
 begins_fits : (at b : ℕ) (after : Mode → Scan) → ((n : Mode) → MayEnd n → AreFit (after n)) → AreFit (begins at b after)
 begins_fits at b after h =
     begins_choice (is_blank b) (b == 35) (is_letter b) (is_digit b) (after gap) (after comment)
@@ -202,14 +202,14 @@ begins_fits at b after h =
     (h (number at (b ∷ [])) tt)
     (sign_from_fits (pair_kind b) at b after (pair_kind_plain b) h)
 
--- a byte after a name leaves a fit scan
+-- a byte after a name makes a scan that fits
 in_name_fits : (goes long : Bool) (at : ℕ) (more end : Scan) → (goes ≡ true → long ≡ false → AreFit more) → AreFit end →
     AreFit (in_name goes long at more end)
 in_name_fits false long at more end h k = k
 in_name_fits true false at more end h k = h refl refl
 in_name_fits true true at more end h k = wrong_fits
 
--- each byte leaves a fit scan
+-- each byte makes a scan that fits
 reads_fits : (m : Mode) (at b : ℕ) (after : Mode → Scan) (other : Scan) → MayEnd m →
     ((n : Mode) → MayEnd n → AreFit (after n)) → AreFit other → AreFit (reads m at b after other)
 reads_fits gap at b after other m h k = k
@@ -231,7 +231,7 @@ reads_fits (once q start first) at b after other m h k =
     (ends (once q start first) other) (token_fits (plain_fits q (first ∷ b ∷ []) start m) (h gap tt))
     (ends_fits (once q start first) other m k)
 
--- all tokens of a scan are fit
+-- all tokens of a scan fit
 scan_fits : (m : Mode) (at : ℕ) (bs : List ℕ) → MayEnd m → AreFit (scan_from m at bs)
 scan_fits m at [] h = ends_fits m over h over_fits
 scan_fits m at (b ∷ bs) h =
@@ -239,12 +239,12 @@ scan_fits m at (b ∷ bs) h =
     (λ n k. scan_fits n (at + 1) bs k)
     (begins_fits at b (λ n. scan_from n (at + 1) bs) (λ n k. scan_fits n (at + 1) bs k))
 
--- these lexemes fit
+-- all these lexemes fit
 abbrev pub AllFit : List Lexeme → Type 0
 AllFit [] = Unit {0}
 AllFit (l ∷ ls) = IsFit l × AllFit ls
 
--- so are the lexemes of a scan without an error
+-- so do the lexemes of a scan without an error
 lexemes_fit : (s : Scan) (ts : List Lexeme) → AreFit s → all_of s ≡ Ok ts → AllFit ts
 lexemes_fit over ts h e = let f : [] ≡ ts = cc in subst AllFit f tt
 lexemes_fit (wrong x) ts h e = absurd (no e)
@@ -258,6 +258,6 @@ lexemes_fit (token l rest) ts h e = go (all_of rest) refl e (λ us f. lexemes_fi
     go (Ok us) f g rec = let q : l ∷ us ≡ ts = cc in subst AllFit q ((token_parts l rest h).0, rec us f)
     go (Err x) f g rec = cc
 
--- the lexemes of a text are fit
+-- the lexemes of a text fit
 pub scanned_fit : (text : List ℕ) (ts : List Lexeme) → all_of (scan text) ≡ Ok ts → AllFit ts
 scanned_fit text ts e = lexemes_fit (scan text) ts (scan_fits gap 0 text tt) e

@@ -29,7 +29,7 @@ abbrev pub alone : ℕ → List ℕ → Scan
 alone at [] = over
 alone at (b ∷ bs) = sign_at (sign_kind b) at b (scan_from gap (at + 1) bs)
 
--- two bytes that make one token come next
+-- whether the next two bytes are equal
 abbrev pub is_twice : List ℕ → Bool
 is_twice (b ∷ c ∷ bs) = c == b
 is_twice _ = false

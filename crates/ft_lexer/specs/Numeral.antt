@@ -1,4 +1,4 @@
--- What digits spell.
+-- The number that digits spell.
 use Rattle.std.specs.Prelude.{ℕ, ◌+◌, ◌*◌, ◌-◌, List, [], ◌∷◌}
 
 -- the number that digits spell in base ten, after digits that spell n

@@ -2,7 +2,7 @@
 use Rattle.std.specs.Prelude.{◌≡◌, ℕ, ◌+◌, ◌<◌, ◌≤◌, List, length, take, drop}
 use Rattle.ft_lexer.specs.Scan.{Scan, over, wrong, token}
 
--- each token is the part of the text at its place, has a byte, and begins no sooner than the one before ends
+-- each token is the part of the text at its place, is not empty, and begins no sooner than the one before it ends
 abbrev pub Placed : List ℕ → ℕ → Scan → Type 0
 Placed text low over = Unit {0}
 Placed text low (wrong e) = Unit {0}

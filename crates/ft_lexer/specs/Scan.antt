@@ -1,4 +1,4 @@
--- What a text is cut into: its tokens with their places, up to the first error.
+-- What a text is split into: its tokens with their places, up to the first error.
 use Rattle.std.specs.Prelude.{ℕ, ◌+◌, ◌^◌, ◌==◌, Bool, true, false, List, [], ◌∷◌, ◌++◌, length, nat_lt, nat_le, if◌then◌else◌, Option, Some, None, Result, Ok, Err}
 use Rattle.ft_lexer.specs.declared.kind.Kind.{Kind}
 use Rattle.ft_lexer.specs.declared.kind.Kind.TheVariants as kinds
@@ -23,8 +23,8 @@ pub data Scan : Type 0 where
   wrong : LexError → Scan
   token : Lexeme → Scan → Scan
 
--- what the bytes so far have begun, where it began and its bytes: a gap, a comment, a name, a number, or a byte that
--- makes a token of this kind with another like it
+-- what the bytes so far have begun, with its place and its bytes: a gap, a comment, a name, a number, or a byte that
+-- makes a token of this kind if it is doubled
 pub data Mode : Type 0 where
   gap : Mode
   comment : Mode
@@ -50,7 +50,7 @@ ends (name start t) rest = token (record { kind = word_kind t; text = t; at = st
 ends (number start t) rest = number_token (nat_lt (numeral 0 t) (2 ^ 64)) start t rest
 ends (once k start b) rest = sign_at (sign_kind b) start b rest
 
--- a byte that may come twice, or is a token by itself
+-- a byte that makes a token if it is doubled, or is a token by itself
 abbrev pub sign_from : Option Kind → ℕ → ℕ → (Mode → Scan) → Scan
 sign_from (Some k) at b after = after (once k at b)
 sign_from None at b after = sign_at (sign_kind b) at b (after gap)
@@ -64,7 +64,7 @@ begins at b after =
     else (if is_digit b then after (number at (b ∷ []))
     else sign_from (pair_kind b) at b after)))
 
--- in a name: it ends, goes on, or would be longer than 32 bytes, which is an error at the 33rd
+-- in a name: it ends, continues, or would be longer than 32 bytes, which is an error at the 33rd
 abbrev pub in_name : Bool → Bool → ℕ → Scan → Scan → Scan
 in_name false long at more end = end
 in_name true false at more end = more
@@ -93,7 +93,7 @@ told None rest = over
 told (Some (Err e)) rest = wrong e
 told (Some (Ok t)) rest = token (lexeme t) rest
 
--- a token before the others of a scan
+-- adds a token at the front
 abbrev pub with_token : Lexeme → Result (List Lexeme) LexError → Result (List Lexeme) LexError
 with_token t (Ok ts) = Ok (t ∷ ts)
 with_token t (Err e) = Err e

@@ -1,4 +1,4 @@
-//! What single bytes and reserved words are.
+//! The kinds of single bytes and of reserved words.
 ghost use Rattle.std.specs.Prelude.{◌≡◌, ◌≢◌, IfSome};
 ghost use Rattle.ft_lexer.specs.Bytes.{is_blank, is_digit, is_letter, is_name_byte, word_kind, sign_kind, pair_kind};
 ghost use Rattle.ft_lexer.specs.declared.kind.Kind.TheVariants as kinds;
@@ -26,7 +26,7 @@ pub fn is_letter(b: u8) -> bool
     b'a' <= b && b <= b'z' || b'A' <= b && b <= b'Z' || b == b'_'
 }
 
-/// Whether the byte may follow in a name.
+/// Whether the byte may follow the first byte of a name.
 pub fn is_name_byte(b: u8) -> bool
     ensures { result ≡ is_name_byte b }
 {

@@ -5,7 +5,7 @@
 pub enum Kind {
     /// A letter or `_`, and the letters, digits and `_` after it, if they are not a reserved word.
     Name,
-    /// A run of digits that spell a number below 2^64.
+    /// A run of digits that spells a number below 2^64.
     Number,
     /// `cell`
     Cell,

@@ -1,4 +1,4 @@
-//! Laws of the definitions, each the contract of a function that does nothing.
+//! Laws of the definitions. Each is the contract of a function that does nothing.
 ghost use Rattle.std.specs.Prelude.{ℕ, List};
 ghost use Rattle.ft_lexer.specs.Placed.{Placed};
 ghost use Rattle.ft_lexer.specs.Scan.{scan};

@@ -1,4 +1,4 @@
-//! Why a text cannot be cut into tokens.
+//! Why a text cannot be split into tokens.
 use thiserror::Error;
 
 /// The first error of a text.

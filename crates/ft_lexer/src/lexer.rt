@@ -30,7 +30,7 @@ impl<'a> Lexer<'a> {
         Lexer { rest: text, at: 0 }
     }
 
-    /// Passes a comment, except for its line feed.
+    /// Skips a comment, but not its line feed.
     fn pass_comment(&mut self)
         ensures same { scan_from comment self.old.at self.old.rest.now ≡ left self.new }
         ensures shorter { length self.new.rest.now ≤ length self.old.rest.now }
@@ -43,7 +43,7 @@ impl<'a> Lexer<'a> {
         }
     }
 
-    /// Passes blanks and comments.
+    /// Skips blanks and comments.
     fn pass_gap(&mut self)
         ensures same { left self.old ≡ left self.new }
         ensures token { BeginsToken self.new.rest.now }
@@ -112,7 +112,7 @@ impl<'a> Lexer<'a> {
         })
     }
 
-    /// Whether the next byte comes twice.
+    /// Whether the next two bytes are equal.
     fn is_twice(&self) -> bool
         ensures { result ≡ is_twice self.now.rest.now }
     {
@@ -160,7 +160,7 @@ impl<'a> Lexer<'a> {
         }
     }
 
-    /// Takes one of the other tokens.
+    /// Takes a token of any other kind.
     fn sign(&mut self) -> Result<Token<'a>, LexError>
         requires some { 0 < length self.old.rest.now }
         requires no_letter { BeginsWithout is_letter self.old.rest.now }
@@ -179,7 +179,7 @@ impl<'a> Lexer<'a> {
         }
     }
 
-    /// The next token, or the error of the text; `None` at the end and always after either.
+    /// The next token, or the error of the text, or `None` at the end. After the error or the end it is always `None`.
     pub fn next(&mut self) -> Option<Result<Token<'a>, LexError>>
         ensures tells { left self.old ≡ told result (left self.new) }
         ensures end { IfNone result (left self.new ≡ over) }

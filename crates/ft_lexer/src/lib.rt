@@ -1,8 +1,8 @@
-//! Source texts, cut into tokens.
+//! Source texts, split into tokens.
 //!
-//! The crate promises that a lexer returns exactly the scan of its text: tokens in turn, each the slice of
-//! the text at its place, then the first error or the end, and then always `None`. It allocates nothing.
-//! Its definitions: `specs/Bytes.antt`, `specs/Scan.antt`, `specs/Placed.antt`.
+//! The crate promises that a lexer returns exactly the scan of its text: the tokens in order, each the slice of the
+//! text at its place, then the first error or the end, and then always `None`. It allocates nothing. Its definitions:
+//! `specs/Bytes.antt`, `specs/Scan.antt`, `specs/Placed.antt`.
 #![tactic(auto)]
 
 mod bytes;

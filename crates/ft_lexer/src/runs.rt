@@ -7,10 +7,10 @@ ghost use Rattle.ft_lexer.specs.declared.lex_error.LexError.TheVariants as lex_e
 
 use crate::bytes::{is_digit, is_name_byte};
 
-/// How many bytes a name may have.
+/// The maximum length of a name in bytes.
 pub const NAME_LIMIT: usize = 32;
 
-/// How many bytes at the front are of one name, or `None` if they are more than 32.
+/// The length of the name at the front, or `None` if it is longer than 32 bytes.
 #[tactic(auto, using(crate::proofs::ByteRuns::name_step, crate::proofs::ByteRuns::name_stop, crate::proofs::ByteRuns::name_long))]
 pub fn name_len(text: &[u8]) -> Option<usize>
     requires { 0 < length text.now }

@@ -6,8 +6,7 @@ ghost use Rattle.ft_lexer.specs.declared.kind.Kind.TheVariants as kinds;
 use crate::kind::Kind;
 use crate::runs::number_of;
 
-/// A token of a source text: its kind, the slice of the text that it is, and the place of its first
-/// byte, counted from 0.
+/// A token of a source text: its kind, its slice of the text, and the place of its first byte, counted from 0.
 #[derive(Clone, Copy, Debug)]
 pub struct Token<'a> {
     pub kind: Kind,

@@ -1,4 +1,4 @@
--- A map that no line is refused for is sound.
+-- A map is sound if no line is refused.
 use Rattle.std.proofs.Common.{◌≡◌, ℕ, suc, ◌<◌, ◌≤◌, ◌==◌, ◌&&◌, Bool, true, false, List, [], ◌∷◌, ◌++◌, length, get_or}
 use Rattle.std.proofs.Common.{Option, Some, None, nat_lt, refl, sym, ◌∙◌, subst, arith}
 use Rattle.std.specs.Prelude.{All, if◌then◌else◌}
@@ -18,7 +18,7 @@ use Rattle.ft_link_map.specs.Sound.{IsOfModules, IsAbove, HaveTwoNames, HaveTwoL
 
 -- TESTS
 
--- no element passes a test
+-- if no element passes a test, each fails it
 none_by : {X : Type 0} (p : X → Bool) (xs : List X) → list_any p xs ≡ false → AllByRecursion (λ x. p x ≡ false) xs
 none_by p [] h = tt
 none_by p (x ∷ xs) h = ((or_parts _ _ h).0, none_by p xs (or_parts _ _ h).1)
@@ -26,28 +26,28 @@ none_by p (x ∷ xs) h = ((or_parts _ _ h).0, none_by p xs (or_parts _ _ h).1)
 none_passes : {X : Type 0} (p : X → Bool) (xs : List X) → list_any p xs ≡ false → All (λ x. p x ≡ false) xs
 none_passes p xs h = All-from_recursion (λ x. p x ≡ false) xs (none_by p xs h)
 
--- if no export has a name, each export's name is another
+-- if no export has this name, the name of each export differs from it
 other_names : (asks : List Ask) (a : Ask) → has_name asks a.name ≡ false → All (λ (x : Ask). HaveTwoNames x a) asks
 other_names asks a h = λ k d lt e. true≢false (sym ((bytes_eq-Decides _ _).1 e)
     ∙ none_passes (λ (x : Ask). bytes_eq x.name a.name) asks h k d lt)
 
--- if none names a block, each names another one
+-- if none names this block, each names a different one
 other_blocks : (asks : List Ask) (a : Ask) → has_block asks a.module a.block ≡ false →
     All (λ (x : Ask). NameTwoBlocks x a) asks
 other_blocks asks a h = λ k d lt e. true≢false (sym (and_from _ _ (eq-eqb _ _ e.same_module) (eq-eqb _ _ e.same_block))
     ∙ none_passes (λ (x : Ask). (x.module == a.module) && (x.block == a.block)) asks h k d lt)
 
--- two blocks differ either way round
+-- `NameTwoBlocks` is symmetric
 back : (a b : Ask) → NameTwoBlocks a b → NameTwoBlocks b a
 back a b h e = h (record { same_module = sym e.same_module; same_block = sym e.same_block })
 
 -- THE MAP SO FAR
 
--- a line is among the first
+-- the line is among the first `count`
 abbrev IsBy : ℕ → Ask → Type 0
 IsBy count a = a.line ≤ count
 
--- what holds of the map of the lines so far
+-- the invariant of the map of the first `count` lines
 record IsFair (m : LinkMap) (count : ℕ) : Type 0 where
   few_files : length m.files ≤ 64
   export_modules : All (IsOfModules (length m.files)) m.exports
@@ -61,28 +61,28 @@ record IsFair (m : LinkMap) (count : ℕ) : Type 0 where
   imports_apart : AllPairs NameTwoBlocks m.imports
   sides_apart : All (λ (e : Ask). All (NameTwoBlocks e) m.imports) m.exports
 
--- with more modules, each export and import is of one of them still
+-- an export or import of one of n modules is one of k modules, if n is at most k
 of_more : (n k : ℕ) → n ≤ k → (asks : List Ask) → All (IsOfModules n) asks → All (IsOfModules k) asks
 of_more n k le asks h = λ i d lt. omega (arith, le, h i d lt)
 
--- a line that is among the first is among more
+-- lines among the first n are among the first k, if n is at most k
 by_more : (n k : ℕ) → n ≤ k → (asks : List Ask) → All (IsBy n) asks → All (IsBy k) asks
 by_more n k le asks h = λ i d lt. omega (arith, le, h i d lt)
 
--- those among the first come above the next line
+-- the first n lines are above line n + 1
 above : (n : ℕ) (asks : List Ask) (a : Ask) → All (IsBy n) asks → a.line ≡ suc n → All (λ (x : Ask). IsAbove x a) asks
 above n asks a h e = λ i d lt. omega (arith, e, h i d lt)
 
--- the next line is none of the first
+-- line n + 1 is none of the first n
 apart : (n : ℕ) (asks : List Ask) (a : Ask) → All (IsBy n) asks → a.line ≡ suc n → All (HaveTwoLines a) asks
 apart n asks a h e = λ i d lt same. absurd (omega (arith, e, same, h i d lt))
 
--- the first lines are not the next one
+-- likewise, with the sides exchanged
 apart_back : (n : ℕ) (asks : List Ask) (a : Ask) → All (IsBy n) asks → a.line ≡ suc n →
     All (λ (x : Ask). HaveTwoLines x a) asks
 apart_back n asks a h e = λ i d lt same. absurd (omega (arith, e, same, h i d lt))
 
--- a module more
+-- one more module
 fair_module : (m : LinkMap) (count : ℕ) (file : List ℕ) → IsFair m count → nat_lt (length m.files) 64 ≡ true →
     IsFair (with_line m (suc count) (Module file)) (suc count)
 fair_module m count file h few =
@@ -104,7 +104,7 @@ fair_module m count file h few =
       sides_apart = h.sides_apart;
     }
 
--- an export more
+-- one more export
 fair_export : (m : LinkMap) (count : ℕ) (name : List ℕ) (block : ℕ) → IsFair m count → nat_lt 0 (length m.files)
     ≡ true → repeats m (Export name block) ≡ false → IsFair (with_line m (suc count) (Export name block)) (suc count)
 fair_export m count name block h some new =
@@ -128,7 +128,7 @@ fair_export m count name block h some new =
           back (get_or m.imports i d) a (other_blocks m.imports a fresh.1 i d lt));
     }
 
--- an import more
+-- one more import
 fair_import : (m : LinkMap) (count : ℕ) (name : List ℕ) (block : ℕ) → IsFair m count → nat_lt 0 (length m.files)
     ≡ true → repeats m (Import name block) ≡ false → IsFair (with_line m (suc count) (Import name block)) (suc count)
 fair_import m count name block h some new =
@@ -152,7 +152,7 @@ fair_import m count name block h some new =
           (other_blocks m.exports a fresh.0 i d lt);
     }
 
--- a line more
+-- one more line
 fair_next : (m : LinkMap) (count : ℕ) (l : MapLine) → IsFair m count → may_stand m l ≡ true → repeats m l ≡ false →
     IsFair (with_line m (suc count) l) (suc count)
 fair_next m count (Module file) h may new = fair_module m count file h may
@@ -162,22 +162,22 @@ fair_next m count Bad h may new = absurd (true≢false (sym may))
 
 -- THE WHOLE MAP
 
--- nothing was found, so the test passed and nothing was found after it
+-- if no misplaced line was found, this one is not misplaced, and no later one was found
 passed : (b : Bool) (o : Option ℕ) (n : ℕ) → (if b then o else Some n) ≡ None → (b ≡ true) × (o ≡ None)
 passed true o n h = (refl, h)
 passed false o n h = absurd cc
 
--- nothing was found, so the test did not pass and nothing was found after it
+-- if no repeated line was found, this one does not repeat, and no later one was found
 not_passed : (b : Bool) (o : Option ℕ) (n : ℕ) → (if b then Some n else o) ≡ None → (b ≡ false) × (o ≡ None)
 not_passed true o n h = absurd cc
 not_passed false o n h = (refl, h)
 
--- nothing was found at the end, so the test passed
+-- if nothing is refused at the end, there is a module
 ended : (b : Bool) (n : ℕ) → (if b then None else Some n) ≡ None → b ≡ true
 ended true n h = refl
 ended false n h = absurd cc
 
--- the map of all lines is sound, if nothing is refused
+-- the map of all lines is sound if none of them is refused
 sound_after : (ls : List MapLine) (m : LinkMap) (count : ℕ) → IsFair m count → first_bad m count ls ≡ None →
     first_twice m count ls ≡ None → IsSound (with_lines m count ls)
 sound_after [] m count h good new =
@@ -199,7 +199,7 @@ sound_after (l ∷ ls) m count h good new =
     let fresh = not_passed (repeats m l) (first_twice (with_line m (suc count) l) (suc count) ls) (suc count) new in
     sound_after ls (with_line m (suc count) l) (suc count) (fair_next m count l h may.0 fresh.0) may.1 fresh.1
 
--- the map of no line
+-- the map of no lines
 fair_none : IsFair no_lines 0
 fair_none = record {
   few_files = omega arith;
@@ -215,7 +215,7 @@ fair_none = record {
   sides_apart = λ k d lt. absurd (omega (arith, lt));
 }
 
--- if the answer is a map, nothing is refused
+-- if the answer is a map, no line is refused
 by_answers : (bad twice : Option ℕ) (m n : LinkMap) → answered bad twice m ≡ Is n → (bad ≡ None) × (twice ≡ None)
     × (m ≡ n)
 by_answers (Some k) twice m n e = absurd cc

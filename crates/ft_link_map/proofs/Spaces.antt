@@ -1,4 +1,4 @@
--- A name has no space.
+-- Names have no spaces.
 use Rattle.std.proofs.Common.{◌≡◌, ◌≢◌, ℕ, true, List, [], ◌∷◌, ap, sym, ◌∙◌}
 use Rattle.std.specs.List.{AllByRecursion, list_all}
 use Rattle.std.proofs.lemmas.Bool.{true≢false, and_parts}
@@ -23,6 +23,6 @@ begun_free (x ∷ xs) h = (
   word_bytes_free xs (and_parts _ _ h).1,
 )
 
--- a name has no space
+-- a name has no spaces
 pub name_no_space : (name : List ℕ) → is_block_name name ≡ true → HasNoSpace name
 name_no_space name h = All-from_recursion (λ byte. byte ≢ 32) name (begun_free name (and_parts _ _ h).0)

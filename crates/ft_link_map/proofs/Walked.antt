@@ -1,4 +1,4 @@
--- What lines that are left make of the lines so far.
+-- How the answer follows from the lines so far and those that are left.
 use Rattle.std.proofs.Common.{◌≡◌, ℕ, suc, ◌+◌, Bool, true, false, List, [], ◌∷◌, Option, Some, None, nat_lt, length}
 use Rattle.std.proofs.Common.{refl, ap, sym, ◌∙◌, subst, add-one}
 use Rattle.std.specs.Prelude.{if◌then◌else◌}
@@ -14,34 +14,34 @@ use Rattle.ft_link_map.specs.declared.draft.Turn.TheVariants.{On, Again, Stuck}
 use Rattle.ft_link_map.specs.Held.{Holds, Takes, Ends, first_of}
 use Rattle.ft_link_map.proofs.OneLine.{one_line}
 
--- the first line that repeats: one so far, or one of those that are left
+-- the first repeated line: one so far, or else one of those that are left
 abbrev sooner : Option ℕ → Option ℕ → Option ℕ
 sooner (Some number) later = Some number
 sooner None later = later
 
--- the answer from the map of the lines so far, if these are left
+-- the answer if these lines follow the lines so far
 abbrev answer_from : LinkMap → Option ℕ → ℕ → List MapLine → Answer
 answer_from m twice count ls = answered (first_bad m count ls) (sooner twice (first_twice m count ls))
     (with_lines m count ls)
 
--- whatever these lines say, those that are left say some of it, from which the answer comes
+-- the invariant of the walk: for every reading of all lines, the lines left have a reading that gives the same answer
 abbrev pub Leads : List (List ℕ) → LinkMap → Option ℕ → ℕ → List (List ℕ) → Type 0
 Leads all m twice count left = (said : List MapLine) → AllZip Says all said → (rest : List MapLine)
     × AllZip Says left rest × (answer_of said ≡ answer_from m twice count rest)
 
--- the first line that repeats, if the next one does or does not
+-- the first repeated line, by whether the next line repeats
 abbrev next_twice : Option ℕ → Bool → ℕ → Option ℕ
 next_twice (Some first) again number = Some first
 next_twice None again number = if again then Some number else None
 
--- one step of the answer
+-- the first repeated line, with the next line counted among those so far
 sooner_step : (twice : Option ℕ) (again : Bool) (number : ℕ) (later : Option ℕ) →
     sooner twice (if again then Some number else later) ≡ sooner (next_twice twice again number) later
 sooner_step (Some n) again number later = refl
 sooner_step None true number later = refl
 sooner_step None false number later = refl
 
--- the answer to a line that is allowed there, before others, is that to the others
+-- a correctly placed line does not change the answer when it joins the lines so far
 answer_step : (m : LinkMap) (twice : Option ℕ) (count : ℕ) (l : MapLine) (ls : List MapLine) → may_stand m l ≡ true →
     answer_from m twice count (l ∷ ls) ≡ answer_from (with_line m (suc count) l)
     (next_twice twice (repeats m l) (suc count)) (suc count) ls
@@ -52,7 +52,7 @@ answer_step m twice count l ls may =
     ∙ ap (λ o. answered (first_bad after (suc count) ls) o (with_lines after (suc count) ls))
     (sooner_step twice (repeats m l) (suc count) (first_twice after (suc count) ls))
 
--- what is left says something of the line and of those after it
+-- after a correctly placed line, the lines after it have a reading that gives the same answer
 step_by : (all : List (List ℕ)) (m : LinkMap) (twice : Option ℕ) (count : ℕ) (line : List ℕ) (after : List (List ℕ))
     (l : MapLine) (said rest : List MapLine) → Says line l → may_stand m l ≡ true → AllZip Says (line ∷ after) rest →
     answer_of said ≡ answer_from m twice count rest
@@ -64,7 +64,7 @@ step_by all m twice count line after l said (k ∷ ks) says may h e =
     let same : k ≡ l = one_line line k l h.0 says in
     (ks, h.1, e ∙ ap (λ x. answer_from m twice count (x ∷ ks)) same ∙ answer_step m twice count l ks may)
 
--- from a line to the next
+-- the invariant holds after a correctly placed line
 leads_on : (all : List (List ℕ)) (m : LinkMap) (twice : Option ℕ) (count : ℕ) (left : List (List ℕ)) (line : List ℕ)
     (after : List (List ℕ)) (l : MapLine) → Leads all m twice count left → left ≡ line ∷ after → Says line l →
     may_stand m l ≡ true
@@ -74,7 +74,7 @@ leads_on all m twice count left line after l h e says may = λ said are.
     step_by all m twice count line after l said x.0 says may (subst (λ (ts : List (List ℕ)). AllZip Says ts x.0) e x.1)
     x.2
 
--- what is left begins with a line that is not allowed there
+-- if the next line is misplaced, the answer is its number
 stop_by : (m : LinkMap) (twice : Option ℕ) (count : ℕ) (line : List ℕ) (after : List (List ℕ)) (l : MapLine)
     (said rest : List MapLine) → Says line l → may_stand m l ≡ false → AllZip Says (line ∷ after) rest → answer_of said
     ≡ answer_from m twice count rest → answer_of said ≡ Line (suc count)
@@ -86,7 +86,7 @@ stop_by m twice count line after l said (k ∷ ks) says may h e =
     e ∙ ap (λ o. answered o (sooner twice (first_twice m count (k ∷ ks))) (with_lines m count (k ∷ ks)))
     (cond-false (may_stand m k) (first_bad next (suc count) ks) (Some (suc count)) not_here)
 
--- a line that is allowed there was accepted
+-- the draft and the invariant after a correctly placed line
 taken : (all : List (List ℕ)) (d : Draft) (m : LinkMap) (twice r : Option ℕ) (count : ℕ) (left : List (List ℕ))
     (line : List ℕ) (after : List (List ℕ)) (l : MapLine) → Leads all m twice count left → left ≡ line ∷ after →
     Says line l
@@ -102,17 +102,17 @@ taken all d m twice r count left line after l h e says may holds first =
           Leads all (with_line m (count + 1) l) o (count + 1) after) (sym first) leads,
     )
 
--- the effect of a line that repeats
+-- the effect of a repeated line
 first_again : (twice : Option ℕ) (number : ℕ) → first_of twice Again number ≡ next_twice twice true number
 first_again (Some n) number = refl
 first_again None number = refl
 
--- the effect of one that does not
+-- the effect of a line that does not repeat
 first_on : (twice : Option ℕ) (number : ℕ) → first_of twice On number ≡ next_twice twice false number
 first_on (Some n) number = refl
 first_on None number = refl
 
--- a line more was taken
+-- after the draft accepts a line, the invariant holds
 pub takes_more : (all : List (List ℕ)) (d : Draft) (m : LinkMap) (twice r : Option ℕ) (count : ℕ) (left : List (List ℕ))
     (line : List ℕ) (after : List (List ℕ)) (l : MapLine) (t : Turn)
     → Leads all m twice count left → left ≡ line ∷ after → Says line l → Takes t d m (count + 1) l → (t ≡ Stuck → ⊥) → r
@@ -125,7 +125,7 @@ takes_more all d m twice r count left line after l Again h e says takes is first
     ∙ ap (λ b. next_twice twice b (count + 1)) (sym takes.1))
 takes_more all d m twice r count left line after l Stuck h e says takes is first = absurd (is refl)
 
--- a line that is not allowed there
+-- if the next line is misplaced, the answer is its number, by the invariant
 leads_nowhere : (all : List (List ℕ)) (m : LinkMap) (twice : Option ℕ) (count : ℕ) (left : List (List ℕ))
     (line : List ℕ) (after : List (List ℕ)) (l : MapLine) → Leads all m twice count left → left ≡ line ∷ after →
     Says line l → may_stand m l ≡ false
@@ -134,7 +134,7 @@ leads_nowhere all m twice count left line after l h e says may said are =
     let x = h said are in
     stop_by m twice count line after l said x.0 says may (subst (λ (ts : List (List ℕ)). AllZip Says ts x.0) e x.1) x.2
 
--- a line was not taken
+-- if the draft does not accept a line, the answer is its number
 pub takes_none : (all : List (List ℕ)) (d : Draft) (m : LinkMap) (twice : Option ℕ) (count : ℕ) (left : List (List ℕ))
     (line : List ℕ) (after : List (List ℕ)) (l : MapLine) (t : Turn)
     → Leads all m twice count left → left ≡ line ∷ after → Says line l → Takes t d m (count + 1) l → t ≡ Stuck →
@@ -144,17 +144,17 @@ takes_none all d m twice count left line after l Stuck h e says takes is said ar
 takes_none all d m twice count left line after l On h e says takes is said are = absurd cc
 takes_none all d m twice count left line after l Again h e says takes is said are = absurd cc
 
--- what is answered at the end
+-- the answer at the end
 abbrev end_answer : LinkMap → Option ℕ → ℕ → Answer
 end_answer m twice count = answered (if nat_lt 0 (length m.files) then None else Some (suc count)) (sooner twice None) m
 
--- nothing is left
+-- the answer if no lines are left
 end_by : (m : LinkMap) (twice : Option ℕ) (count : ℕ) (said rest : List MapLine) → AllZip Says [] rest → answer_of said
     ≡ answer_from m twice count rest → answer_of said ≡ end_answer m twice count
 end_by m twice count said [] h e = e
 end_by m twice count said (k ∷ ks) h e = absurd h
 
--- the answer at the end
+-- the answer at the end, by the invariant
 leads_end : (all : List (List ℕ)) (m : LinkMap) (twice : Option ℕ) (count : ℕ) (left : List (List ℕ)) →
     Leads all m twice count left → left ≡ [] → (said : List MapLine) → AllZip Says all said → answer_of said
     ≡ end_answer m twice count
@@ -162,7 +162,7 @@ leads_end all m twice count left h e said are =
     let x = h said are in
     end_by m twice count said x.0 (subst (λ (ts : List (List ℕ)). AllZip Says ts x.0) e x.1) x.2
 
--- at the end without a module
+-- the answer at the end without a module
 pub ends_early : (all : List (List ℕ)) (m : LinkMap) (twice : Option ℕ) (count : ℕ) (left : List (List ℕ)) →
     Leads all m twice count left → left ≡ [] → nat_lt 0 (length m.files) ≡ false
     → (said : List MapLine) → AllZip Says all said → answer_of said ≡ Line (count + 1)
@@ -170,7 +170,7 @@ ends_early all m twice count left h e none said are =
     leads_end all m twice count left h e said are ∙ ap (λ b.
     answered (if b then None else Some (suc count)) (sooner twice None) m) none ∙ ap Line (sym (add-one count))
 
--- at the end with a line that repeats
+-- the answer at the end after a repeated line
 pub ends_twice : (all : List (List ℕ)) (m map : LinkMap) (twice : Option ℕ) (number count : ℕ) (left : List (List ℕ)) →
     Leads all m twice count left → left ≡ [] → Ends (Some map) m → twice ≡ Some number
     → (said : List MapLine) → AllZip Says all said → answer_of said ≡ Twice number
@@ -179,7 +179,7 @@ ends_twice all m map twice number count left h e ends is said are =
     answered (if b then None else Some (suc count)) (sooner twice None) m) ends.0
     ∙ ap (λ o. answered None (sooner o None) m) is
 
--- at the end with a map
+-- the answer at the end is the map
 pub ends_well : (all : List (List ℕ)) (m map : LinkMap) (twice : Option ℕ) (count : ℕ) (left : List (List ℕ)) →
     Leads all m twice count left → left ≡ [] → Ends (Some map) m → twice ≡ None
     → (said : List MapLine) → AllZip Says all said → answer_of said ≡ Is map

@@ -1,4 +1,4 @@
--- What the reader holds of the lines so far: private to it.
+-- The reader's state after the lines so far. Private to the reader.
 use Rattle.std.specs.Prelude.{◌≡◌, ℕ, ◌≤◌, Bool, true, false, if◌then◌else◌, nat_lt, List, length, Option, Some, None}
 use Rattle.std.specs.Ordering.{nat_cmp, ordering_then}
 use Rattle.std.specs.Cmp.Lexicographic.{slice_cmp}
@@ -12,11 +12,11 @@ use Rattle.ft_link_map.specs.declared.draft.Turn.TheVariants.{On, Again, Stuck}
 use Rattle.ft_link_map.specs.MapAnswers.{last_module, with_line, may_stand, has_name, has_block, repeats}
 use Rattle.ft_link_map.specs.MapLines.{MapLine}
 
--- whether this name is among the names
+-- whether the set has this name
 unfoldable pub knows_name : Names → List ℕ → Bool
 knows_name names text = contains_by (λ k. slice_cmp nat_cmp text k.now) names.texts
 
--- whether this block is among the blocks
+-- whether the set has this block
 unfoldable pub knows_block : Blocks → ℕ → ℕ → Bool
 knows_block blocks m b = contains_by (λ k. ordering_then (nat_cmp m k.0) (nat_cmp b k.1)) blocks.places
 
@@ -35,11 +35,11 @@ abbrev pub TellsModule : Option ℕ → maps.LinkMap → Type 0
 TellsModule None m = nat_lt 0 (length m.files) ≡ false
 TellsModule (Some number) m = (nat_lt 0 (length m.files) ≡ true) × (number ≡ last_module m)
 
--- the effect of a line that is allowed there
+-- the effect of a correctly placed line, by whether it repeats an earlier one
 abbrev pub turn_of : Bool → Turn
 turn_of again = if again then Again else On
 
--- a line was accepted; or it is not allowed there
+-- the draft accepted the line, or the line is misplaced
 abbrev pub Takes : Turn → Draft → maps.LinkMap → ℕ → MapLine → Type 0
 Takes On d m number line = (may_stand m line ≡ true) × (repeats m line ≡ false) × Holds d (with_line m number line)
 Takes Again d m number line = (may_stand m line ≡ true) × (repeats m line ≡ true) × Holds d (with_line m number line)
@@ -50,7 +50,7 @@ abbrev pub Ends : Option maps.LinkMap → maps.LinkMap → Type 0
 Ends None m = nat_lt 0 (length m.files) ≡ false
 Ends (Some map) m = (nat_lt 0 (length m.files) ≡ true) × (map ≡ m)
 
--- the first line that repeats, once the line with this number has had this effect
+-- the first repeated line, updated with the effect of the line with this number
 abbrev pub first_of : Option ℕ → Turn → ℕ → Option ℕ
 first_of (Some first) turn number = Some first
 first_of None On number = None

@@ -1,4 +1,4 @@
--- What the code has read of a line: private to the reader.
+-- The lines that the code reads. Private to the reader.
 use Rattle.ft_link_map.specs.declared.entry.Entry.{Entry}
 use Rattle.ft_link_map.specs.declared.entry.Entry.TheVariants as entries
 use Rattle.ft_link_map.specs.MapLines.{MapLine, Module, Export, Import, Bad}

@@ -1,22 +1,22 @@
--- Sound maps.
+-- Sound maps: those by which modules can be linked.
 use Rattle.std.specs.Prelude.{◌≡◌, ◌≢◌, ℕ, ◌<◌, ◌≤◌, length, All}
 use Rattle.std.specs.List.{AllPairs}
 use Rattle.ft_link_map.specs.declared.link_map.Ask.{Ask}
 use Rattle.ft_link_map.specs.declared.link_map.LinkMap.{LinkMap}
 
--- the module of an export or import is one of this many
+-- the module of an export or import is one of this many modules
 abbrev pub IsOfModules : ℕ → Ask → Type 0
 IsOfModules modules a = a.module < modules
 
--- the first is on a line before the second
+-- the first is on an earlier line than the second
 abbrev pub IsAbove : Ask → Ask → Type 0
 IsAbove a b = a.line < b.line
 
--- two names differ
+-- their names differ
 abbrev pub HaveTwoNames : Ask → Ask → Type 0
 HaveTwoNames a b = a.name ≢ b.name
 
--- two lines differ
+-- their lines differ
 abbrev pub HaveTwoLines : Ask → Ask → Type 0
 HaveTwoLines a b = a.line ≢ b.line
 
@@ -29,9 +29,9 @@ pub record NameOneBlock (a b : Ask) : Type 0 where
 abbrev pub NameTwoBlocks : Ask → Ask → Type 0
 NameTwoBlocks a b = ¬ (NameOneBlock a b)
 
--- a map by which modules can be linked: 1 to 64 files, and each export and import names one of them; the lines of
--- exports increase strictly, and so do those of imports, and no line is of both; no name is exported twice; no block is
--- named by two imports or by an import and an export
+-- a map by which modules can be linked: 1 to 64 files, and each export and import refers to one of them; the line
+-- numbers of exports are strictly increasing, and so are those of imports, and no line is both; no name is exported
+-- twice; no block is named by two imports or by an import and an export
 pub record IsSound (linkage : LinkMap) : Type 0 where
   pub some_files : 1 ≤ length linkage.files
   pub few_files : length linkage.files ≤ 64

@@ -1,18 +1,18 @@
-//! Blocks that were named.
+//! Sets of blocks that earlier lines exported or imported.
 ghost use Rattle.std.specs.Prelude.{◌≡◌, ◌||◌, ◌&&◌, ◌==◌, not, false, ℕ, IfOk, OnOk};
 ghost use Rattle.ft_link_map.specs.Held.{knows_block};
 
 use std::alloc::{AllocError, Global};
 use std::collections::BTreeSet;
 
-/// A set of blocks, each by its module and its number in it, kept in order.
+/// An ordered set of blocks, each given by its module and its number in that module.
 #[derive(Drop)]
 pub(crate) struct Blocks {
     places: BTreeSet<(u32, u32)>,
 }
 
 impl Blocks {
-    /// No block.
+    /// The empty set.
     #[tactic(auto, unfolding(crate::specs::Held::knows_block))]
     pub(crate) fn new(alloc: Global) -> Blocks
         ensures { (m b : ℕ) → knows_block result m b ≡ false }
@@ -30,7 +30,7 @@ impl Blocks {
         self.places.contains(&(module, block))
     }
 
-    /// Notes a block; returns whether it was there before.
+    /// Adds a block; returns whether the set already had it.
     #[tactic(auto, unfolding(crate::specs::Held::knows_block))]
     pub(crate) fn note(&mut self, module: u32, block: u32) -> Result<bool, AllocError>
         ensures told { IfOk result (λ known. known ≡ knows_block self.old «module» block) }

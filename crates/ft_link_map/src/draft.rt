@@ -1,4 +1,4 @@
-//! What the lines so far say, as a map.
+//! The map as read so far, and how the next line fits it.
 ghost use Rattle.std.specs.Prelude.{◌≡◌, ◌≤◌, ◌++◌, ◌∷◌, [], length, IfOk, OnOk};
 ghost use Rattle.ft_link_map.specs.declared.link_map.LinkMap as maps;
 ghost use Rattle.ft_link_map.specs.MapLines.{Module, Export, Import};
@@ -13,22 +13,21 @@ use crate::names::Names;
 use ft_types::Table;
 use std::alloc::{AllocError, Global};
 
-/// The maximum number of modules of a map.
+/// The maximum number of modules in a map.
 const MODULE_LIMIT: usize = 64;
 
-/// What a line does to the lines so far.
+/// How a line fits the lines so far.
 #[derive(Clone, Copy)]
 pub(crate) enum Turn {
     /// It continues them.
     On,
-    /// It continues them, and repeats what one of them says.
+    /// It continues them, but repeats what one of them says.
     Again,
-    /// It is not allowed there.
+    /// It is misplaced.
     Stuck,
 }
 
-/// What the lines so far say: the map, the names that are exported, and the blocks that are exported and
-/// imported.
+/// What the lines so far say: the map, the exported names, and the exported and imported blocks.
 #[derive(Drop)]
 pub(crate) struct Draft<'t> {
     files: Vec<Table<u8>>,
@@ -39,7 +38,7 @@ pub(crate) struct Draft<'t> {
     imported: Blocks,
 }
 
-/// The effect of a line that is allowed there.
+/// The effect of a correctly placed line, by whether it repeats an earlier one.
 fn turn_of(again: bool) -> Turn
     ensures { result ≡ turn_of again }
 {
@@ -76,7 +75,7 @@ fn push_ask(
 }
 
 impl<'t> Draft<'t> {
-    /// No line yet.
+    /// The draft before the first line.
     pub(crate) fn new(alloc: Global) -> Draft<'t>
         ensures { Holds result no_lines }
     {
@@ -102,7 +101,7 @@ impl<'t> Draft<'t> {
         Some((count - 1) as u32)
     }
 
-    /// One more module.
+    /// Adds a module.
     fn add_module(&mut self, alloc: Global, number: u32, file: &[u8]) -> Result<Turn, AllocError>
         ensures { (m : maps.LinkMap) → Holds self.old m → IfOk result (λ turn. Takes turn self.new m number (Module file.now)) }
     {
@@ -114,7 +113,7 @@ impl<'t> Draft<'t> {
         Ok(Turn::On)
     }
 
-    /// One more export.
+    /// Adds an export.
     fn add_export(
         &mut self,
         alloc: Global,
@@ -135,7 +134,7 @@ impl<'t> Draft<'t> {
         Ok(turn_of(known || imported))
     }
 
-    /// One more import.
+    /// Adds an import.
     fn add_import(
         &mut self,
         alloc: Global,
@@ -155,7 +154,7 @@ impl<'t> Draft<'t> {
         Ok(turn_of(exported || known))
     }
 
-    /// Adds one more line, which has this number.
+    /// Adds a line, given its number.
     pub(crate) fn take(
         &mut self,
         alloc: Global,

@@ -1,4 +1,4 @@
-//! Lines, read as entries of a map.
+//! Parses a line of a map.
 ghost use Rattle.std.specs.Prelude.{◌≡◌, ◌≢◌, ℕ, ◌<◌, ◌^◌, true, List, ◌++◌, codes, decimal, IfSome, IfNone};
 ghost use Rattle.ft_link_map.specs.MapLines.{is_file, is_block_name, Says};
 ghost use Rattle.ft_link_map.specs.Reads.{line_of};
@@ -9,7 +9,7 @@ use ft_text::{after, split_word};
 /// What a line says.
 #[derive(Clone, Copy)]
 pub(crate) enum Entry<'t> {
-    /// A module, by its file.
+    /// A module, given by its file.
     Module(&'t [u8]),
     /// An export under a name.
     Export { name: &'t [u8], block: u32 },
@@ -30,7 +30,7 @@ fn read_module(line: &[u8]) -> Option<&[u8]>
     if is_file(file) { Some(file) } else { None }
 }
 
-/// The name and the block after the word of an export or import.
+/// The name and the block that follow the word `export` or `import`.
 fn read_ask(words: &[u8]) -> Option<(&[u8], u32)>
     ensures some { IfSome result (λ p. (is_block_name p.0.now ≡ true) × (words.now ≡ p.0.now ++ codes " " ++ decimal p.1)) }
     ensures none { IfNone result ((name : List ℕ) (block : ℕ) → is_block_name name ≡ true → block < 2 ^ 32 → words.now ≢ name ++ codes " " ++ decimal block) }

@@ -1,4 +1,4 @@
-//! Names that were exported.
+//! The set of names that earlier lines exported.
 ghost use Rattle.std.specs.Prelude.{◌≡◌, ◌||◌, not, false, ℕ, List, IfOk, OnOk};
 ghost use Rattle.std.specs.Str.{bytes_eq};
 ghost use Rattle.ft_link_map.specs.Held.{knows_name};
@@ -6,14 +6,14 @@ ghost use Rattle.ft_link_map.specs.Held.{knows_name};
 use std::alloc::{AllocError, Global};
 use std::collections::BTreeSet;
 
-/// A set of names, kept in order.
+/// An ordered set of names.
 #[derive(Drop)]
 pub(crate) struct Names<'t> {
     texts: BTreeSet<&'t [u8]>,
 }
 
 impl<'t> Names<'t> {
-    /// No name.
+    /// The empty set.
     #[tactic(auto, unfolding(crate::specs::Held::knows_name))]
     pub(crate) fn new(alloc: Global) -> Names<'t>
         ensures { (text : List ℕ) → knows_name result text ≡ false }
@@ -23,7 +23,7 @@ impl<'t> Names<'t> {
         }
     }
 
-    /// Notes a name; returns whether it was there before.
+    /// Adds a name; returns whether the set already had it.
     #[tactic(auto, unfolding(crate::specs::Held::knows_name))]
     pub(crate) fn note(&mut self, name: &'t [u8]) -> Result<bool, AllocError>
         ensures told { IfOk result (λ known. known ≡ knows_name self.old name.now) }

@@ -1,4 +1,4 @@
-//! Texts, read as link maps.
+//! Reads texts as link maps.
 ghost use Rattle.std.specs.Prelude.{◌≡◌, ◌≤◌, List, length, IfOk};
 ghost use Rattle.ft_link_map.specs.MapLines.{MapLine, AreSaid};
 ghost use Rattle.ft_link_map.specs.MapAnswers.{answer_of, Gives};
@@ -12,7 +12,7 @@ use crate::map_error::MapError;
 use ft_text::read_line;
 use std::alloc::Global;
 
-/// The first line that repeats, once the line with this number has had this effect.
+/// The first repeated line, updated with the effect of the line with this number.
 fn first_of(twice: Option<u32>, turn: Turn, number: u32) -> Option<u32>
     ensures { result ≡ first_of twice turn number }
 {
@@ -22,7 +22,7 @@ fn first_of(twice: Option<u32>, turn: Turn, number: u32) -> Option<u32>
     }
 }
 
-/// The answer for the lines of a text.
+/// The answer to the lines of a text.
 fn read_lines(alloc: Global, text: &[u8]) -> Result<LinkMap, MapError>
     requires { length text.now ≤ 65536 }
     ensures { (said : List MapLine) → AreSaid text.now said → Gives result (answer_of said) }
@@ -51,13 +51,13 @@ fn read_lines(alloc: Global, text: &[u8]) -> Result<LinkMap, MapError>
     }
 }
 
-/// Reads a link map: a text of lines, each `module FILE`, `export NAME B` or `import NAME B`, with a line feed at its
-/// end; the last line may lack it. FILE is 1 to 255 bytes from `!` to `~`, NAME is 1 to 32 bytes, a letter or `_` and
-/// then letters, digits or `_`, and B is a number text below 2^32. `Line` is returned for the first line that is not
-/// allowed where it is; else `Twice` for the first that repeats.
+/// Reads a link map: lines of the form `module FILE`, `export NAME B` or `import NAME B`, each ending with a line feed,
+/// which is optional on the last. FILE is 1 to 255 bytes from `!` to `~`. NAME is 1 to 32 bytes, a letter or `_`
+/// followed by letters, digits or `_`. B is a decimal number below 2^32 without leading zeros. `Line` reports the first
+/// misplaced line; if there is none, `Twice` reports the first repeated one.
 pub fn read_map(alloc: Global, text: &[u8]) -> Result<LinkMap, MapError>
     requires { length text.now ≤ 65536 }
-    // The lines say something, and the result is the answer to it, unless memory runs out.
+    // The lines have a reading, and the result is the answer to it, unless memory runs out.
     ensures said { (said : List MapLine) × AreSaid text.now said × Gives result (answer_of said) }
     ensures exact { (said : List MapLine) → AreSaid text.now said → Gives result (answer_of said) }
     ensures sound { IfOk result IsSound }

@@ -69,7 +69,7 @@ fn texts_are_judged(rt: HostRuntime) -> Result<(), Fail> {
     Ok(())
 }
 
-/// A text of these pieces: the first, `count` times the second, and the third.
+/// The first piece, then the second repeated `count` times, then the third.
 fn long_text(
     alloc: Global,
     first: &str,
@@ -85,7 +85,7 @@ fn long_text(
     Ok(text)
 }
 
-/// Pieces of long texts, and why these are refused.
+/// Pieces of long texts, and why the texts are refused.
 const LONG: &[(&str, u32, &str, &str, Option<MapError>)] = &[
     ("module ", 255, "m", "\n", None),
     ("module ", 256, "m", "\n", Some(MapError::Line { line: 1 })),

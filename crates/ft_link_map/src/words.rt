@@ -1,4 +1,4 @@
-//! The words of a line.
+//! The operands of a map line: files, block names and block numbers.
 ghost use Rattle.std.specs.Prelude.{◌≡◌, ◌≢◌, ℕ, ◌<◌, ◌^◌, decimal, IfSome, IfNone};
 ghost use Rattle.std.specs.List.{list_all};
 ghost use Rattle.ft_types.specs.Spellable.{is_letter};
@@ -54,7 +54,7 @@ fn are_word_bytes(text: &[u8]) -> bool
     text.iter().all(|byte| is_word_byte(*byte))
 }
 
-/// Whether a text is a letter or an underscore, and then letters, digits and underscores.
+/// Whether a text is a letter or underscore followed by letters, digits and underscores.
 fn begins_name(text: &[u8]) -> bool
     ensures { result ≡ begins_name text.now }
 {
@@ -64,14 +64,14 @@ fn begins_name(text: &[u8]) -> bool
     is_letter(*first) && are_word_bytes(rest)
 }
 
-/// Whether a text is a block's name: 1 to 32 bytes, a letter or an underscore and then letters, digits and underscores.
+/// Whether a text is a block's name: 1 to 32 bytes, a letter or underscore followed by letters, digits and underscores.
 pub(crate) fn is_block_name(text: &[u8]) -> bool
     ensures { result ≡ is_block_name text.now }
 {
     begins_name(text) && text.len() <= NAME_LIMIT
 }
 
-/// The number that a number text spells, if it is below 2^32; `None` exactly if the text spells no such number.
+/// The number below 2^32 that a text spells in decimal; `None` exactly if there is no such number.
 pub(crate) fn read_block(text: &[u8]) -> Option<u32>
     ensures some { IfSome result (λ n. text.now ≡ decimal n) }
     ensures none { IfNone result ((n : ℕ) → n < 2 ^ 32 → text.now ≢ decimal n) }

@@ -1,4 +1,4 @@
--- One more module: the totals, and what was added.
+-- The totals and the invariant of the linker after one more module.
 use Rattle.std.proofs.Common.{◌≡◌, ℕ, zero, suc, ◌+◌, ◌≤◌, ◌<◌, ◌^◌, true, List, [], ◌∷◌, ◌++◌, length, slice_get}
 use Rattle.std.proofs.Common.{Option, Some, None, refl, sym, ap, ◌∙◌, subst, arith}
 use Rattle.std.specs.Prelude.{All, ◌&&◌, sum_by}
@@ -23,7 +23,7 @@ use Rattle.ft_modules.proofs.Exact.{unless_true}
 
 -- TOTALS
 
--- a sum with one more
+-- a sum over one more module
 pub sum_more : (f : Object → ℕ) (ms : List Object) (o : Object) → sum_by f ms + f o ≡ sum_by f (ms ++ o ∷ [])
 sum_more f ms o = let a = sum_by-append f ms (o ∷ []) in let c = sum_by-cons f o [] in omega (arith, a, c)
 
@@ -72,7 +72,7 @@ pub few_by_totals : (t : Totals) (ms : List Object) → t ≡ totals_of ms → h
 unfolding are_few
 few_by_totals t ms e = ap has_few e
 
--- modules are few, since each has a code type
+-- there are at most as many modules as code types, since each module has one
 count_types : (ms : List Object) → All IsSpellable ms → length ms ≤ sum_by (λ (o : Object). length o.types) ms
 count_types [] h = omega arith
 count_types (o ∷ os) h =
@@ -84,16 +84,16 @@ count_types (o ∷ os) h =
 pub counted : (ms : List Object) → AreAdded ms → length ms < 2 ^ 32
 counted ms h = let c = count_types ms h.spelled in let f = h.few.types in omega (arith, c, f)
 
--- ADDED
+-- ADDED MODULES
 
--- the last of four
+-- if none of four refusals applies, the last one does not
 last_part : (a b c d : Option LinkRefusal) → option_or a (option_or b (option_or c d)) ≡ None → d ≡ None
 last_part None None None d e = e
 last_part None None (Some z) d e = cc
 last_part None (Some y) c d e = cc
 last_part (Some x) b c d e = cc
 
--- what passes the last test
+-- a module that is not refused keeps the totals within their limits
 passes_few : (ms : List Object) (o : Object) → added_refusal ms o ≡ None → are_few (ms ++ o ∷ []) ≡ true
 passes_few ms o e =
     unless_true (are_few (ms ++ o ∷ [])) (TooBig (length ms))
@@ -102,7 +102,7 @@ passes_few ms o e =
     (option_map (λ f. CodeOf (length ms) f.0 f.1) (first_walk_fault o 0 o.blocks))
     (unless (are_few (ms ++ o ∷ [])) (TooBig (length ms))) e)
 
--- a list of one element
+-- a fact about the only element of a list
 one_at : {X : Type 0} (P : X → Type 0) (x : X) → P x → (k : ℕ) (y : X) → slice_get (x ∷ []) k ≡ Some y → P y
 one_at P x h zero y e = let same : x ≡ y = cc in subst P same h
 one_at P x h (suc k) y e = cc

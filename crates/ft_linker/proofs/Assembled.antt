@@ -1,4 +1,4 @@
--- The linked object, from its parts.
+-- An object with the right parts is the linked object.
 use Rattle.std.proofs.Common.{◌≡◌, List, ◌∷◌, map, ◌∙◌, ap}
 use Rattle.std.specs.Prelude.{find}
 use Rattle.ft_types.specs.declared.object.Object.{Object}

@@ -1,4 +1,4 @@
--- Nodes of two objects, by their numbers.
+-- Nodes of two objects agree exactly if their numbers do.
 use Rattle.std.proofs.Common.{◌≡◌, ℕ, ◌+◌, true, false, List, [], length, slice_get, Option, Some, sym, ap, ◌∙◌, subst}
 use Rattle.std.proofs.Common.{true≢false}
 use Rattle.std.specs.Prelude.{◌↔◌, All, IsTrue}
@@ -39,15 +39,15 @@ module _ (cs : List ℕ) (o : Object) (k : ℕ) (x : Object) (l : ℕ) (one : Ar
             ∙ sym (memory_in x.nodes sd m other q)),
       )
 
--- a test that fails, and what does not hold
+-- `false` decides a fact that does not hold
 pub refuted : {P : Type 0} → (P → ⊥) → IsTrue false ↔ P
 refuted h = (λ e. absurd (true≢false (sym e)), λ p. absurd (h p))
 
--- what fails if a part of it fails
+-- a fact does not hold if it implies one that does not
 pub without : {P Q : Type 0} → IsTrue false ↔ Q → (P → Q) → IsTrue false ↔ P
 without t f = (λ e. absurd (true≢false (sym e)), λ p. t.1 (f p))
 
--- a code type of an object that is spelled has rows with nodes of integers
+-- the rows of a code type name nodes of integers, if the object obeys the rules of the format
 pub is_code_type : (o : Object) (t : ℕ) (y : CodeType) → IsSpellable o → slice_get o.types t ≡ Some y →
     IsCodeType (length o.types) o.nodes y
 is_code_type o t y s e = all_there (IsCodeType (length o.types) o.nodes) o.types t y s.types e
@@ -63,7 +63,7 @@ pairs_named o t y s e = all_of (HasPair o) y.queue (λ n q f.
     let is = all_there (IsQueueRow o.nodes y.ints) y.queue n q (is_code_type o t y s e).queue f in
     record { scope = y.ints; address = is.address; value = is.value })
 
--- what two code types say, by their rows
+-- two code types agree exactly if their variables, rows and memories do
 module _ (o : Object) (t : ℕ) (x : Object) (u : ℕ) (y z : CodeType) (e : slice_get o.types t
     ≡ Some y) (f : slice_get x.types u ≡ Some z) where
   pub ints_say : LikeTypes o t x u → y.ints ≡ z.ints

@@ -1,4 +1,4 @@
--- Lines of a map, one after the other.
+-- The tests of a map's lines, one line at a time.
 use Rattle.std.proofs.Common.{◌≡◌, ℕ, suc, ◌+◌, ◌-◌, ◌<◌, ◌≤◌, Bool, true, false, cond, not, nat_lt, List, [], ◌∷◌}
 use Rattle.std.proofs.Common.{length, drop, slice_get, Option, Some, None, refl, sym, ap, ◌∙◌, subst, arith}
 use Rattle.std.specs.Prelude.{All, find}
@@ -34,7 +34,7 @@ use Rattle.ft_modules.proofs.Exact.{none_found, has_block_by}
 
 -- FINDING
 
--- a test of what is left, one element further
+-- the search in what is left of a list, advanced by one element
 found_here : {X : Type 0} (p : X → Bool) (xs : List X) (n : ℕ) (x : X) → slice_get xs n ≡ Some x → p x ≡ true →
     find p (drop n xs) ≡ Some x
 found_here p xs n x e t = ap (find p) (drop_next xs n x e) ∙ ap (λ b. cond b (Some x) (find p (drop (n + 1) xs))) t
@@ -46,7 +46,7 @@ found_later p xs n x e t = ap (find p) (drop_next xs n x e) ∙ ap (λ b. cond b
 found_never : {X : Type 0} (p : X → Bool) (xs : List X) (n : ℕ) → length xs ≤ n → find p (drop n xs) ≡ None
 found_never p xs n le = ap (find p) (drop_all n xs le)
 
--- LINES WITHOUT THEIR BLOCKS
+-- LINES WITHOUT A BLOCK
 
 pub without_here : (modules : List Object) (asks : List Ask) (n : ℕ) (a : Ask) → slice_get asks n ≡ Some a →
     has_block modules a.module a.block ≡ false → first_without modules (drop n asks) ≡ Some a.line
@@ -71,7 +71,7 @@ have_blocks modules asks e = all_of (λ (a : Ask). HasBlock modules a.module a.b
     (not-false _ (none_found (λ (z : Ask). not (has_block modules z.module z.block)) asks (map_parts line_of _ e) n a
     f)))
 
--- whether a module has a block, by the object
+-- whether a module has a block is read off its object
 pub has_block_there : (modules : List Object) (m b : ℕ) (o : Object) → slice_get modules m ≡ Some o →
     nat_lt b (length o.blocks) ≡ has_block modules m b
 has_block_there modules m b o e = sym (ap (λ (u : Option Object).
@@ -104,7 +104,7 @@ stub_one o b first past x e f one there =
     ∙ ap (λ z. x ∷ z) (range_past o.instrs (suc first) past (omega (arith, one)))))
     ∙ (λ i. is_stub (slice_range o.instrs (e i) (f i)))
 
--- an object with its block
+-- a block that exists is one of its object's blocks
 pub below_there : (modules : List Object) (m b : ℕ) (o : Object) → HasBlock modules m b → slice_get modules m ≡ Some o →
     b < length o.blocks
 below_there modules m b o h e =
@@ -112,7 +112,7 @@ below_there modules m b o h e =
     let same : h.object ≡ o = cc in
     subst (λ (x : Object). b < length x.blocks) same h.below
 
--- the export of a name has its block
+-- the block of a name's export exists
 pub export_has : (modules : List Object) (exports : List Ask) (name : List ℕ) (a : Ask) →
     All (λ (e : Ask). HasBlock modules e.module e.block) exports → export_of exports name ≡ Some a →
     HasBlock modules a.module a.block
@@ -120,7 +120,7 @@ export_has modules exports name a h e =
     let f = found_there (λ (z : Ask). same_name z.name name) exports a e in
     all_there (λ (z : Ask). HasBlock modules z.module z.block) exports f.place a h f.there
 
--- what a comparison of two code types says of two blocks
+-- comparing the code types of two blocks decides whether they agree
 pub like_exactly : (modules : List Object) (m n b d : ℕ) (o x : Object) (y z : Placed) (r : Bool) → slice_get modules m
     ≡ Some o → slice_get modules n ≡ Some x → slice_get o.blocks b ≡ Some y → slice_get x.blocks d ≡ Some z →
     (r ≡ true → LikeTypes o y.code_type x z.code_type) → (LikeTypes o y.code_type x z.code_type → r ≡ true) → r
@@ -174,9 +174,9 @@ pub export_never : (exports : List Ask) (name : List ℕ) (n : ℕ) → length e
     ≡ None
 export_never exports name n le = found_never (λ (z : Ask). same_name z.name name) exports n le
 
--- REFUSALS IN ORDER
+-- THE ORDER OF REFUSALS
 
--- what an error says stays if something comes after
+-- an error still means its refusal if later refusals are added
 pub refusal_first : (x y : Option LinkRefusal) (e : LinkError) → IsRefusalOf x e → IsRefusalOf (option_or x y) e
 refusal_first x y (Cells m) h = ap (λ z. option_or z y) h
 refusal_first x y (Rows m) h = ap (λ z. option_or z y) h
@@ -188,7 +188,7 @@ refusal_first x y (Missing l) h = ap (λ z. option_or z y) h
 refusal_first x y (Types l) h = ap (λ z. option_or z y) h
 refusal_first x y NoMemory h = tt
 
--- what an error says stays if nothing comes before
+-- an error still means its refusal if there are none before it
 pub refusal_after : (x y : Option LinkRefusal) (e : LinkError) → x ≡ None → IsRefusalOf y e →
     IsRefusalOf (option_or x y) e
 refusal_after x y e n h = subst (λ z. IsRefusalOf (option_or z y) e) (sym n) h
@@ -196,7 +196,7 @@ refusal_after x y e n h = subst (λ z. IsRefusalOf (option_or z y) e) (sym n) h
 pub refusal_by : (x y : Option LinkRefusal) (e : LinkError) → x ≡ y → IsRefusalOf y e → IsRefusalOf x e
 refusal_by x y e s h = subst (λ z. IsRefusalOf z e) (sym s) h
 
--- imports, one after the other
+-- the refusals of imports, one import at a time
 pub imports_next : (modules : List Object) (exports imports : List Ask) (n : ℕ) (i : Ask) → slice_get imports n
     ≡ Some i → imports_refusal modules exports (drop n imports)
     ≡ option_or (import_refusal modules exports i) (imports_refusal modules exports (drop (n + 1) imports))

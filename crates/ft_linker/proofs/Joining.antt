@@ -1,4 +1,4 @@
--- Joins and what they change.
+-- Joins, and the addresses that they change.
 use Rattle.std.proofs.Common.{◌≡◌, ℕ, zero, suc, ◌+◌, ◌<◌, ◌≤◌, true, false, cond, List, [], ◌∷◌, ◌++◌, length, map}
 use Rattle.std.proofs.Common.{take, drop, slice_get, Option, Some, None, refl, sym, ap, ◌∙◌, subst, arith}
 use Rattle.std.specs.Prelude.{All, filter_map, find}
@@ -29,12 +29,12 @@ use Rattle.ft_modules.proofs.Landings.{start_there, type_there}
 
 -- JOINS
 
--- links in options
+-- `Some` is injective on links
 some_link : (a b : Link) → Some a ≡ Some b → a ≡ b
 some_link a b e = cc
 
 module _ (linkage : LinkMap) where
-  -- an import, with the export of its name
+  -- an import as a link to the export of its name
   abbrev pub link_of : Ask → Option Link
   link_of i = link_by i (export_of linkage.exports i.name)
 
@@ -56,7 +56,7 @@ module _ (linkage : LinkMap) where
   unfolding links
   all_joined js n h le = h ∙ ap (filter_map link_of) (take_all n linkage.imports le)
 
--- one import is joined
+-- the joins after one more import
 pub joined_none : (js : List Join) (i : Ask) (u : Option Ask) → u ≡ None → map link_as js ≡ map link_as js
     ++ cons_option (link_by i u) []
 joined_none js i u e = sym (ap (λ z. map link_as js ++ cons_option (link_by i z) []) e ∙ append-nil (map link_as js))
@@ -77,7 +77,7 @@ joined_some js ks i a u e longer =
 
 module _ (modules : List Object) (starts : List Before) (can : CanBeLaid modules) (are : starts
     ≡ laid start_part nothing_before modules) where
-  -- the totals before a module
+  -- the totals before a module, in the table of starts
   pub before_there : (m b : ℕ) → HasBlock modules m b → slice_get starts m
       ≡ Some (before_module nothing_before modules m)
   before_there m b h = ap (λ z. slice_get z m) are
@@ -137,7 +137,7 @@ module _ (modules : List Object) (starts : List Before) (can : CanBeLaid modules
   pub type_is : k.types + y.code_type ≡ code_type_in modules m b
   type_is = λ i. (k_is i).types + sym (type_there modules m b h.object y h.there y_there) i
 
--- the number of a block
+-- the number of a block in the linked object is within the limit
 pub number_fits : (modules : List Object) (starts : List Before) (can : CanBeLaid modules) (are : starts
     ≡ laid start_part nothing_before modules) (m b : ℕ) (k : Before) → HasBlock modules m b → slice_get starts m
     ≡ Some k → k.blocks + b < 65536
@@ -147,7 +147,7 @@ number_fits modules starts can are m b k h e =
     let below = h.below in
     omega (arith, fits, below)
 
--- one more change, before the others
+-- one more change, in front of the others
 pub change_next : (modules : List Object) (js : List Join) (i : ℕ) (j : Join) (d : Changes) → slice_get js i ≡ Some j →
     Holds d (change_of modules (link_as j) ∷ map (change_of modules) (map link_as (drop (i + 1) js))) →
     Holds d (map (change_of modules) (map link_as (drop i js)))
@@ -159,7 +159,7 @@ pub change_none : (modules : List Object) (js : List Join) (i : ℕ) (d : Change
 change_none modules js i d le h = subst (λ (z : List Join). Holds d (map (change_of modules) (map link_as z)))
     (sym (drop_all i js le)) h
 
--- finding a join
+-- the search for a join, one join at a time
 pub join_here : (entry : ℕ) (js : List Join) (i : ℕ) (j : Join) → slice_get js i ≡ Some j → is_from entry (link_as j)
     ≡ true → find (is_from entry) (map link_as (drop i js)) ≡ Some (link_as j)
 join_here entry js i j e t = ap (λ z. find (is_from entry) (map link_as z)) (drop_next js i j e)
@@ -187,7 +187,7 @@ found_join entry js j e =
     go (x ∷ xs) zero h = (zero, x, refl, (let one : link_as x ≡ link_as j = some_link (link_as x) (link_as j) h in one))
     go (x ∷ xs) (suc n) h = let r = go xs n h in (suc r.0, r.1, r.2, r.3)
 
--- so its blocks are there
+-- so its target block exists
 pub to_there : (modules : List Object) (entry : ℕ) (js : List Join) (j : Join) → All (HasBoth modules) js →
     find (is_from entry) (map link_as js) ≡ Some (link_as j) → HasBlock modules j.to_module j.to_block
 to_there modules entry js j h e =

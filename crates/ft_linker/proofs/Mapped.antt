@@ -1,9 +1,9 @@
--- Lists that are mapped element by element, after what was there.
+-- Loops that append the image of each element to a list.
 use Rattle.std.proofs.Common.{◌≡◌, ℕ, zero, suc, ◌+◌, List, [], ◌∷◌, ◌++◌, take, map, length, ◌<◌, get_or, Some}
 use Rattle.std.proofs.Common.{slice_get, sym, ap, ◌∙◌, append_assoc, arith}
 use Rattle.std.proofs.lemmas.Option.{slice_get-get_or}
 
--- one more of the first elements, mapped
+-- the image of one more element
 map_more : {X Y : Type 0} (f : X → Y) (xs : List X) (k : ℕ) (x : X) → slice_get xs k ≡ Some x → map f (take (suc k) xs)
     ≡ map f (take k xs) ++ f x ∷ []
 map_more f [] k x e = cc

@@ -1,4 +1,4 @@
--- One more node is numbered.
+-- Numbers the nodes one at a time.
 use Rattle.std.proofs.Common.{◌≡◌, ℕ, ◌+◌, ◌<◌, ◌≤◌, Bool, true, false, cond, List, [], ◌∷◌, ◌++◌}
 use Rattle.std.proofs.Common.{length, slice_get, Option, Some, None, refl, sym, ap, ◌∙◌, subst, arith, length-append}
 use Rattle.std.specs.Prelude.{unwrap_or}
@@ -16,22 +16,22 @@ use Rattle.ft_modules.specs.TreeKeys.{AreTreeNumbers, number_in, key_of}
 use Rattle.ft_modules.proofs.Keys.{keys_same}
 use Rattle.ft_linker.specs.Numbers.{AreKnown, AreNumbered}
 
--- PARTS
+-- EARLIER NUMBERS
 
--- an earlier number stays
+-- appending a number keeps the earlier ones
 number_more : (cs : List ℕ) (c i : ℕ) → i < length cs → number_in (cs ++ c ∷ []) i ≡ number_in cs i
 number_more cs c i lt = get_or_append_left cs (c ∷ []) 0 i lt
 
 number_last : (cs : List ℕ) (c : ℕ) → number_in (cs ++ c ∷ []) (length cs) ≡ c
 number_last cs c = get_or_push cs c 0 (length cs) refl
 
--- so a key stays if its parts are earlier
+-- so a key stays the same if its parts are earlier
 key_more : (cs : List ℕ) (c n : ℕ) (s : Shape) → HasPartsBelow n s → n ≤ length cs → key_of (cs ++ c ∷ []) s
     ≡ key_of cs s
 key_more cs c n s h le = renamed_alike (number_in (cs ++ c ∷ [])) (number_in cs) s
     (each_part (λ b i. i < n) _ (λ b i lt. number_more cs c i (omega (arith, lt, le))) s h)
 
--- ONE MORE
+-- ONE MORE NODE
 
 some_one : (a b : ℕ) → Some a ≡ Some b → a ≡ b
 some_one a b e = cc
@@ -48,7 +48,7 @@ module _ (nodes : List Node) (cs : List ℕ) (n c : ℕ) (y : Node) (known next 
   abbrev last_key : Shape
   last_key = key_of cs y.shape
 
-  -- the parts of node i, up to n
+  -- the parts of node i come before it
   parts : (i : ℕ) (z : Node) → slice_get nodes i ≡ Some z → HasPartsBelow i z.shape
   parts i z e = parts_below nodes i z.scope z.shape (are.each i z e).shape
 
@@ -64,7 +64,7 @@ module _ (nodes : List Node) (cs : List ℕ) (n c : ℕ) (y : Node) (known next 
   number_new : number_in ds n ≡ c
   number_new = subst (λ (k : ℕ). number_in ds k ≡ c) h.count (number_last cs c)
 
-  -- what is next known of a key whose number was known, or that is the new one
+  -- a key that was known keeps its number
   known_by : (b : Bool) (q : Shape) (d : ℕ) → test q ≡ b → known q ≡ Some d → next q ≡ Some d
   known_by true q d t e =
       let same : last_key ≡ q = sym (only q t) in
@@ -94,7 +94,7 @@ module _ (nodes : List Node) (cs : List ℕ) (n c : ℕ) (y : Node) (known next 
         ∙ known_new ∙ ap Some (sym number_new ∙ ap (number_in ds) (sym here))
   ]
 
-  -- the first node of a key
+  -- node d is one of the first n + 1, and has key k
   First : Shape → ℕ → Type 0
   First k d = (z : Node) × (d < n + 1) × (slice_get nodes d ≡ Some z) × (key_of ds z.shape ≡ k)
 
@@ -120,7 +120,7 @@ module _ (nodes : List Node) (cs : List ℕ) (n c : ℕ) (y : Node) (known next 
   first_next : (k : Shape) (d : ℕ) → next k ≡ Some d → First k d
   first_next k d e = first_by (test k) k d refl e
 
-  -- numbers are equal exactly if keys are
+  -- two numbers are equal exactly if the keys are
   numbers_of_keys : (i j : ℕ) (u z : Node) → i < n + 1 → j < n + 1 → slice_get nodes i ≡ Some u → slice_get nodes j
       ≡ Some z → number_in ds i ≡ number_in ds j → key_of ds u.shape ≡ key_of ds z.shape
   unfolding First
@@ -138,7 +138,7 @@ module _ (nodes : List Node) (cs : List ℕ) (n c : ℕ) (y : Node) (known next 
   keys_of_numbers i j u z li lj e f same =
       some_one _ _ (sym (each_next i u li e) ∙ ap next same ∙ each_next j z lj f)
 
-  -- the numbers so far, in the longer list
+  -- the earlier nodes keep their numbers
   trees_old : AreTreeNumbers nodes ds n
   trees_old i j li lj =
       let t = h.trees i j li lj in
@@ -164,7 +164,7 @@ module _ (nodes : List Node) (cs : List ℕ) (n c : ℕ) (y : Node) (known next 
     first = first_next;
   }
 
--- no node is numbered yet
+-- before any node is numbered
 pub known_none : (nodes : List Node) (cs : List ℕ) (known : Shape → Option ℕ) → cs ≡ [] →
     ((q : Shape) → known q ≡ None) →
     AreKnown nodes cs 0 known
@@ -175,12 +175,12 @@ known_none nodes cs known e h = record {
   first = λ k c f. let g = sym (h k) ∙ f in cc;
 }
 
--- the number of nodes is the length of their list
+-- once all nodes are numbered
 pub all_known : (nodes : List Node) (cs : List ℕ) (n : ℕ) (known : Shape → Option ℕ) → AreKnown nodes cs n known → n
     ≡ length nodes → AreNumbered nodes cs
 all_known nodes cs n known h e = record { count = h.count ∙ e; trees = subst (AreTreeNumbers nodes cs) e h.trees }
 
--- one more node, with a longer list given by an equation
+-- one more node, where an equation gives the longer list
 pub known_next : (nodes : List Node) (cs ds : List ℕ) (n c : ℕ) (y : Node) (known next : Shape →
     Option ℕ) (test : Shape →
     Bool) (k : Shape) → AreNodes nodes → AreKnown nodes cs n known → slice_get nodes n ≡ Some y → k

@@ -1,4 +1,4 @@
--- How linking ends: the refusal by its parts, and what holds of the linked object.
+-- How linking ends: in one of the refusals, or with an object for which the promises hold.
 use Rattle.std.proofs.Common.{◌≡◌, ℕ, zero, suc, ◌≤◌, List, [], ◌∷◌, length, map, slice_get, Option, Some, None, refl}
 use Rattle.std.proofs.Common.{sym, ap, ◌∙◌, subst, arith}
 use Rattle.std.specs.Prelude.{All}
@@ -21,19 +21,19 @@ use Rattle.ft_linker.specs.Joins.{HasBoth, link_as}
 use Rattle.ft_linker.specs.Linking.{AreAdded, IsLinked, refusal_of}
 use Rattle.ft_linker.specs.declared.joins.Join.{Join}
 
--- the refusals that come after those of the modules
+-- the refusals that are possible once all modules are added
 abbrev pub later_refusal : LinkMap → List Object → Option LinkRefusal
 later_refusal linkage ms = option_or (option_map NoBlock
     (lower_line (first_without ms linkage.exports) (first_without ms linkage.imports)))
     (imports_refusal ms linkage.exports linkage.imports)
 
--- modules that were added are refused only for these
+-- modules that were added are refused only for one of these
 pub refusal_is : (linkage : LinkMap) (ms : List Object) → AreAdded ms → 1 ≤ length ms → refusal_of linkage ms
     ≡ later_refusal linkage ms
 refusal_is linkage [] h some = absurd (omega (arith, some))
 refusal_is linkage (f ∷ fs) h some = ap (λ z. option_or z (later_refusal linkage (f ∷ fs))) h.unrefused
 
--- linkable if nothing is refused
+-- modules are linkable if nothing is refused
 linkable_when : (linkage : LinkMap) (f : Object) (fs : List Object) → AreAdded (f ∷ fs) → refusal_of linkage (f ∷ fs)
     ≡ None → AreLinkable linkage f fs
 linkable_when linkage f fs h e = (linkable_exactly linkage f fs (λ m o there.

@@ -1,4 +1,4 @@
--- A spelled module's parts can be raised, if its numbers fit after those before it.
+-- The parts of a module can be raised if it obeys the rules of the format and fits after the modules before it.
 use Rattle.std.proofs.Common.{◌≡◌, ℕ, zero, suc, ◌+◌, ◌<◌, ◌≤◌, ◌^◌, ◌==◌, List, [], ◌∷◌, length, slice_get, Option}
 use Rattle.std.proofs.Common.{Some, None, refl, ap, ◌∙◌, subst, arith, eqb-true}
 use Rattle.std.specs.Option.{option_map}
@@ -78,7 +78,7 @@ blocks_raise o k s f = λ n y e.
 
 -- INSTRUCTIONS
 
--- what follows in a row of substitutions, and a substitution in it
+-- each of the substitutions that cover the rows obeys the rules
 cover_by : (nodes : List Node) (rows first : ℕ) (us : List Subst) (x : Option Subst) →
     Cover nodes rows first (before x us) → (f : ℕ) × Cover nodes rows f us
 cover_by nodes rows first us None h = (first, h)
@@ -98,7 +98,7 @@ cover_one nodes rows first (j ∷ js) zero i u h e g = let same : j ≡ i = cc i
 cover_one nodes rows first (j ∷ js) (suc n) i u h e g = let r =
     cover_by nodes rows first (substs_of js) (subst_of j) h in cover_one nodes rows r.0 js n i u r.1 e g
 
--- the address of a block is low
+-- the address of a block is at most the number of instructions
 address_by : (o : Object) (w t : ℕ) (y : Option Block) → IsSpellable o → block_at o w ≡ y → option_map code_type_of y
     ≡ Some t → w ≤ length o.instrs
 unfolding block_at

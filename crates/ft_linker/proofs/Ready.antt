@@ -1,4 +1,4 @@
--- Modules that were added can be laid, and their nodes compared.
+-- Modules that were added can be laid, and their nodes can be compared.
 use Rattle.std.proofs.Common.{◌≡◌, ℕ, ◌+◌, ◌<◌, ◌≤◌, List, length, slice_get, get_or, Some, refl, sym, ◌∙◌, subst}
 use Rattle.std.proofs.Common.{arith}
 use Rattle.std.specs.Prelude.{sum_by}
@@ -28,7 +28,7 @@ use Rattle.ft_linker.specs.Numbers.{AreCompared, AreNumbered}
 use Rattle.ft_linker.specs.Joins.{AreReady}
 use Rattle.ft_linker.specs.Linking.{AreAdded}
 
--- a module that is accepted has moves of typed words
+-- each `mov` of an accepted module has a word of the type that it claims
 moves_of : (o : Object) → IsSpellable o → IsAccepted o → HasTypedMoves o
 moves_of o s a = λ n rd v b e.
     let p = instr_in_block o n (Mov rd v b) s e in

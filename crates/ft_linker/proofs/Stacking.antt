@@ -1,4 +1,4 @@
--- Tables of modules that grow by one module at a time.
+-- The tables of modules grow by one module at a time.
 use Rattle.std.proofs.Common.{◌≡◌, ℕ, zero, suc, ◌+◌, ◌<◌, ◌≤◌, List, [], ◌∷◌, ◌++◌, length, take, Some, slice_get}
 use Rattle.std.proofs.Common.{refl, sym, ap, ◌∙◌, subst, append_assoc, append-nil, arith}
 use Rattle.std.specs.Prelude.{sum_by}
@@ -11,7 +11,7 @@ use Rattle.ft_modules.specs.Linked.{laid, nothing_before, after_module, before_m
 use Rattle.ft_linker.specs.Tables.{Fits, start_part, AreLaid, AddsModule}
 use Rattle.ft_linker.specs.declared.laying.Laid.{Laid}
 
--- one more module
+-- one table after one more module
 laid_more : {X : Type 0} (part : Before → Object → List X) (k : Before) (modules : List Object) (m : ℕ) (o : Object) →
     slice_get modules m ≡ Some o → laid part k (take m modules) ++ part (before_module k modules m) o
     ≡ laid part k (take (suc m) modules)
@@ -29,7 +29,7 @@ laid_next part modules m o k old new e f g h =
     h ∙ (λ i. g i ++ part (f i) o) ∙ laid_more part nothing_before modules m o e
     ∙ (let n : suc m ≡ m + 1 = omega arith in ap (λ j. laid part nothing_before (take j modules)) n)
 
--- all tables
+-- all tables after one more module
 pub all_next : (modules : List Object) (m : ℕ) (o : Object) (k : Before) (old new : Laid) → slice_get modules m
     ≡ Some o → k ≡ before_module nothing_before modules m → AreLaid (take m modules) old → AddsModule old new k o →
     AreLaid (take (m + 1) modules) new
@@ -42,7 +42,7 @@ all_next modules m o k old new e f g h = record {
   substs = laid_next _ modules m o k old.substs.items new.substs.items e f g.substs h.substs;
 }
 
--- the numbers of a kind up to a module are at most those of all
+-- the rows of a kind up to and including a module are at most those of all modules
 pub before_low : (offset : Before → ℕ) (size : Object → ℕ) →
     ((k : Before) (o : Object) → offset (after_module k o) ≡ offset k + size o) →
     (k : Before) (modules : List Object) (m : ℕ) (o : Object) → slice_get modules m ≡ Some o →
@@ -91,7 +91,7 @@ pub taken : (modules : List Object) (m : ℕ) (l : Laid) → length modules ≤ 
     AreLaid modules l
 taken modules m l le h = subst (λ (z : List Object). AreLaid z l) (take_all m modules le) h
 
--- the totals before module m, in the table of starts
+-- row m of the table of starts is the totals before module m
 pub start_of_module : (k : Before) (modules : List Object) (m : ℕ) → m < length modules →
     slice_get (laid start_part k modules) m ≡ Some (before_module k modules m)
 unfolding laid before_module

@@ -1,4 +1,4 @@
--- The walk, one instruction and one block further; and arrays that stand for maps.
+-- The walk, advanced by one instruction or one block, and the arrays that represent finite maps.
 use Rattle.std.proofs.Common.{◌≡◌, ℕ, zero, suc, ◌+◌, ◌-◌, ◌<◌, ◌≤◌, true, false, cond, ◌==◌, ◌&&◌, List, [], ◌∷◌}
 use Rattle.std.proofs.Common.{length, take, drop, slice_get, Option, Some, None, refl, sym, ap, ◌∙◌, arith}
 use Rattle.std.specs.Prelude.{slice_range, if◌then◌else◌}
@@ -25,7 +25,7 @@ use Rattle.ft_modules.proofs.LinkedContexts.{entered_get}
 
 -- LISTS
 
--- a stretch, with its first element
+-- a slice, split at its first element
 take_one : {X : Type 0} (n : ℕ) (x : X) (xs : List X) → take (suc n) (x ∷ xs) ≡ x ∷ take n xs
 take_one n x xs = refl
 
@@ -41,7 +41,7 @@ nothing_taken (y ∷ ys) = refl
 
 -- ROWS
 
--- one more row is free
+-- the test for rows of entered registers, one row at a time
 pub free_more : (e : Entered) (rows : List RegType) (j : ℕ) (r : RegType) → slice_get rows j ≡ Some r →
     are_free e (drop j rows) ≡ (is_free e r.reg && are_free e (drop (suc j) rows))
 free_more e rows j r f = ap (list_all (λ (q : RegType). is_free e q.reg)) (drop_there rows j r f)
@@ -60,7 +60,7 @@ free_ends e rows j le = ap (list_all (λ (q : RegType). is_free e q.reg)) (drop_
 
 -- ARRAYS
 
--- an array with one element changed
+-- an array after one element is set
 set_same : {X : Type 0} (xs : List X) (i : ℕ) (v : X) → i < length xs → slice_get (set xs i v) i ≡ Some v
 set_same [] i v lt = absurd (omega (arith, lt))
 set_same (x ∷ xs) zero v lt = refl
@@ -125,7 +125,7 @@ pub fault_later : (o : Object) (b : ℕ) (y : Block) (ys : List Block) → code_
     ≡ None → first_walk_fault o b (y ∷ ys) ≡ first_walk_fault o (suc b) ys
 fault_later o b y ys e = ap (λ z. option_or (option_map (λ j. (b, j)) z) (first_walk_fault o (suc b) ys)) e
 
--- one instruction further
+-- the walk of a block, one instruction at a time
 pub walk_next : (o : Object) (e : Entered) (first i past : ℕ) (x : Instr) → slice_get o.instrs i ≡ Some x → i < past →
     first ≤ i → is_traced o e x ≡ true → code_walk o e (i - first) (slice_range o.instrs i past)
     ≡ code_walk o (entered_after x e) ((i + 1) - first) (slice_range o.instrs (i + 1) past)
@@ -145,7 +145,7 @@ pub walk_over : (o : Object) (e : Entered) (k i past : ℕ) → past ≤ i → c
     ≡ None
 walk_over o e k i past le = ap (code_walk o e k) (range_past o.instrs i past le) ∙ walk_ends o e k
 
--- one block further
+-- the walk of an object, one block at a time
 pub block_next_fault : (o : Object) (b first past : ℕ) → b < length o.blocks → first ≡ block_start o b → past
     ≡ block_end o b → code_walk o finite.empty 0 (slice_range o.instrs first past) ≡ None →
     first_walk_fault o b (drop b o.blocks) ≡ first_walk_fault o (b + 1) (drop (b + 1) o.blocks)

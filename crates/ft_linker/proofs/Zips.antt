@@ -4,7 +4,7 @@ use Rattle.std.proofs.Common.{subst, arith}
 use Rattle.std.specs.List.{AllZip}
 use Rattle.std.proofs.lemmas.List.{take_all}
 
--- one more element of each
+-- one more element of each list
 zip_next : {X : Type 0} (R : X → X → Type 0) (xs ys : List X) (k : ℕ) (x y : X) → AllZip R (take k xs) (take k ys) →
     slice_get xs k ≡ Some x → slice_get ys k ≡ Some y → R x y → AllZip R (take (suc k) xs) (take (suc k) ys)
 zip_next R [] ys k x y h e f r = cc
@@ -18,7 +18,7 @@ pub zip_more : {X : Type 0} (R : X → X → Type 0) (xs ys : List X) (k : ℕ) 
 zip_more R xs ys k x y h e f r = let n : suc k ≡ k + 1 = omega arith in
     subst (λ (j : ℕ). AllZip R (take j xs) (take j ys)) n (zip_next R xs ys k x y h e f r)
 
--- an element of each
+-- the elements at one index
 pub zip_at : {X : Type 0} (R : X → X → Type 0) (xs ys : List X) (k : ℕ) (x y : X) → AllZip R xs ys → slice_get xs k
     ≡ Some x → slice_get ys k ≡ Some y → R x y
 zip_at R [] ys k x y h e f = cc
@@ -33,7 +33,7 @@ zip_long R [] (y ∷ ys) h = absurd h
 zip_long R (x ∷ xs) [] h = absurd h
 zip_long R (x ∷ xs) (y ∷ ys) h = ap suc (zip_long R xs ys h.1)
 
--- all elements
+-- all elements, once the prefixes are the whole lists
 pub zip_whole : {X : Type 0} (R : X → X → Type 0) (xs ys : List X) (k : ℕ) → AllZip R (take k xs) (take k ys) →
     length xs ≤ k → length ys ≤ k → AllZip R xs ys
 zip_whole R xs ys k h le lf = subst (λ (z : List _). AllZip R z ys) (take_all k xs le)

@@ -1,4 +1,4 @@
--- Imports joined with exports, as the code keeps them.
+-- Joins of imports with exports, as the code keeps them.
 use Rattle.std.specs.Prelude.{◌≡◌, ℕ, ◌+◌, ◌==◌, ◌&&◌, Bool, List, Some, slice_get}
 use Rattle.ft_isa.specs.Words.{code_address}
 use Rattle.ft_types.specs.declared.object.Object.{Object}
@@ -21,7 +21,7 @@ address_in modules m b = code_address ((before_module nothing_before modules m).
 abbrev pub code_type_in : List Object → ℕ → ℕ → ℕ
 code_type_in modules m b = (before_module nothing_before modules m).types + type_in modules m b
 
--- its number in the linked object
+-- the number of a block of a module in the linked object
 abbrev pub number_in : List Object → ℕ → ℕ → ℕ
 number_in modules m b = (before_module nothing_before modules m).blocks + b
 
@@ -34,7 +34,7 @@ pub record HasBoth (modules : List Object) (j : Join) : Type 0 where
 abbrev pub is_from : ℕ → Link → Bool
 is_from entry l = (l.module_of == 0) && (l.block == entry)
 
--- these are the tables of these modules, and these are the numbers of all nodes
+-- these are the tables of these modules, and the numbers of all their nodes
 pub record AreReady (modules : List Object) (l : Laid) (numbers : List ℕ) : Type 0 where
   pub can : CanBeLaid modules
   pub tables : AreLaid modules l

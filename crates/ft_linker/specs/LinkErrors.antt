@@ -1,10 +1,10 @@
--- What the linker's errors say.
+-- Which refusal each error of the linker means.
 use Rattle.std.specs.Prelude.{◌≡◌, Option, Some}
 use Rattle.ft_modules.specs.LinkRefusals.{LinkRefusal, Cells, Rows, CodeOf, TooBig, NoBlock, Stub, Missing, Types}
 use Rattle.ft_linker.specs.declared.link_error.LinkError.{LinkError}
 use Rattle.ft_linker.specs.declared.link_error.LinkError.TheVariants as errors
 
--- an error says which refusal it is; running out of memory claims nothing
+-- the error means this refusal; if memory ran out, nothing is claimed
 abbrev pub IsRefusalOf : Option LinkRefusal → LinkError → Type 0
 IsRefusalOf x (errors.Cells m) = x ≡ Some (Cells m)
 IsRefusalOf x (errors.Rows m) = x ≡ Some (Rows m)

@@ -1,4 +1,4 @@
--- Modules that are added, and the object that they are linked into.
+-- When modules are added, and what object they are linked into.
 use Rattle.std.specs.Prelude.{◌≡◌, ℕ, List, [], ◌∷◌, length, Option, None, All}
 use Rattle.ft_isa.specs.declared.plan.Strike.{Strike}
 use Rattle.ft_isa.specs.declared.plan.Wild.{Wild}
@@ -14,21 +14,21 @@ use Rattle.ft_modules.specs.Linked.{linked}
 use Rattle.ft_modules.specs.LinkRefusals.{LinkRefusal, module_refusal, modules_refusal, link_refusal}
 use Rattle.ft_modules.specs.ModulesRun.{modules_outputs, modules_status}
 
--- the cells that an object added to these modules must have: the first one's
+-- the cells that an object must have to be added to these modules: the first one's
 abbrev pub cells_of : List Object → Object → List Cell
 cells_of [] o = o.cells
 cells_of (first ∷ others) o = first.cells
 
--- why an object is not added to these modules, if it is not
+-- why an object is refused as the next module, if it is
 abbrev pub added_refusal : List Object → Object → Option LinkRefusal
 added_refusal modules o = module_refusal modules (length modules) (cells_of modules o) o
 
--- why these modules are not linked, if they are not
+-- why these modules are not linked, if they cannot be
 abbrev pub refusal_of : LinkMap → List Object → Option LinkRefusal
 refusal_of linkage [] = None
 refusal_of linkage (first ∷ others) = link_refusal linkage first others
 
--- why modules are not added in turn, if they are not
+-- why these modules, added in turn, are refused, if one is
 abbrev pub turns_refusal : List Object → Option LinkRefusal
 turns_refusal [] = None
 turns_refusal (first ∷ others) = modules_refusal [] 0 first.cells (first ∷ others)
@@ -40,8 +40,8 @@ pub record AreAdded (modules : List Object) : Type 0 where
   pub unrefused : turns_refusal modules ≡ None
   pub few : AreFew modules
 
--- this is the object that the map makes of the modules; it obeys the rules, is accepted, and runs as they do, with one
--- fault masked or detected
+-- the object is what the map makes of the modules; it obeys the rules, is accepted, and runs as they do, with one fault
+-- masked or detected
 pub record IsLinked (linkage : LinkMap) (modules : List Object) (o : Object) : Type 0 where
   pub first : Object
   pub others : List Object

@@ -1,4 +1,4 @@
--- What can be raised: parts of a module whose numbers stay within their types after they are raised.
+-- What can be raised: the parts of a module whose numbers still fit their types after they are raised.
 use Rattle.std.specs.Prelude.{◌≡◌, ℕ, zero, suc, ◌+◌, ◌<◌, ◌^◌, List, Some, slice_get}
 use Rattle.ft_isa.specs.declared.basic.Base.{Base}
 use Rattle.ft_isa.specs.declared.basic.Base.TheVariants.{Int, Code}
@@ -13,7 +13,7 @@ use Rattle.ft_types.specs.declared.object.CodeType.{CodeType}
 use Rattle.ft_types.specs.declared.object.RegType.{RegType}
 use Rattle.ft_modules.specs.declared.before.Before.{Before}
 
--- a fact of each element of a list
+-- a fact about each element of a list
 abbrev pub Each : {X : Type 0} → (X → Type 0) → List X → Type 0
 Each {X} P xs = (n : ℕ) (x : X) → slice_get xs n ≡ Some x → P x
 
@@ -48,7 +48,7 @@ pub record CanRaiseSubst (k : Before) (u : Subst) : Type 0 where
   pub past : k.substs + u.past < 2 ^ 32
   pub memory : k.nodes + u.memory < 2 ^ 32
 
--- a claimed code type and its word
+-- the word and the claimed code type of a `mov`
 abbrev pub CanRaiseOver : Before → ℕ → ℕ → Base → Type 0
 CanRaiseOver k w zero Int = Unit {0}
 CanRaiseOver k w zero (Code t) = (k.instrs + w < 2 ^ 64) × (k.types + t < 2 ^ 16)

@@ -1,4 +1,4 @@
--- Modules laid one after the other: when they can be, and what their tables are then.
+-- Modules laid one after another: when they can be, and what their tables then are.
 use Rattle.std.specs.Prelude.{◌≡◌, ℕ, ◌+◌, ◌≤◌, List, [], ◌∷◌, ◌++◌, length, Some, slice_get, All}
 use Rattle.ft_isa.specs.declared.basic.Basic.{Basic}
 use Rattle.ft_isa.specs.declared.colour.Coloured.{Coloured}
@@ -12,7 +12,8 @@ use Rattle.ft_modules.specs.declared.before.Before.{Before}
 use Rattle.ft_modules.specs.Linked.{laid, nothing_before, nodes_part, types_part, blocks_part, instrs_part, substs_part}
 use Rattle.ft_linker.specs.declared.laying.Laid.{Laid}
 
--- a module after those before it: the numbers of all are within their limits
+-- a module fits after those before it: the totals of nodes, code types, blocks, instructions and substitution rows stay
+-- within their limits
 pub record Fits (k : Before) (o : Object) : Type 0 where
   pub nodes : k.nodes + length o.nodes ≤ 1048576
   pub types : k.types + length o.types ≤ 4096
@@ -24,17 +25,17 @@ pub record Fits (k : Before) (o : Object) : Type 0 where
 abbrev pub HasTypedMoves : Object → Type 0
 HasTypedMoves o = (n : ℕ) (rd : Reg) (v : Coloured) (b : Basic) → slice_get o.instrs n ≡ Some (Mov rd v b) → HasType o v.word b
 
--- modules that can be laid one after the other
+-- modules that can be laid one after another
 pub record CanBeLaid (modules : List Object) : Type 0 where
   pub spelled : All IsSpellable modules
   pub typed : All HasTypedMoves modules
   pub few : AreFew modules
 
--- the totals before a module, as a table with one row for it
+-- the totals before a module, as a table with one row
 abbrev pub start_part : Before → Object → List Before
 start_part k o = k ∷ []
 
--- these are the tables of modules, with their numbers raised
+-- these are the tables of the modules, with their numbers raised
 pub record AreLaid (modules : List Object) (l : Laid) : Type 0 where
   pub starts : l.starts.items ≡ laid start_part nothing_before modules
   pub nodes : l.nodes.items ≡ laid nodes_part nothing_before modules
@@ -43,7 +44,7 @@ pub record AreLaid (modules : List Object) (l : Laid) : Type 0 where
   pub instrs : l.instrs.items ≡ laid instrs_part nothing_before modules
   pub substs : l.substs.items ≡ laid substs_part nothing_before modules
 
--- the tables with one more module after those before it
+-- the new tables are the old ones followed by one more module's
 pub record AddsModule (old new : Laid) (k : Before) (o : Object) : Type 0 where
   pub starts : new.starts.items ≡ old.starts.items ++ start_part k o
   pub nodes : new.nodes.items ≡ old.nodes.items ++ nodes_part k o

@@ -1,4 +1,4 @@
--- How many rows of each kind modules have in all.
+-- How many rows of each kind the modules have in all.
 use Rattle.std.specs.Prelude.{◌≤◌, Bool, ◌&&◌, nat_le, List, length, sum_by}
 use Rattle.ft_types.specs.declared.object.Object.{Object}
 use Rattle.ft_types.specs.Spellable.{reg_row_count, queue_row_count}

@@ -1,4 +1,4 @@
-//! The linked object, put together.
+//! Assembles the linked object from the laid tables.
 ghost use Rattle.std.specs.Prelude.{◌≡◌, ◌<◌, ◌∷◌, All, IfOk, Some, length, map, slice_get};
 ghost use Rattle.std.specs.Prelude.{List};
 ghost use Rattle.ft_types.specs.declared.object.Object.{Object as Module};
@@ -26,7 +26,7 @@ fn first_cells(alloc: Global, objects: &[Object]) -> Result<Table<Cell>, AllocEr
     }
 }
 
-/// The linked object of modules that were laid.
+/// The linked object of modules that have been laid.
 pub fn put_together(
     alloc: Global,
     objects: &[Object],

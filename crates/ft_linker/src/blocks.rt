@@ -1,4 +1,4 @@
-//! Walks of blocks.
+//! Walks blocks, and finds the first fault.
 ghost use Rattle.std.specs.Prelude.{◌≡◌, ◌<◌, ◌≤◌, length, slice_range};
 ghost use Rattle.std.specs.FinMap as finite;
 ghost use Rattle.ft_types.specs.Objects.{block_end, block_start};
@@ -9,7 +9,7 @@ ghost use Rattle.ft_modules.specs.LinkRefusals.{first_walk_fault};
 use crate::traced::Traced;
 use ft_types::Object;
 
-/// Where block `b` begins and where it ends: where the next block begins, or after the last instruction.
+/// Where block `b` begins and ends. It ends where the next block begins, or after the last instruction.
 pub fn block_range(object: &Object, b: u32) -> (u32, u32)
     requires spellable { IsSpellable object.now }
     requires there { b < length object.now.blocks }
@@ -28,7 +28,7 @@ pub fn block_range(object: &Object, b: u32) -> (u32, u32)
     (block.start, count)
 }
 
-/// The first of these instructions, counted from the first one, at which the walk fails.
+/// The index, counted from `first`, of the first of these instructions at which the walk fails.
 fn walk(object: &Object, first: u32, past: u32) -> Option<u32>
     requires { past ≤ length object.now.instrs }
     ensures { result ≡ code_walk object.now finite.empty 0 (slice_range object.now.instrs first past) }
@@ -44,7 +44,7 @@ fn walk(object: &Object, first: u32, past: u32) -> Option<u32>
     None
 }
 
-/// The first block of an object, and the index in it, at which the walk fails.
+/// The first block at which the walk fails, and the index in it.
 pub fn first_fault(object: &Object) -> Option<(u32, u32)>
     requires { IsSpellable object.now }
     ensures { result ≡ first_walk_fault object.now 0 object.now.blocks }

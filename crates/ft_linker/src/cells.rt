@@ -1,4 +1,4 @@
-//! Tests of cells and of code types.
+//! Compares cells, and tests for types with base `int`.
 ghost use Rattle.std.specs.Prelude.{◌≡◌};
 ghost use Rattle.std.specs.List.{list_all};
 ghost use Rattle.ft_modules.specs.Links.{same_name};
@@ -73,7 +73,7 @@ fn are_plain_rows(rows: &[RegType]) -> bool
     rows.iter().all(|row| is_int(row.basic.base))
 }
 
-/// Whether the bases of all register rows of code types are `int`.
+/// Whether the bases of all register rows of these code types are `int`.
 pub fn have_plain_rows(types: &[CodeType]) -> bool
     ensures { result ≡ list_all has_plain_rows types.now }
 {

@@ -1,4 +1,4 @@
-//! Moves of imported blocks' addresses.
+//! Redirects the addresses of imported blocks in moves.
 ghost use Rattle.std.specs.Prelude.{◌≡◌, [], ◌∷◌, List, Some, OnOk, map};
 ghost use Rattle.std.specs.Option.{option_map};
 ghost use Rattle.ft_modules.specs.Linked.{Change, change_at, changed_instr};
@@ -7,14 +7,14 @@ use ft_isa::{Base, Basic, Coloured, Instr};
 use std::alloc::{AllocError, Global};
 use std::collections::BTreeMap;
 
-/// Where a code address is redirected: to the first instruction of a block of this code type.
+/// The new code address, where a block of this code type begins.
 #[derive(Clone, Copy, Debug, PartialEq, Eq, Drop)]
 pub struct Target {
     pub address: u64,
     pub code_type: u16,
 }
 
-/// Code addresses that are redirected to others.
+/// Code addresses that are redirected.
 #[derive(Drop)]
 pub struct Changes {
     targets: BTreeMap<u64, Target>,
@@ -32,7 +32,7 @@ impl Changes {
         }
     }
 
-    /// Redirects an address to another, replacing an earlier change of it.
+    /// Redirects an address, replacing any earlier change of it.
     pub fn send(&mut self, from: u64, target: Target) -> Result<(), AllocError>
         ensures { OnOk result ((c : Change) (cs : List Change) → c.from ≡ from → target_of c ≡ target → Holds self.old cs → Holds self.new (c ∷ cs)) }
     {
@@ -40,14 +40,14 @@ impl Changes {
         Ok(())
     }
 
-    /// Where an address is redirected.
+    /// Where an address is redirected, if it is.
     fn at(&self, address: u64) -> Option<Target>
         ensures { (cs : List Change) → Holds self.now cs → result ≡ option_map target_of (change_at cs address) }
     {
         self.targets.get(&address).copied()
     }
 
-    /// An instruction, with its move changed if its address is redirected.
+    /// An instruction; if it is a move of a redirected address, with the new address and code type.
     fn change_instr(&self, instr: Instr) -> Instr
         ensures { (cs : List Change) → Holds self.now cs → result ≡ changed_instr cs instr }
     {
@@ -77,7 +77,7 @@ impl Changes {
         }
     }
 
-    /// Changes the moves of instructions.
+    /// Changes all moves of redirected addresses.
     pub fn change(&self, instrs: &mut [Instr])
         ensures { (cs : List Change) → Holds self.now cs → instrs.new ≡ map (changed_instr cs) instrs.old }
     {

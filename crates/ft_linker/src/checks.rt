@@ -1,4 +1,4 @@
-//! Tests of a module that is added, and of lines whose block does not exist.
+//! Tests of a module when it is added, and of the blocks that the map's lines name.
 ghost use Rattle.std.specs.Prelude.{◌≡◌, ◌<◌, ◌^◌, ◌&&◌, [], ◌∷◌, ◌++◌, IfErr, None, OnOk, length};
 ghost use Rattle.std.specs.List.{list_all};
 ghost use Rattle.std.specs.Option.{option_map};
@@ -14,7 +14,7 @@ use crate::link_error::LinkError;
 use ft_link_map::LinkMap;
 use ft_types::{Cell, Object, Table};
 
-/// The cells that an object added to these must have.
+/// The cells that an object must have to be added to these objects.
 fn first_cells<'a>(objects: &'a [Object], object: &'a Object) -> &'a Table<Cell>
     ensures { result.now ≡ cells_of objects.now object.now }
 {
@@ -25,7 +25,7 @@ fn first_cells<'a>(objects: &'a [Object], object: &'a Object) -> &'a Table<Cell>
     }
 }
 
-/// Whether an object has the cells of the objects before it, and the bases of all are `int`.
+/// Whether an object has the same cells as the objects before it, and the bases of all of them are `int`.
 fn has_cells(objects: &[Object], object: &Object) -> bool
     ensures { result ≡ (same_cells object.now.cells (cells_of objects.now object.now) && list_all is_plain_cell object.now.cells) }
 {
@@ -33,7 +33,7 @@ fn has_cells(objects: &[Object], object: &Object) -> bool
         && are_plain_cells(object.cells.as_slice())
 }
 
-/// Tests an object that is added to these: its cells, its rows, the walk through its blocks, and the
+/// Tests an object before it is added to these objects: its cells, its rows, the walk through its blocks, and the
 /// totals.
 pub fn check_module(objects: &[Object], object: &Object, few: bool) -> Result<(), LinkError>
     requires spelled { IsSpellable object.now }
@@ -62,7 +62,7 @@ pub fn check_module(objects: &[Object], object: &Object, few: bool) -> Result<()
     Ok(())
 }
 
-/// Tests that the modules of all exports and imports have their blocks.
+/// Tests that the blocks of all exports and imports exist.
 pub fn check_lines(objects: &[Object], linkage: &LinkMap) -> Result<(), LinkError>
     ensures unrefused { OnOk result (lower_line (first_without objects.now linkage.now.exports) (first_without objects.now linkage.now.imports) ≡ None) }
     ensures refused { IfErr result (λ e. IsRefusalOf (option_map NoBlock (lower_line (first_without objects.now linkage.now.exports) (first_without objects.now linkage.now.imports))) e) }

@@ -1,4 +1,4 @@
-//! Tests of imports.
+//! Tests of imports against the exports of their names.
 ghost use Rattle.std.specs.Prelude.{◌≡◌, All, IfErr, None, OnOk, slice_get};
 ghost use Rattle.ft_modules.specs.Linkable.{HasBlock};
 ghost use Rattle.ft_modules.specs.Links.{type_in};
@@ -15,7 +15,7 @@ use crate::types::{Numbered, same_types};
 use ft_link_map::Ask;
 use ft_types::{Object, Table};
 
-/// Whether the code types of an imported and an exported block say the same.
+/// Whether the code types of an imported and an exported block agree.
 fn like_blocks(objects: &[Object], laid: &Laid, numbers: &[u32], import: &Ask, export: &Ask) -> bool
     requires ready { AreReady objects.now laid.now numbers.now }
     requires from { HasBlock objects.now import.now.module import.now.block }
@@ -42,7 +42,7 @@ fn like_blocks(objects: &[Object], laid: &Laid, numbers: &[u32], import: &Ask, e
     same_types(numbers, a, one.code_type, b, other.code_type)
 }
 
-/// Tests an import: the block is a stub, its name is exported, and both code types say the same.
+/// Tests an import: the block is a stub, its name is exported, and the two code types agree.
 fn check_import(
     objects: &[Object],
     laid: &Laid,
@@ -73,7 +73,7 @@ fn check_import(
     }
 }
 
-/// Tests imports in their order.
+/// Tests the imports in order.
 pub fn check_imports(
     objects: &[Object],
     laid: &Laid,

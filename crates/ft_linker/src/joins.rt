@@ -1,4 +1,4 @@
-//! Imports joined with the exports of their names, and what they change.
+//! Joins imports with the exports of their names, and finds what that changes.
 ghost use Rattle.std.specs.Prelude.{◌≡◌, ◌<◌, ◌++◌, [], All, IfOk, OnOk, Some, find, length, map, slice_get};
 ghost use Rattle.std.specs.List.{cons_option};
 ghost use Rattle.std.specs.Option.{option_map};
@@ -16,7 +16,7 @@ use ft_modules::Before;
 use ft_types::{Block, Object};
 use std::alloc::{AllocError, Global};
 
-/// An imported block and the exported block that replaces it, each by its module and its number in it.
+/// An imported block and the exported block that replaces it, each given by its module and its number in that module.
 #[derive(Clone, Copy)]
 pub struct Join {
     pub module_of: u32,
@@ -27,7 +27,7 @@ pub struct Join {
 
 ghost use Rattle.ft_linker.specs.Joins.{HasBoth, address_in, code_type_in, is_from, link_as, number_in};
 
-/// Adds an import, joined with the export of its name, if there is one.
+/// Joins an import with the export of its name and adds it, if there is such an export.
 fn push_join(joins: &mut Vec<Join>, linkage: &LinkMap, import: &Ask) -> Result<(), AllocError>
     ensures { OnOk result (map link_as joins.new.items ≡ map link_as joins.old.items ++ cons_option (link_by import.now (export_of linkage.now.exports import.now.name)) []) }
 {
@@ -45,7 +45,7 @@ fn push_join(joins: &mut Vec<Join>, linkage: &LinkMap, import: &Ask) -> Result<(
     }
 }
 
-/// The imports of a map, each with the export of its name if there is one.
+/// The imports of a map that have an export of their name, each joined with it.
 pub fn joined(alloc: Global, linkage: &LinkMap) -> Result<Vec<Join>, AllocError>
     ensures { IfOk result (λ v. map link_as v.items ≡ links linkage.now) }
 {
@@ -112,7 +112,7 @@ fn number(objects: &[Object], starts: &[Before], m: u32, b: u32) -> u32
     at
 }
 
-/// The changes that joins make.
+/// The changes of addresses that the joins make.
 pub fn changes_of(
     alloc: Global,
     objects: &[Object],

@@ -1,4 +1,4 @@
-//! The tables of modules, laid one after the other.
+//! Lays the tables of modules one after another.
 ghost use Rattle.std.specs.Prelude.{◌≡◌, [], IfOk, OnOk};
 ghost use Rattle.ft_types.specs.Spellable.{IsSpellable};
 ghost use Rattle.ft_modules.specs.Linked.{after_module};
@@ -10,7 +10,7 @@ use ft_static::Node;
 use ft_types::{Block, CodeType, Object};
 use std::alloc::{AllocError, Global};
 
-/// The tables of modules laid one after the other, with their numbers raised, and the totals before each module.
+/// The concatenated tables of modules, with their numbers raised, and the totals before each module.
 #[derive(Drop)]
 pub struct Laid {
     pub starts: Vec<Before>,
@@ -21,7 +21,7 @@ pub struct Laid {
     pub substs: Vec<u32>,
 }
 
-/// Before the first module, all totals are 0.
+/// The totals before the first module: all 0.
 const NOTHING: Before = Before {
     nodes: 0,
     types: 0,
@@ -33,7 +33,7 @@ const NOTHING: Before = Before {
 impl Laid {
     ghost use Rattle.ft_linker.specs.Tables.{AddsModule, AreLaid, Fits, HasTypedMoves};
 
-    /// No tables.
+    /// Empty tables.
     #[tactic(auto, unfolding(ft_modules::specs::Linked::laid))]
     fn new(alloc: Global) -> Laid
         ensures { AreLaid [] result }
@@ -48,7 +48,7 @@ impl Laid {
         }
     }
 
-    /// Lays a module after those before it.
+    /// Appends a module's tables.
     fn add(&mut self, alloc: Global, k: Before, object: &Object) -> Result<(), AllocError>
         requires spelled { IsSpellable object.now }
         requires typed { HasTypedMoves object.now }

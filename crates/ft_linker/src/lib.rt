@@ -1,4 +1,4 @@
-//! The linker.
+//! The linker, which makes one object from modules and a map.
 //!
 //! The crate promises that a `Linker` is the list of the objects that were added, that `add` refuses a
 //! module exactly as `ft_modules` defines it, and that `finish` returns exactly the object that a sound map

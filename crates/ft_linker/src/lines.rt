@@ -1,4 +1,4 @@
-//! Tests of the lines of a map.
+//! Tests of a map's lines against the modules.
 ghost use Rattle.std.specs.Prelude.{◌≡◌, ◌<◌, length, Some, IfSome, IfNone, None, IfErr, OnOk, true};
 ghost use Rattle.ft_types.specs.Spellable.{IsSpellable};
 ghost use Rattle.ft_types.specs.Objects.{block_instrs};
@@ -11,7 +11,7 @@ use ft_isa::Instr;
 use ft_link_map::Ask;
 use ft_types::{Object, Table};
 
-/// Whether the module of an export or an import has its block.
+/// Whether the block of an export or import exists.
 #[tactic(auto, using(crate::proofs::JoinedBlocks::has_block_there, crate::proofs::JoinedBlocks::has_no_block))]
 fn has_block(objects: &[Object], ask: &Ask) -> bool
     ensures { result ≡ has_block objects.now ask.now.module ask.now.block }
@@ -24,7 +24,7 @@ fn has_block(objects: &[Object], ask: &Ask) -> bool
     }
 }
 
-/// The first line whose block does not exist.
+/// The line of the first export or import whose block does not exist.
 pub fn first_without(objects: &[Object], asks: &[Ask]) -> Option<u32>
     ensures { result ≡ first_without objects.now asks.now }
 {
@@ -37,7 +37,7 @@ pub fn first_without(objects: &[Object], asks: &[Ask]) -> Option<u32>
     None
 }
 
-/// The lower of two lines.
+/// The lower of two line numbers.
 pub fn lower_line(a: Option<u32>, b: Option<u32>) -> Option<u32>
     ensures { result ≡ lower_line a b }
 {
@@ -58,7 +58,7 @@ fn is_halt(instr: Instr) -> bool
     }
 }
 
-/// Whether block `b` is the one instruction `halt`.
+/// Whether block `b` consists of the single instruction `halt`.
 pub fn is_stub(object: &Object, b: u32) -> bool
     requires spelled { IsSpellable object.now }
     requires there { b < length object.now.blocks }

@@ -1,7 +1,7 @@
-//! Why modules are not linked.
+//! The errors of the linker.
 use thiserror::Error;
 
-/// Why modules are not linked.
+/// Why modules cannot be linked.
 #[derive(Clone, Copy, Debug, PartialEq, Eq, Error)]
 pub enum LinkError {
     #[error("link 3 {module}")]

@@ -1,4 +1,4 @@
-//! The linker.
+//! The linker's interface: modules are added one by one, then linked.
 ghost use Rattle.std.specs.Prelude.{◌≡◌, [], ◌∷◌, ◌++◌, None, length, IfErr, IfOk, OnErr, OnOk};
 ghost use Rattle.ft_link_map.specs.Sound.{IsSound};
 ghost use Rattle.ft_linker.specs.LinkErrors.{IsRefusalOf};
@@ -13,7 +13,7 @@ use ft_types::{Object, Program, copy_object};
 use std::alloc::Global;
 use std::marker::Model;
 
-/// The modules that were added, in their order. The linker keeps a copy of each.
+/// The modules that were added, in order. The linker keeps a copy of each.
 #[derive(Drop)]
 pub struct Linker {
     alloc: Global,
@@ -30,7 +30,7 @@ impl Model for Linker {
 }
 
 impl Linker {
-    /// A linker to which no module was added.
+    /// A linker without modules.
     pub fn new(alloc: Global) -> Result<Linker, NoMemory>
         ensures { IfOk result (λ l. l ≡ []) }
     {
@@ -41,8 +41,8 @@ impl Linker {
     }
 
     /// Adds a checked program as the next module. It is refused exactly as `added_refusal` says: its cells differ from
-    /// the first module's or have a `code` base, a register row has a `code` base, the walk fails at a block and an
-    /// index, or a total exceeds its limit. After an error the linker is unchanged.
+    /// the first module's or have a `code` base, a register row has a `code` base, the walk fails, or a total exceeds
+    /// its limit. After an error the linker is unchanged.
     pub fn add<'a, P: Program>(&mut self, checked: &Checked<'a, P>) -> Result<(), LinkError>
         ensures ok { OnOk result (self.new ≡ self.old ++ P.object checked.now ∷ []) }
         ensures unrefused { OnOk result (added_refusal self.old (P.object checked.now) ≡ None) }
@@ -56,9 +56,9 @@ impl Linker {
         }
     }
 
-    /// Links the modules as a sound map with that many files says, in the map's order, and consumes the linker. The
-    /// linked object obeys the rules of the format, is accepted, runs as the modules do, and tolerates one fault. The
-    /// errors are `Block`, `Stub`, `Missing` and `Types`, exactly as `refusal_of` says, and `NoMemory`.
+    /// Links the modules, in the map's order, by a sound map with as many files as there are modules, and consumes the
+    /// linker. The linked object obeys the rules of the format, is accepted, runs as the modules do, and tolerates one
+    /// fault. The errors are `Block`, `Stub`, `Missing` and `Types`, exactly as `refusal_of` says, and `NoMemory`.
     pub fn finish(self, linkage: &LinkMap) -> Result<Object, LinkError>
         requires sound { IsSound linkage.now }
         requires modules { length self ≡ length linkage.now.files }

@@ -1,4 +1,4 @@
-//! Modules that are added and linked.
+//! The modules of a linker, as objects.
 ghost use Rattle.std.specs.Prelude.{◌≡◌, [], ◌∷◌, ◌++◌, None, length, IfErr, IfOk, OnErr, OnOk};
 ghost use Rattle.ft_types.specs.Spellable.{IsSpellable};
 ghost use Rattle.ft_typing.specs.Accepted.{IsAccepted};
@@ -16,8 +16,7 @@ use ft_types::Object;
 use std::alloc::Global;
 use std::marker::Model;
 
-/// Objects that were added, in their order. Each obeys the rules of the format, is accepted and was not
-/// refused.
+/// The objects that were added, in order. Each obeys the rules of the format, is accepted and was not refused.
 #[derive(Drop)]
 pub struct Modules {
     alloc: Global,
@@ -76,7 +75,7 @@ impl Modules {
         Ok(())
     }
 
-    /// Links the objects as a sound map with that many modules says.
+    /// Links the objects by a sound map with as many files as there are objects.
     pub fn link(&self, linkage: &LinkMap) -> Result<Object, LinkError>
         requires sound { IsSound linkage.now }
         requires modules { length self.now ≡ length linkage.now.files }

@@ -1,4 +1,4 @@
-//! Numbers of trees.
+//! Numbers nodes so that equal trees have equal numbers.
 ghost use Rattle.std.specs.Prelude.{◌≡◌, ◌<◌, Some, IfOk, cond, length, unwrap_or};
 ghost use Rattle.ft_static.specs.NodeRules.{AreNodes};
 ghost use Rattle.ft_modules.specs.TreeKeys.{key_of, number_in};
@@ -21,7 +21,7 @@ fn number(numbers: &[u32], n: u32) -> u32
     numbers[n as usize]
 }
 
-/// The key of a shape: the shape with the numbers of its parts' trees in the place of the parts.
+/// The key of a shape: the shape with each part replaced by the number of the part's tree.
 fn key_of(numbers: &[u32], shape: Shape) -> Shape
     requires { HasPartsBelow (length numbers.now) shape }
     ensures { result ≡ key_of numbers.now shape }
@@ -49,7 +49,7 @@ fn key_of(numbers: &[u32], shape: Shape) -> Shape
     }
 }
 
-/// The known number of a key, or else this one, which is known from then on.
+/// Returns the number known for a key; if there is none, records and returns `next`.
 #[tactic(auto, unfolding(crate::specs::Keys::look))]
 fn number_key(known: &mut BTreeMap<Shape, u32>, key: Shape, next: u32) -> Result<u32, AllocError>
     ensures number { IfOk result (λ c. c ≡ unwrap_or (look known.old key) next) }
@@ -60,7 +60,7 @@ fn number_key(known: &mut BTreeMap<Shape, u32>, key: Shape, next: u32) -> Result
     Ok(number)
 }
 
-/// Numbers of nodes, in their order: two nodes have the same number exactly if they stand for the same tree.
+/// Numbers the nodes in order: two nodes have the same number exactly if they stand for the same tree.
 pub fn number_trees(alloc: Global, nodes: &[Node]) -> Result<Vec<u32>, AllocError>
     requires { AreNodes nodes.now }
     ensures { IfOk result (λ v. AreNumbered nodes.now v.items) }

@@ -1,4 +1,4 @@
-//! Parts of a module with their numbers raised.
+//! Raises the numbers in a module's rows to what they are in the linked object.
 ghost use Rattle.std.specs.Prelude.{◌≡◌, ◌<◌, ◌^◌, ◌+◌};
 ghost use Rattle.ft_modules.specs.Linked.{raised_block, raised_instr, raised_node, raised_pair, raised_row, raised_subst};
 ghost use Rattle.ft_linker.specs.Raises.{CanRaise, CanRaiseBlock, CanRaiseNode, CanRaisePair, CanRaiseRow, CanRaiseSubst};
@@ -8,7 +8,7 @@ use ft_modules::Before;
 use ft_static::{Node, Shape};
 use ft_types::{Block, RegType};
 
-/// A node of a module in the linked object.
+/// A module's node, as it is in the linked object.
 pub fn raise_node(k: u32, node: Node) -> Node
     requires { CanRaiseNode k node }
     ensures { result ≡ raised_node k node }
@@ -37,7 +37,7 @@ pub fn raise_node(k: u32, node: Node) -> Node
     }
 }
 
-/// A register row of a module in the linked object.
+/// A module's register row, as it is in the linked object.
 pub fn raise_row(k: u32, row: RegType) -> RegType
     requires { CanRaiseRow k row }
     ensures { result ≡ raised_row k row }
@@ -50,7 +50,7 @@ pub fn raise_row(k: u32, row: RegType) -> RegType
     }
 }
 
-/// A queue row of a module in the linked object.
+/// A module's queue row, as it is in the linked object.
 pub fn raise_pair(k: u32, pair: (u32, u32)) -> (u32, u32)
     requires { CanRaisePair k pair }
     ensures { result ≡ raised_pair k pair }
@@ -58,7 +58,7 @@ pub fn raise_pair(k: u32, pair: (u32, u32)) -> (u32, u32)
     (k + pair.0, k + pair.1)
 }
 
-/// A block of a module in the linked object.
+/// A module's block, as it is in the linked object.
 pub fn raise_block(k: Before, block: Block) -> Block
     requires { CanRaiseBlock k block }
     ensures { result ≡ raised_block k block }
@@ -69,7 +69,7 @@ pub fn raise_block(k: Before, block: Block) -> Block
     }
 }
 
-/// A substitution of a module in the linked object.
+/// A module's substitution, as it is in the linked object.
 fn raise_subst(k: Before, subst: Subst) -> Subst
     requires { CanRaiseSubst k subst }
     ensures { result ≡ raised_subst k subst }
@@ -81,7 +81,7 @@ fn raise_subst(k: Before, subst: Subst) -> Subst
     }
 }
 
-/// An instruction of a module in the linked object, before moves are changed.
+/// A module's instruction, as it is in the linked object before moves are changed.
 pub fn raise_instr(k: Before, instr: Instr) -> Instr
     requires { CanRaise k instr }
     ensures { result ≡ raised_instr k instr }

@@ -1,4 +1,4 @@
-//! The parts of a module that are lists of rows, laid after those before.
+//! Appends a module's tables, with raised numbers, to those of the modules before it.
 ghost use Rattle.std.specs.Prelude.{◌≡◌, ◌<◌, ◌+◌, ◌^◌, ◌++◌, IfOk, OnOk, map, ℕ};
 ghost use Rattle.ft_modules.specs.Linked.{raised_block, raised_instr, raised_node, raised_pair, raised_row, raised_type};
 ghost use Rattle.ft_linker.specs.Raises.{CanRaise, CanRaiseBlock, CanRaiseNode, CanRaisePair, CanRaiseRow, CanRaiseType, Each};
@@ -10,7 +10,7 @@ use ft_static::Node;
 use ft_types::{Block, CodeType, RegType, Table};
 use std::alloc::{AllocError, Global};
 
-/// Nodes.
+/// Appends the nodes.
 pub fn lay_nodes(laid: &mut Vec<Node>, k: u32, nodes: &Table<Node>) -> Result<(), AllocError>
     requires { Each (CanRaiseNode k) nodes.now }
     ensures { OnOk result (laid.new.items ≡ laid.old.items ++ map (raised_node k) nodes.now) }
@@ -22,7 +22,7 @@ pub fn lay_nodes(laid: &mut Vec<Node>, k: u32, nodes: &Table<Node>) -> Result<()
     Ok(())
 }
 
-/// The register rows of a code type.
+/// The register rows of a code type, raised.
 fn raise_rows(alloc: Global, k: u32, rows: &Table<RegType>) -> Result<Vec<RegType>, AllocError>
     requires { Each (CanRaiseRow k) rows.now }
     ensures { IfOk result (λ v. v.items ≡ map (raised_row k) rows.now) }
@@ -35,7 +35,7 @@ fn raise_rows(alloc: Global, k: u32, rows: &Table<RegType>) -> Result<Vec<RegTyp
     Ok(raised)
 }
 
-/// The queue rows of a code type.
+/// The queue rows of a code type, raised.
 fn raise_pairs(
     alloc: Global,
     k: u32,
@@ -52,7 +52,7 @@ fn raise_pairs(
     Ok(raised)
 }
 
-/// A code type.
+/// A code type, raised.
 fn raise_type(alloc: Global, k: u32, code_type: &CodeType) -> Result<CodeType, AllocError>
     requires { CanRaiseType k code_type.now }
     ensures { IfOk result (λ t. t ≡ raised_type k code_type.now) }
@@ -67,7 +67,7 @@ fn raise_type(alloc: Global, k: u32, code_type: &CodeType) -> Result<CodeType, A
     })
 }
 
-/// Code types.
+/// Appends the code types.
 pub fn lay_types(
     alloc: Global,
     laid: &mut Vec<CodeType>,
@@ -84,7 +84,7 @@ pub fn lay_types(
     Ok(())
 }
 
-/// Blocks.
+/// Appends the blocks.
 pub fn lay_blocks(laid: &mut Vec<Block>, k: Before, blocks: &Table<Block>) -> Result<(), AllocError>
     requires { Each (CanRaiseBlock k) blocks.now }
     ensures { OnOk result (laid.new.items ≡ laid.old.items ++ map (raised_block k) blocks.now) }
@@ -96,7 +96,7 @@ pub fn lay_blocks(laid: &mut Vec<Block>, k: Before, blocks: &Table<Block>) -> Re
     Ok(())
 }
 
-/// Instructions, before moves are changed.
+/// Appends the instructions, before moves are changed.
 pub fn lay_instrs(laid: &mut Vec<Instr>, k: Before, instrs: &Table<Instr>) -> Result<(), AllocError>
     requires { Each (CanRaise k) instrs.now }
     ensures { OnOk result (laid.new.items ≡ laid.old.items ++ map (raised_instr k) instrs.now) }
@@ -108,7 +108,7 @@ pub fn lay_instrs(laid: &mut Vec<Instr>, k: Before, instrs: &Table<Instr>) -> Re
     Ok(())
 }
 
-/// Substitution rows.
+/// Appends the substitution rows.
 pub fn lay_substs(laid: &mut Vec<u32>, k: u32, substs: &Table<u32>) -> Result<(), AllocError>
     requires { Each (λ n. k + n < 2 ^ 32) substs.now }
     ensures { OnOk result (laid.new.items ≡ laid.old.items ++ map (λ n. k + n) substs.now) }

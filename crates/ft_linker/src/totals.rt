@@ -1,11 +1,11 @@
-//! Totals of modules.
+//! Counts the rows of all modules and tests them against the limits of one object.
 ghost use Rattle.std.specs.Prelude.{◌≡◌, ◌<◌, ◌^◌, [], ◌∷◌, ◌++◌, List};
 ghost use Rattle.ft_types.specs.Spellable.{IsSpellable, queue_row_count, reg_row_count};
 ghost use Rattle.ft_types.specs.declared.object.Object.{Object as Module};
 
 use ft_types::{CodeType, Object};
 
-/// How many rows of each kind modules have in all.
+/// How many rows of each kind the modules have in all.
 #[derive(Clone, Copy)]
 pub struct Totals {
     pub nodes: u32,
@@ -51,7 +51,7 @@ impl Totals {
         }
     }
 
-    /// The totals with one more module.
+    /// The totals after one more module.
     pub fn with(self, object: &Object) -> Totals
         requires spelled { IsSpellable object.now }
         requires few { HasFew self }

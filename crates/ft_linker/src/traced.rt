@@ -1,4 +1,4 @@
-//! Entered registers.
+//! The registers that hold a code address, as the walk tracks them.
 ghost use Rattle.std.specs.Prelude.{◌≡◌};
 ghost use Rattle.std.specs.FinMap as finite;
 ghost use Rattle.ft_isa.specs.Instructions.{number_of};
@@ -20,7 +20,7 @@ fn code_claimed(basic: Basic) -> Option<u16>
     }
 }
 
-/// The code type that an instruction claims of what it writes.
+/// The code type that an instruction claims for the word that it writes.
 fn claimed(instr: Instr) -> Option<u16>
     ensures { result ≡ claimed instr }
 {
@@ -30,7 +30,7 @@ fn claimed(instr: Instr) -> Option<u16>
     }
 }
 
-/// For each register, the code type with which it is entered.
+/// For each register, the code type with which it is entered, if it is.
 #[derive(Drop)]
 pub struct Traced {
     types: [Option<u16>; 64],
@@ -46,7 +46,7 @@ impl Traced {
         Traced { types: [None; 64] }
     }
 
-    /// The code type with which a register is entered.
+    /// The code type with which a register is entered, if it is.
     fn get(&self, r: Reg) -> Option<u16>
         ensures { (e : Entered) → Stands self.now e → result ≡ finite.get e r.number }
     {
@@ -103,7 +103,8 @@ impl Traced {
         true
     }
 
-    /// Whether a target is entered, with a code type without rows for entered registers.
+    /// Whether a target register is entered, and its code type has no row for an entered register. `target` is the code
+    /// type with which it is entered, if it is.
     fn is_free_target(&self, object: &Object, target: Option<u16>) -> bool
         ensures { (e : Entered) → Stands self.now e → result ≡ is_free_target object.now e target }
     {
@@ -133,7 +134,7 @@ impl Traced {
         }
     }
 
-    /// Passes an instruction.
+    /// Updates the entered registers after an instruction.
     pub fn pass(&mut self, instr: Instr)
         ensures { (e : Entered) → Stands self.old e → Stands self.new (entered_after instr e) }
     {

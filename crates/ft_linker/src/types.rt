@@ -1,4 +1,4 @@
-//! Code types of two modules, compared.
+//! Compares code types of two modules.
 ghost use Rattle.std.specs.Prelude.{◌≡◌, ◌↔◌, ◌<◌, ◌+◌, ℕ, IsTrue, All, length};
 ghost use Rattle.std.specs.List.{AllZip};
 ghost use Rattle.ft_types.specs.Spellable.{IsSpellable};
@@ -9,7 +9,7 @@ ghost use Rattle.ft_linker.specs.Numbers.{AreCompared, HasPair, HasRow};
 use ft_types::{Object, RegType, Table};
 use ft_typing::{same_basic, same_colour};
 
-/// A module's object, and where the numbers of its nodes' trees begin.
+/// A module's object, and the index of its first node's number.
 #[derive(Clone, Copy)]
 pub struct Numbered<'a> {
     pub object: &'a Object,
@@ -17,7 +17,7 @@ pub struct Numbered<'a> {
 }
 
 /// Whether node `n` of one module and node `m` of another have trees with the same number. The numbers of the modules'
-/// nodes begin at `k` and at `l`.
+/// nodes begin at the indices `k` and `l`.
 fn same_tree(numbers: &[u32], k: u32, n: u32, l: u32, m: u32) -> bool
     requires one { k + n < length numbers.now }
     requires other { l + m < length numbers.now }
@@ -26,7 +26,7 @@ fn same_tree(numbers: &[u32], k: u32, n: u32, l: u32, m: u32) -> bool
     numbers[k as usize + n as usize] == numbers[l as usize + m as usize]
 }
 
-/// Whether two register rows say the same.
+/// Whether two register rows agree.
 fn same_row(numbers: &[u32], a: Numbered, r: RegType, b: Numbered, q: RegType) -> bool
     requires one { IsSpellable a.object.now }
     requires other { IsSpellable b.object.now }
@@ -47,7 +47,7 @@ fn same_row(numbers: &[u32], a: Numbered, r: RegType, b: Numbered, q: RegType) -
     same_tree(numbers, a.first, r.expr, b.first, q.expr)
 }
 
-/// Whether register rows say the same, row by row.
+/// Whether two lists of register rows agree.
 fn same_rows(
     numbers: &[u32],
     a: Numbered,
@@ -75,7 +75,7 @@ fn same_rows(
     true
 }
 
-/// Whether two queue rows say the same.
+/// Whether two queue rows agree.
 fn same_pair(numbers: &[u32], a: Numbered, r: (u32, u32), b: Numbered, q: (u32, u32)) -> bool
     requires one { IsSpellable a.object.now }
     requires other { IsSpellable b.object.now }
@@ -91,7 +91,7 @@ fn same_pair(numbers: &[u32], a: Numbered, r: (u32, u32), b: Numbered, q: (u32, 
     same_tree(numbers, a.first, r.1, b.first, q.1)
 }
 
-/// Whether queue rows say the same, row by row.
+/// Whether two lists of queue rows agree.
 fn same_pairs(
     numbers: &[u32],
     a: Numbered,
@@ -119,7 +119,7 @@ fn same_pairs(
     true
 }
 
-/// Whether code type `t` of one module says what code type `u` of another says. Both exist.
+/// Whether code type `t` of one module and code type `u` of another agree. Both exist.
 pub fn same_types(numbers: &[u32], a: Numbered, t: u32, b: Numbered, u: u32) -> bool
     requires one { IsSpellable a.object.now }
     requires other { IsSpellable b.object.now }

@@ -1,4 +1,4 @@
--- The stack of numbers of blocks.
+-- The stack of block counts.
 use Rattle.std.proofs.Common.{◌≡◌, ◌≢◌, ℕ, List, [], ◌∷◌, ◌++◌, length, sym, ap, ◌∙◌, arith, append_assoc}
 use Rattle.std.proofs.Common.{length-append}
 use Rattle.std.proofs.lemmas.List.{same_from_push}
@@ -6,25 +6,25 @@ use Rattle.ft_syntax.specs.Plain.{Expression, StatementList, none, loop, choose}
 use Rattle.ft_scope.specs.declared.slot.Slot.{Slot}
 use Rattle.ft_lower.specs.Lowered.{block_count, body_counts}
 
--- if a number was put, there is one
+-- a stack onto which a number was pushed is not empty
 pub not_empty : (s xs : List ℕ) (k : ℕ) → s ≡ xs ++ k ∷ [] → s ≢ []
 not_empty s xs k h e = let l = ap length (sym h ∙ e) in absurd (omega (arith, l, length-append xs (k ∷ [])))
 
--- the number on top is a body's, and below it are those of its own bodies
+-- the count on top is that of a loop's body, and below it are those of the bodies in that body
 pub loop_stack : (below s0 s1 : List ℕ) (r : ℕ) (e : Expression Slot) (body : StatementList Slot) → s0 ≡ below
     ++ body_counts (loop e body none) → s0 ≡ s1 ++ r ∷ [] → (s1 ≡ below ++ body_counts body) × (r ≡ block_count body)
 loop_stack below s0 s1 r e body h g =
     same_from_push s1 (below ++ body_counts body) r (block_count body) (sym g ∙ h
     ∙ sym (append_assoc below (body_counts body) (block_count body ∷ [])))
 
--- a loop's numbers, taken from the stack one after another
+-- a loop's counts, popped one after another
 pub loop_taken : (s0 s1 s2 : List ℕ) (r : ℕ) (e : Expression Slot) (body : StatementList Slot) → r ≡ block_count body →
     s0 ≡ s1 ++ r ∷ [] → s1 ≡ s2 ++ body_counts body → s0 ≡ s2 ++ body_counts (loop e body none)
 loop_taken s0 s1 s2 r e body k g f =
     g ∙ ap (λ z. z ++ r ∷ []) f ∙ ap (λ n. (s2 ++ body_counts body) ++ n ∷ []) k
     ∙ append_assoc s2 (body_counts body) (block_count body ∷ [])
 
--- on top is the number of the first side; then comes that of the second, and below it are those of their bodies
+-- on top is the count of the first side, then that of the second, and below them are those of the bodies in both
 pub choice_stack : (below s0 s1 : List ℕ) (p : ℕ) (e : Expression Slot) (x y : StatementList Slot) → s0 ≡ below
     ++ body_counts (choose e x y none) → s0 ≡ s1 ++ p ∷ [] →
     (s1 ≡ ((below ++ body_counts y) ++ body_counts x) ++ block_count y ∷ []) × (p ≡ block_count x)
@@ -35,7 +35,7 @@ choice_stack below s0 s1 p e x y h g =
     ≡ (((below ++ cy) ++ cx) ++ block_count y ∷ []) ++ block_count x ∷ [] = simp append_assoc in
     same_from_push s1 (((below ++ cy) ++ cx) ++ block_count y ∷ []) p (block_count x) (sym g ∙ h ∙ flat)
 
--- a choice's numbers, put onto the stack one after another
+-- a choice's counts, pushed one after another
 pub choice_put : (s0 s1 s2 s3 s4 : List ℕ) (p q : ℕ) (e : Expression Slot) (x y : StatementList Slot) → s1 ≡ s0
     ++ body_counts y → s2 ≡ s1 ++ body_counts x → s3 ≡ s2 ++ q ∷ [] → s4 ≡ s3 ++ p ∷ [] → p ≡ block_count x → q
     ≡ block_count y → s4 ≡ s0 ++ body_counts (choose e x y none)
@@ -46,7 +46,7 @@ choice_put s0 s1 s2 s3 s4 p q e x y e1 e2 e3 e4 k l =
     let flat : (((s0 ++ cy) ++ cx) ++ q ∷ []) ++ p ∷ [] ≡ s0 ++ (cy ++ (cx ++ q ∷ p ∷ [])) = simp append_assoc in
     all ∙ flat ∙ ap (λ z. s0 ++ (cy ++ (cx ++ z ∷ p ∷ []))) l ∙ ap (λ z. s0 ++ (cy ++ (cx ++ block_count y ∷ z ∷ []))) k
 
--- a choice's numbers, taken from the stack one after another
+-- a choice's counts, popped one after another
 pub choice_taken : (s0 s1 s2 s3 s4 : List ℕ) (p q : ℕ) (e : Expression Slot) (x y : StatementList Slot) → p
     ≡ block_count x → q ≡ block_count y → s0 ≡ s1 ++ p ∷ [] → s1 ≡ s2 ++ q ∷ [] → s2 ≡ s3 ++ body_counts x → s3 ≡ s4
     ++ body_counts y → s0 ≡ s4 ++ body_counts (choose e x y none)

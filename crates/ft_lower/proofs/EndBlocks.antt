@@ -1,4 +1,4 @@
--- In which block steps end.
+-- How many blocks a row of steps ends.
 use Rattle.std.proofs.Common.{◌≡◌, ℕ, zero, suc, ◌+◌, List, [], ◌∷◌, ◌++◌, refl, ap, ◌∙◌, arith}
 use Rattle.ft_scope.specs.declared.slot.Slot.{Slot}
 use Rattle.ft_scope.specs.declared.slot.Slot.TheVariants.{Cell, Var, Run}
@@ -10,7 +10,7 @@ use Rattle.ft_lower.specs.Flow.{Place, on, first}
 use Rattle.ft_lower.specs.Lowered.{read, expression_steps, write, block_count, statement_steps, zeros}
 use Rattle.ft_lower.proofs.Runs.{next, after, after-append}
 
--- the block after two rows
+-- the block after two rows of steps
 pub block_append : (p : Place) (a b : List Step3) → (after p (a ++ b)).block ≡ (after (after p a) b).block
 block_append p a b = ap (λ (q : Place). q.block) (after-append p a b)
 
@@ -44,7 +44,7 @@ expression_block (operation o a b) t p =
 pub write_block : (n : ℕ) (x : Slot) (p : Place) → (next (write n x) p).block ≡ p.block
 write_block n x p = ap (λ (q : Place). q.block) (write_next n x p)
 
--- the zeros end no block
+-- the zeros at the start end no block
 pub zeros_block : (k : ℕ) (p : Place) → (after p (zeros k)).block ≡ p.block
 zeros_block zero p = refl
 zeros_block (suc k) p = block_append p (zeros k) (Put k 0 ∷ []) ∙ zeros_block k p

@@ -1,4 +1,4 @@
--- What the flow does where the program's run ends or is cut, and how such runs are joined.
+-- What the flow does if the program's run ends or is cut, and how stretches of a run are joined.
 use Rattle.std.proofs.Common.{◌≡◌, ℕ, suc, ◌+◌, ◌*◌, ◌≤◌, false, Some, refl, subst, arith}
 use Rattle.ft_scope.specs.declared.slot.Slot.{Slot}
 use Rattle.ft_syntax.specs.Plain.{Expression}
@@ -9,8 +9,8 @@ use Rattle.ft_lower.specs.Flow.{Blocks, Place, FlowState, first, goes_to, with_p
 use Rattle.ft_lower.proofs.Runs.{Reaches, reach_trans}
 use Rattle.ft_lower.proofs.Expressions.{Like, put_first, reach_act}
 
--- the flow comes to place p like the program's state, in at most twice the work less c steps, and in no fewer than the
--- loops taken
+-- the flow reaches place p in a state like the program's, in at most twice the work minus c steps, and in at least as
+-- many steps as turns were taken
 pub record EndsAt (bs : Blocks) (n c : ℕ) (p : Place) (s : State) (f : FlowState) (t : State) : Type 0 where
   pub end : FlowState
   pub taken : ℕ
@@ -19,7 +19,7 @@ pub record EndsAt (bs : Blocks) (n c : ℕ) (p : Place) (s : State) (f : FlowSta
   pub many : s.left ≤ t.left + taken
   pub like : Like n p t end
 
--- the same for a run that is cut: it is somewhere, with the outputs
+-- likewise for a run that is cut: the flow reaches some state with its outputs
 pub record CutsAt (bs : Blocks) (c : ℕ) (s : State) (f : FlowState) (t : State) : Type 0 where
   pub end : FlowState
   pub taken : ℕ
@@ -34,7 +34,7 @@ abbrev pub Runs : Blocks → ℕ → ℕ → Place → State → FlowState → O
 Runs bs n c p s f (Ended t) = EndsAt bs n c p s f t
 Runs bs n c p s f (Cut t) = CutsAt bs c s f t
 
--- j steps before
+-- j steps come first
 pub prepend : (bs : Blocks) (n c d j : ℕ) (p : Place) (s s1 : State) (f f1 : FlowState) (r : Outcome) →
     Reaches bs j f f1 → j + c + 2 * s.work ≤ d + 2 * s1.work → s.left ≤ s1.left + j → Runs bs n d p s1 f1 r →
     Runs bs n c p s f r
@@ -56,7 +56,7 @@ prepend bs n c d j p s s1 f f1 (Cut t) to few many r = record {
   running = r.running;
 }
 
--- a jump after
+-- a jump follows
 pub jump_on : (bs : Blocks) (n c to : ℕ) (p : Place) (s : State) (f : FlowState) (r : Outcome) → step_at bs p
     ≡ Some (Go n to) → Runs bs n (suc c) p s f r → Runs bs n c (first to) s f r
 jump_on bs n c to p s f (Ended t) at r =
@@ -87,12 +87,12 @@ then_run bs n c p q s f (Ended t) go r le k = prepend bs n c 0 r.taken q s t f r
     (omega (arith, r.few)) (omega (arith, r.many)) (k t r.end le r.like)
 then_run bs n c p q s f (Cut t) go r le k = r
 
--- the same for an equal place
+-- a run that ends at an equal place
 pub ends_at : (bs : Blocks) (n c : ℕ) (p q : Place) (s : State) (f : FlowState) (r : Outcome) → p ≡ q →
     Runs bs n c p s f r → Runs bs n c q s f r
 ends_at bs n c p q s f r e h = subst (λ x. Runs bs n c x s f r) e h
 
--- nothing in `Like` is about the work
+-- `Like` does not depend on the work
 pub like_evaluated : (n : ℕ) (p : Place) (e : Expression Slot) (s : State) (f : FlowState) → Like n p s f →
     Like n p (evaluated e s) f
 like_evaluated n p e s f l = record {
@@ -104,7 +104,7 @@ like_evaluated n p e s f l = record {
   running = l.running;
 }
 
--- the same for the work of an index and a value
+-- likewise for the work of an index and a value
 pub like_both : (n : ℕ) (p : Place) (i e : Expression Slot) (s : State) (f : FlowState) → Like n p s f →
     Like n p (evaluated_both i e s) f
 like_both n p i e s f l = record {
@@ -116,7 +116,7 @@ like_both n p i e s f l = record {
   running = l.running;
 }
 
--- nothing in `Like` is about the turns that are left
+-- `Like` does not depend on the turns that are left
 pub like_left : (n k : ℕ) (p : Place) (s : State) (f : FlowState) → Like n p s f → Like n p (with_left k s) f
 like_left n k p s f l = record {
   vars = l.vars;

@@ -15,7 +15,7 @@ use Rattle.ft_lower.specs.Flow.{Blocks, Place, FlowState, on, first, goes_on, go
 use Rattle.ft_lower.specs.Lowered.{expression_steps}
 use Rattle.ft_lower.proofs.Runs.{Reaches, reach_trans, reach_one, after, after-append, HasAt, has_front, has_back}
 
--- the flow is at the program's place: the first n pairs hold the variables
+-- the flow is at place p in a state like the program's: among other things, the first n pairs hold the variables
 pub record Like (n : ℕ) (p : Place) (s : State) (f : FlowState) : Type 0 where
   pub vars : (x : ℕ) → x < n → f.pairs x ≡ slice_index s.vars x
   pub many : length s.vars ≡ n
@@ -24,7 +24,7 @@ pub record Like (n : ℕ) (p : Place) (s : State) (f : FlowState) : Type 0 where
   pub out : f.out ≡ s.out
   pub running : f.done ≡ false
 
--- the same place
+-- an equal place
 pub moved : (n : ℕ) (p q : Place) (s : State) (f : FlowState) → p ≡ q → Like n p s f → Like n q s f
 moved n p q s f e l = subst (λ r. Like n r s f) e l
 
@@ -36,7 +36,7 @@ other_pair t v f q ne = ap (λ b. cond b v (f.pairs q)) (ne_eqb q t ne)
 pub same_pair : (t v : ℕ) (f : FlowState) → (with_pair t v f).pairs t ≡ v
 same_pair t v f = ap (λ b. cond b v (f.pairs t)) (eq-eqb t t refl)
 
--- a pair that holds no variable is written
+-- writing a pair that holds no variable keeps the states alike
 pub put_like : (n t v : ℕ) (p : Place) (s : State) (f : FlowState) → n ≤ t → Like n p s f →
     Like n (on p) s (goes_on (with_pair t v f))
 put_like n t v p s f le l = record {
@@ -48,7 +48,7 @@ put_like n t v p s f le l = record {
   running = l.running;
 }
 
--- the same at a jump
+-- likewise if the flow then goes to another block
 pub put_first : (n t v b : ℕ) (p : Place) (s : State) (f : FlowState) → n ≤ t → Like n p s f →
     Like n (first b) s (goes_to b (with_pair t v f))
 put_first n t v b p s f le l = record {
@@ -60,13 +60,13 @@ put_first n t v b p s f le l = record {
   running = l.running;
 }
 
--- one step, whose effect is known
+-- one step with a known effect
 pub reach_act : (bs : Blocks) (n : ℕ) (p : Place) (s : State) (f g : FlowState) (i : Step3) → Like n p s f →
     step_at bs p ≡ Some i → act i f ≡ g → Reaches bs 1 f g
 reach_act bs n p s f g i l at e = subst (λ h. Reaches bs 1 f h) e (reach_one bs f i l.running (ap (step_at bs) l.place
     ∙ at))
 
--- pair t holds the value, and the pairs below are unchanged
+-- once the expression is computed, pair t holds its value, and the pairs below are unchanged
 pub record Valued (bs : Blocks) (n : ℕ) (p : Place) (t : ℕ) (e : Expression Slot) (s : State) (f : FlowState) : Type 0
   where
     pub end : FlowState
@@ -76,7 +76,7 @@ pub record Valued (bs : Blocks) (n : ℕ) (p : Place) (t : ℕ) (e : Expression 
     pub lower : (q : ℕ) → q < t → end.pairs q ≡ f.pairs q
 
 module _ (bs : Blocks) (n m : ℕ) (s : State) where
-  -- a step that puts a word to pair t
+  -- a step that puts a word into pair t
   one : (t v : ℕ) (e : Expression Slot) (i : Step3) (p : Place) (f : FlowState) → n ≤ t → expression_nodes e ≡ 1 →
       step_at bs p ≡ Some i → act i f ≡ goes_on (with_pair t v f) → v ≡ value e s.vars s.cells → Like n p s f →
       Valued bs n (on p) t e s f

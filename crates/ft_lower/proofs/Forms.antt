@@ -1,4 +1,4 @@
--- The steps and blocks of statements in a row, and of the statements of the code.
+-- The steps and blocks of statements in sequence, and of the statements of the code.
 use Rattle.std.proofs.Common.{◌≡◌, ℕ, zero, suc, ◌+◌, ◌<◌, ◌≤◌, List, [], ◌∷◌, ◌++◌, max, length, drop, get_or, sym, ap}
 use Rattle.std.proofs.Common.{◌∙◌, arith, append_assoc}
 use Rattle.std.proofs.lemmas.List.{append-nil, drop_all}
@@ -16,11 +16,11 @@ use Rattle.ft_lower.specs.Lowered.{block_count, body_counts, expression_steps, w
 
 pub ruleset forms = (assign_form, assign_at_form, while_form, if_form)
 
--- past the last statement none is left
+-- no statement is left after the last
 pub none_left : (xs : List (Stmt Slot)) (i : ℕ) → length xs ≤ i → plain_list same_slot (drop i xs) ≡ none
 none_left xs i h = ap (plain_list same_slot) (drop_all i xs h) ∙ list_empty same_slot
 
--- statements in a row begin as many blocks as they do by themselves
+-- statements in sequence begin as many blocks as both parts together
 pub count_follow : (a b : StatementList Slot) → block_count (follow a b) ≡ block_count a + block_count b
 count_follow none b = omega arith
 count_follow (assign to e rest) b = count_follow rest b
@@ -28,7 +28,7 @@ count_follow (assign_at to i e rest) b = count_follow rest b
 count_follow (loop e body rest) b = omega (arith, count_follow rest b)
 count_follow (choose e if_so if_not rest) b = omega (arith, count_follow rest b)
 
--- the last of two lists of statements puts its numbers onto the stack first
+-- the second of two lists of statements pushes its counts onto the stack first
 pub counts_follow : (a b : StatementList Slot) → body_counts (follow a b) ≡ body_counts b ++ body_counts a
 counts_follow none b = sym (append-nil (body_counts b))
 counts_follow (assign to e rest) b = counts_follow rest b
@@ -40,7 +40,7 @@ counts_follow (choose e x y rest) b =
     let own = body_counts y ++ (body_counts x ++ block_count y ∷ block_count x ∷ []) in
     ap (λ z. z ++ own) (counts_follow rest b) ∙ append_assoc (body_counts b) (body_counts rest) own
 
--- the last statements begin no more blocks than all
+-- the last statements of a list begin at most as many blocks as the list
 pub count_drop : (xs : List (Stmt Slot)) (i : ℕ) →
     block_count (plain_list same_slot (drop i xs)) ≤ block_count (plain_list same_slot xs)
 count_drop xs zero = omega arith
@@ -51,7 +51,7 @@ count_drop (x ∷ xs) (suc i) =
     ∙ count_follow (plain_statement same_slot x none) all in
     omega (arith, count_drop xs i, is)
 
--- the steps of statements in a row are those of each
+-- the steps of statements in sequence are those of the first part and then those of the second
 pub steps_follow : (n b c : ℕ) (x y : StatementList Slot) → c ≡ b + block_count x → statement_steps n b (follow x y)
     ≡ statement_steps n b x ++ statement_steps n c y
 steps_follow n b c none y h = let k : b ≡ c = omega arith in ap (λ z. statement_steps n z y) k
@@ -79,7 +79,7 @@ steps_follow n b c (choose e if_so if_not rest) y h =
     ap (λ z. ce ++ (Exit (n + 1) n other ∷ (ca ++ (Go n out ∷ (cb ++ (Go n out ∷ z))))))
     (steps_follow n out c rest y (omega arith)) ∙ simp append_assoc
 
--- the statements that are left, the first of which is known
+-- the statements that are left are the next one and those after it
 module _ (xs : List (Stmt Slot)) (i : ℕ) (s : Stmt Slot) (lt : i < length xs) (is : s ≡ get_or xs i s) where
   left : plain_list same_slot (drop i xs) ≡ follow (plain_statement same_slot s none)
       (plain_list same_slot (drop (i + 1) xs))
@@ -109,7 +109,7 @@ module _ (xs : List (Stmt Slot)) (i : ℕ) (s : Stmt Slot) (lt : i < length xs) 
   steps_left n b c e = ap (statement_steps n b) left
       ∙ steps_follow n b c (plain_statement same_slot s none) (plain_list same_slot (drop (i + 1) xs)) e
 
--- a loop's steps, put one after another
+-- a loop's steps, appended one after another
 pub loop_steps : (s0 s1 s2 s3 s4 s5 : List Step3) (n b r : ℕ) (e : Expression Slot) (body : StatementList Slot) → r
     ≡ b + 2 + block_count body → s1 ≡ s0 ++ Go n (b + 1) ∷ [] → s2 ≡ s1 ++ expression_steps (n + 1) e → s3 ≡ s2
     ++ Exit (n + 1) n r ∷ [] → s4 ≡ s3 ++ statement_steps n (b + 1) body → s5 ≡ s4 ++ Go n (b + 1) ∷ [] → s5 ≡ s0
@@ -123,7 +123,7 @@ loop_steps s0 s1 s2 s3 s4 s5 n b r e body k e1 e2 e3 e4 e5 =
     ++ go ∷ (ce ++ (Exit (n + 1) n r ∷ (cb ++ go ∷ []))) = simp append_assoc in
     all ∙ flat ∙ ap (λ z. s0 ++ go ∷ (ce ++ (Exit (n + 1) n z ∷ (cb ++ go ∷ [])))) k
 
--- a choice's steps, put one after another
+-- a choice's steps, appended one after another
 pub choice_steps : (s0 s1 s2 s3 s4 s5 s6 : List Step3) (n b p q : ℕ) (e : Expression Slot) (x y : StatementList Slot) →
     p ≡ b + 1 + block_count x → q ≡ b + 2 + block_count x + block_count y → s1 ≡ s0 ++ expression_steps (n + 1) e → s2
     ≡ s1 ++ Exit (n + 1) n p ∷ [] → s3 ≡ s2 ++ statement_steps n b x → s4 ≡ s3 ++ Go n q ∷ [] → s5 ≡ s4

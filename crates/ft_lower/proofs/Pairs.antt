@@ -16,7 +16,7 @@ use Rattle.ft_lower.specs.Well.{is_last}
 use Rattle.ft_lower.specs.Lowered.{expression_steps, write, block_count, statement_steps, zeros, program_steps}
 use Rattle.ft_lower.specs.Lowered.{blocks_onto, lowered}
 
--- an expression needs a pair
+-- an expression needs at least one pair
 pub need_some : (e : Expression Slot) → 0 < need e
 need_some (literal w) = omega arith
 need_some (name x) = omega arith
@@ -24,7 +24,7 @@ need_some (indexed x i) = need_some i
 need_some (operation o a b) = omega (arith, need_some a)
 
 module _ (m : ℕ) where
-  -- a step names pairs below m only
+  -- a step names only pairs below m
   abbrev Below : Step3 → Type 0
   Below i = All (λ p. p < m) (pairs_of i)
 
@@ -42,11 +42,11 @@ module _ (m : ℕ) where
   alone : (i : Step3) → Below i → All Below (i ∷ [])
   alone i h = All-cons Below i [] h (All-nil Below)
 
-  -- an exit and what follows it
+  -- a row that begins with an exit
   after_exit : (n to : ℕ) (is : List Step3) → n + 1 < m → All Below is → All Below (Exit (n + 1) n to ∷ is)
   after_exit n to is h rest = All-cons Below (Exit (n + 1) n to) is (two_pairs (n + 1) n h (omega arith)) rest
 
-  -- a jump and what follows it
+  -- a row that begins with a jump
   after_go : (n to : ℕ) (is : List Step3) → n < m → All Below is → All Below (Go n to ∷ is)
   after_go n to is h rest = All-cons Below (Go n to) is (one_pair n h) rest
 
@@ -135,7 +135,7 @@ module _ (m : ℕ) where
   zeros_below zero le = All-nil Below
   zeros_below (suc k) le = All-push Below (zeros k) (Put k 0) (zeros_below k (omega arith)) (one_pair k (omega arith))
 
-  -- cutting into blocks keeps it
+  -- this still holds after cutting into blocks
   below_onto : (o is : List Step3) → All Below o → All Below is → All (All Below) (blocks_onto o is)
   below_onto [] [] h g = All-nil (All Below)
   below_onto (x ∷ o) [] h g = All-cons (All Below) (x ∷ o) [] h (All-nil (All Below))

@@ -1,4 +1,4 @@
--- Runs of a flow, and steps in its blocks.
+-- Runs of a flow, and where the steps of a row are in its blocks.
 use Rattle.std.proofs.Common.{◌≡◌, ℕ, zero, suc, ◌+◌, ◌-◌, ◌<◌, ◌≤◌, Bool, true, false, cond, List, [], ◌∷◌, ◌++◌}
 use Rattle.std.proofs.Common.{length, Option, Some, None, refl, sym, ap, ◌∙◌, subst, arith, append_assoc, length-append}
 use Rattle.std.proofs.Common.{slice_get}
@@ -21,11 +21,11 @@ use Rattle.ft_lower.specs.Lowered.{blocks_onto}
 
 -- RUNS
 
--- one state comes to another in j steps
+-- one state leads to another in j steps
 abbrev pub Reaches : Blocks → ℕ → FlowState → FlowState → Type 0
 Reaches bs = Leads (flow_step bs)
 
--- one way and then another
+-- i steps, followed by j
 pub reach_trans : (bs : Blocks) (i j : ℕ) (f g h : FlowState) → Reaches bs i f g → Reaches bs j g h →
     Reaches bs (i + j) f h
 reach_trans bs = lead_on (flow_step bs)
@@ -35,13 +35,13 @@ pub reach_one : (bs : Blocks) (f : FlowState) (i : Step3) → f.done ≡ false �
     Reaches bs 1 f (act i f)
 reach_one bs f i run at = record { is = ap (λ b. act_if b (step_at bs f.place) f) run ∙ ap (λ o. act_if false o f) at }
 
--- outputs come after those before
+-- if outputs begin with o in both cases, they do in the case that is chosen
 zero_begins : (v : ℕ) (o : List Output) (f g : FlowState) → Begins o f.out → Begins o g.out →
     Begins o (at_zero v f g).out
 zero_begins zero o f g p q = p
 zero_begins (suc v) o f g p q = q
 
--- a step keeps the outputs before it
+-- a step keeps the earlier outputs
 act_begins : (i : Step3) (f : FlowState) → Begins f.out (act i f).out
 act_begins (Put p w) f = begins_itself f.out
 act_begins (Copy p q) f = begins_itself f.out
@@ -61,7 +61,7 @@ act_begins (Exit q spare to) f = zero_begins (f.pairs q) f.out (goes_to to (with
 act_begins (Go spare to) f = begins_itself f.out
 act_begins Stop f = begins_itself f.out
 
--- a step keeps the outputs before it, and so does a missing step
+-- so does a step that may be missing
 act_if_begins : (b : Bool) (o : Option Step3) (f : FlowState) → Begins f.out (act_if b o f).out
 act_if_begins true o f = begins_itself f.out
 act_if_begins false None f = begins_itself f.out
@@ -78,7 +78,7 @@ module _ (bs : Blocks) (f : FlowState) where
   done_stops : (k : ℕ) → IsDone (at k) → at (suc k) ≡ at k
   done_stops k d = iterate_last (flow_step bs) k f ∙ ap (λ b. act_if b (step_at bs (at k).place) (at k)) d
 
-  -- a run that is done stays
+  -- a run that is done no longer changes
   pub done_stays : (j k : ℕ) → j ≤ k → (steps bs j f).done ≡ true → steps bs k f ≡ steps bs j f
   done_stays = stays at IsDone done_stops
 
@@ -90,7 +90,7 @@ module _ (bs : Blocks) (f : FlowState) where
   pub done_after : (j k : ℕ) → ((steps bs j f).done ≡ true → ⊥) → (steps bs k f).done ≡ true → j < k
   done_after = goes_before at IsDone done_stops
 
-  -- the outputs after j steps are a prefix of those later
+  -- the outputs after j steps are a prefix of the later ones
   pub out_grows : (j k : ℕ) → j ≤ k → Begins (steps bs j f).out (steps bs k f).out
   out_grows =
       later at (λ (g h : FlowState). Begins g.out h.out) (λ g. begins_itself g.out) (λ g h i.
@@ -100,7 +100,7 @@ module _ (bs : Blocks) (f : FlowState) where
 
 -- CODE IN BLOCKS
 
--- the place after a step in a row of steps
+-- the place after a step of a row
 abbrev pub next : Step3 → Place → Place
 next i p = cond (is_last i) (first (suc p.block)) (on p)
 
@@ -109,33 +109,33 @@ abbrev pub after : Place → List Step3 → Place
 after p [] = p
 after p (i ∷ is) = after (next i p) is
 
--- after two rows
+-- the place after two rows
 pub after-append : (p : Place) (a b : List Step3) → after p (a ++ b) ≡ after (after p a) b
 after-append p [] b = refl
 after-append p (i ∷ a) b = after-append (next i p) a b
 
--- the steps are in the blocks from the place
+-- the blocks hold the steps of a row, from this place on
 abbrev pub HasAt : Blocks → Place → List Step3 → Type 0
 HasAt bs p [] = Unit {0}
 HasAt bs p (i ∷ is) = (step_at bs p ≡ Some i) × HasAt bs (next i p) is
 
--- the first of two rows is there
+-- blocks that hold two rows hold the first
 pub has_front : (bs : Blocks) (p : Place) (a b : List Step3) → HasAt bs p (a ++ b) → HasAt bs p a
 has_front bs p [] b h = tt
 has_front bs p (i ∷ a) b h = (h.0, has_front bs (next i p) a b h.1)
 
--- the second comes after the first
+-- they hold the second after it
 pub has_back : (bs : Blocks) (p : Place) (a b : List Step3) → HasAt bs p (a ++ b) → HasAt bs (after p a) b
 has_back bs p [] b h = h
 has_back bs p (i ∷ a) b h = has_back bs (next i p) a b h.1
 
--- what is open comes first in the first block
+-- the first block begins with the steps of the open block
 record Begun (open_block left : List Step3) : Type 0 where
   rest : List Step3
   others : Blocks
   is : blocks_onto open_block left ≡ (open_block ++ rest) ∷ others
 
--- by whether the next step ends the block
+-- so it does whether or not the next step ends the block
 begun_by : (x : Step3) (o : List Step3) (i : Step3) (is : List Step3) (b : Bool) → Begun (x ∷ (o ++ i ∷ [])) is →
     (rest : List Step3) × (others : Blocks) × ((elim b as (λ b. Blocks) [
       | true ↦ (x ∷ (o ++ i ∷ [])) ∷ blocks_onto [] is
@@ -144,18 +144,18 @@ begun_by : (x : Step3) (o : List Step3) (i : Step3) (is : List Step3) (b : Bool)
 begun_by x o i is true d = (i ∷ [], blocks_onto [] is, refl)
 begun_by x o i is false d = (i ∷ d.rest, d.others, d.is ∙ ap (λ l. (x ∷ l) ∷ d.others) (append_assoc o (i ∷ []) d.rest))
 
--- of an open block with a first step
+-- it does for an open block with a first step
 begun : (x : Step3) (open_block is : List Step3) → Begun (x ∷ open_block) is
 begun x o [] = record { rest = []; others = []; is = ap (λ l. l ∷ []) (sym (append-nil (x ∷ o))) }
 begun x o (i ∷ is) = let b = begun_by x o i is (is_last i) (begun x (o ++ i ∷ []) is) in
     record { rest = b.0; others = b.1; is = b.2 }
 
--- the same for an open block that ends in a step
+-- it does for an open block with a last step
 begun_after : (o : List Step3) (i : Step3) (is : List Step3) → Begun (o ++ i ∷ []) is
 begun_after [] i is = begun i [] is
 begun_after (x ∷ o) i is = begun x (o ++ i ∷ []) is
 
--- the step after the open ones
+-- the step after those of the open block
 here : (bs : Blocks) (o rest : List Step3) (others : Blocks) (i : Step3) →
     step_at (bs ++ (o ++ i ∷ rest) ∷ others) (record { block = length bs; index = length o }) ≡ Some i
 here bs o rest others i =
@@ -165,7 +165,7 @@ here bs o rest others i =
     ∙ slice_get-get_or (o ++ i ∷ rest) (length o) i within
     ∙ ap Some (get_or-append_seam o i rest i)
 
--- the next step is there, and what follows it after it
+-- the next step is in the blocks, and the steps that follow are after it
 has_from : (bs : Blocks) (o : List Step3) (i : Step3) (is : List Step3) (b : Bool) →
     ((bs1 : Blocks) (o1 : List Step3) → HasAt (bs1 ++ blocks_onto o1 is) (record {
       block = length bs1;
@@ -195,7 +195,7 @@ has_from bs o i is false all =
       subst (λ n. HasAt (bs ++ blocks_onto B is) (record { block = length bs; index = n }) is) e (all bs B),
     )
 
--- a row that is cut into blocks is in them
+-- blocks cut from a row hold its steps
 pub has_all : (bs : Blocks) (o is : List Step3) → HasAt (bs ++ blocks_onto o is) (record {
   block = length bs;
   index = length o;

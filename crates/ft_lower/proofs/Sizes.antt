@@ -16,18 +16,18 @@ use Rattle.ft_lower.specs.Well.{is_last}
 use Rattle.ft_lower.specs.Lowered.{read, expression_steps, write, block_count, statement_steps, zeros, program_steps}
 use Rattle.ft_lower.specs.Lowered.{blocks_onto, lowered}
 
--- two rows become what each becomes
+-- two rows become as many instructions as both become by themselves
 pub row_size-append : (a b : List Step3) → row_size (a ++ b) ≡ row_size a + row_size b
 row_size-append [] b = omega arith
 row_size-append (i ∷ a) b = omega (arith, row_size-append a b)
 
--- a step that reads becomes as many instructions as its name weighs, at most
+-- a step that reads becomes at most as many instructions as the slot weighs
 read_size : (t : ℕ) (x : Slot) → size (read t x) ≤ slot_weight x
 read_size t (Var x) = omega arith
 read_size t (Cell k) = omega arith
 read_size t (Run c k) = omega arith
 
--- an expression's steps become as many instructions as it weighs, at most
+-- an expression's steps become at most as many instructions as it weighs
 expression_size : (e : Expression Slot) (t : ℕ) → row_size (expression_steps t e) ≤ expression_weight e
 expression_size (literal w) t = omega arith
 expression_size (name x) t = omega (arith, read_size t x)
@@ -49,13 +49,13 @@ expression_size (operation o a b) t =
       expression_size b (t + 1),
     )
 
--- the step that writes becomes at most as many instructions as the slot weighs
+-- a step that writes becomes at most as many instructions as the slot weighs
 write_size : (n : ℕ) (x : Slot) → size (write n x) ≤ slot_weight x
 write_size n (Var x) = omega arith
 write_size n (Cell k) = omega arith
 write_size n (Run c k) = omega arith
 
--- and so do the steps of statements: a loop's and a choice's weight of 16 pays their exit and their two jumps
+-- so do the steps of statements: the 16 in the weight of a loop or a choice cover its exit and its two jumps
 statements_size : (st : StatementList Slot) (n b : ℕ) → row_size (statement_steps n b st) ≤ statements_weight st
 statements_size none n b = omega arith
 statements_size (assign to e rest) n b = omega (
@@ -108,12 +108,12 @@ statements_size (choose e x y rest) n b =
       statements_size rest n out,
     )
 
--- two instructions for each 0
+-- each zero becomes two instructions
 zeros_size : (k : ℕ) → row_size (zeros k) ≡ 2 * k
 zeros_size zero = refl
 zeros_size (suc k) = row_size-append (zeros k) (Put k 0 ∷ []) ∙ omega (arith, zeros_size k)
 
--- cutting into blocks adds nothing
+-- cutting into blocks adds no instruction
 size_onto : (o is : List Step3) → blocks_size (blocks_onto o is) ≡ row_size o + row_size is
 size_onto [] [] = omega arith
 size_onto (x ∷ o) [] = omega arith
@@ -126,7 +126,7 @@ size_onto o (i ∷ is) = by (is_last i) (size_onto [] is) (size_onto (o ++ i ∷
     by true p q = omega (arith, p, row_size-append o (i ∷ []))
     by false p q = omega (arith, q, row_size-append o (i ∷ []))
 
--- a program's blocks become as many instructions as it weighs, at most
+-- a program's blocks become at most as many instructions as the program weighs
 pub lowered_size : (p : Program) → blocks_size (lowered p) ≤ program_weight p
 lowered_size p =
     let cp = statement_steps p.vars 0 p.body in
@@ -139,7 +139,7 @@ lowered_size p =
       statements_size p.body p.vars 0,
     )
 
--- statements begin no more blocks than they weigh
+-- statements begin at most as many blocks as they weigh
 pub count_weighs : (st : StatementList Slot) → block_count st ≤ statements_weight st
 count_weighs none = omega arith
 count_weighs (assign to e rest) = omega (arith, count_weighs rest)

@@ -1,4 +1,4 @@
--- The flow follows the statements.
+-- The flow follows the program through its statements.
 use Rattle.std.proofs.Common.{◌≡◌, ℕ, zero, suc, ◌+◌, ◌*◌, ◌<◌, ◌≤◌, List, [], ◌∷◌, ◌++◌, length, Some, inl, inr, refl}
 use Rattle.std.proofs.Common.{sym, ap, ◌∙◌, subst, arith, slice_index, slice_set}
 use Rattle.std.proofs.lemmas.Bool.{cases_eq}
@@ -24,13 +24,13 @@ use Rattle.ft_lower.proofs.Ends.{EndsAt, CutsAt, Runs, prepend, jump_on, then_ru
 use Rattle.ft_lower.proofs.Ends.{like_left}
 
 module _ (bs : Blocks) (n m : ℕ) where
-  -- a test: an expression and an exit
+  -- the flow has taken the steps of a test: those of an expression, and an exit
   record Tested (e : Expression Slot) (p : Place) (s : State) (f : FlowState) : Type 0 where
     end : FlowState
     reaches : Reaches bs (expression_nodes e + 1) f end
     like : Like n p (evaluated e s) end
 
-  -- by what the exit does
+  -- a test, given what its exit does
   tested_by : (e : Expression Slot) (to : ℕ) (p q : Place) (s : State) (f g : FlowState) →
       (V : Valued bs n (after p (expression_steps (n + 1) e)) (n + 1) e s f) →
       step_at bs (after p (expression_steps (n + 1) e)) ≡ Some (Exit (n + 1) n to) → act (Exit (n + 1) n to) V.end ≡ g →
@@ -42,7 +42,7 @@ module _ (bs : Blocks) (n m : ℕ) where
     like = like_evaluated n q e s g l;
   }
 
-  -- if the word is 0 the exit is taken
+  -- if the word is 0, the exit is taken
   tested_zero : (e : Expression Slot) (to : ℕ) (p : Place) (s : State) (f : FlowState) →
       Valued bs n (after p (expression_steps (n + 1) e)) (n + 1) e s f →
       step_at bs (after p (expression_steps (n + 1) e))
@@ -66,7 +66,7 @@ module _ (bs : Blocks) (n m : ℕ) where
 
   -- ASSIGNMENTS
 
-  -- a variable that is set, and the others
+  -- the variables after one is set
   set_var : (x y v : ℕ) (vs : List ℕ) (g : FlowState) → x < length vs → g.pairs y ≡ slice_index vs y →
       (with_pair x v g).pairs y ≡ slice_index (slice_set vs x v) y
   set_var x y v vs g h old =
@@ -77,7 +77,7 @@ module _ (bs : Blocks) (n m : ℕ) where
             ∙ sym (get_or-set_other vs x y v 0 ne)
       ]
 
-  -- a cell that is set
+  -- setting a cell keeps the states alike
   set_cell : (c v : ℕ) (p : Place) (s : State) (f : FlowState) → Like n p s f →
       Like n (on p) (assigned (Cell c) v s) (goes_on (with_pair n 0 (with_cell c v f)))
   set_cell c v p s f l = record {
@@ -89,7 +89,7 @@ module _ (bs : Blocks) (n m : ℕ) where
     running = l.running;
   }
 
-  -- a write is the assignment
+  -- a write is an assignment
   written : (to : Slot) (v : ℕ) (e : Expression Slot) (p : Place) (s : State) (f : FlowState) → SlotFits m n to →
       f.pairs (n + 1) ≡ v → Like n p s f → Like n (next (write n to) p) (assigned to v (evaluated e s))
       (act (write n to) f)
@@ -110,7 +110,7 @@ module _ (bs : Blocks) (n m : ℕ) where
       (sym is)
       (set_cell c v p (evaluated e s) f (like_evaluated n p e s f l))
 
-  -- a write with an index is the assignment to the cell that the index names
+  -- a write with an index is an assignment to the cell that the index selects
   written_at : (c k w v : ℕ) (i e : Expression Slot) (p : Place) (s : State) (f : FlowState) → f.pairs (n + 1) ≡ w →
       f.pairs (n + 2) ≡ v → Like n p s f → Like n (on p) (assigned (Cell (cell_of_run c k w)) v (evaluated_both i e s))
       (act (write n (Run c k)) f)
@@ -122,21 +122,21 @@ module _ (bs : Blocks) (n m : ℕ) where
       (goes_on (with_pair n 0 (with_cell to x f)))) (sym is)
       (set_cell to v p (evaluated_both i e s) f (like_both n p i e s f l)))
 
-  -- an assignment takes as many steps as its work
+  -- an assignment takes no more steps than twice its work
   work_of : (to : Slot) (v : ℕ) (e : Expression Slot) (s : State) →
       expression_nodes e + 1 + 0 + 2 * s.work ≤ 0 + 2 * (assigned to v (evaluated e s)).work
   work_of (Var x) v e s = omega arith
   work_of (Cell c) v e s = omega arith
   work_of (Run c k) v e s = omega arith
 
-  -- an assignment takes no turn
+  -- an assignment takes at least as many steps as turns
   left_of : (to : Slot) (v : ℕ) (e : Expression Slot) (s : State) →
       s.left ≤ (assigned to v (evaluated e s)).left + (expression_nodes e + 1)
   left_of (Var x) v e s = omega arith
   left_of (Cell c) v e s = omega arith
   left_of (Run c k) v e s = omega arith
 
-  -- a choice gives no turn back
+  -- a choice gives back no turns
   zero_less : (v : ℕ) (s : State) (a b : Outcome) → (state_of a).left ≤ s.left → (state_of b).left ≤ s.left →
       (state_of (at_zero v a b)).left ≤ s.left
   zero_less zero s a b p q = p
@@ -144,7 +144,7 @@ module _ (bs : Blocks) (n m : ℕ) where
 
   -- CHOICES
 
-  -- a test, one of two sides and its jump are a choice
+  -- a test followed by one of two sides and its jump is a choice
   choose_run : (v : ℕ) (e : Expression Slot) (to end : ℕ) (p p3 p5 : Place) (s : State) (f : FlowState)
       (ra rb : Outcome) → value e s.vars s.cells ≡ v →
       Valued bs n (after p (expression_steps (n + 1) e)) (n + 1) e s f →
@@ -196,7 +196,7 @@ module _ (bs : Blocks) (n m : ℕ) where
           like = T.like;
         }
 
-    -- what a turn does, if the rest of the loop does what it should
+    -- a turn follows the program, if the turns after it do
     turn_run : (l w : ℕ) (s : State) (f : FlowState) (rest : State → Outcome) → l ≡ s.left → value e s.vars s.cells
         ≡ suc w → Valued bs n (after (first head) (expression_steps (n + 1) e)) (n + 1) e s f →
         ((t : State) (g : FlowState) → suc t.left ≤ l → Like n (first head) t g → Runs bs n 1 (first out) t g (rest t))
@@ -233,7 +233,7 @@ module _ (bs : Blocks) (n m : ℕ) where
 
   -- STATEMENTS
 
-  -- the steps of statements are their run
+  -- the steps of statements follow the statements' run
   pub statements_run : (st : StatementList Slot) (b : ℕ) (p : Place) (s : State) (f : FlowState) → p.block ≡ b →
       StatementsFit m n st → HasAt bs p (statement_steps n b st) → Like n p s f →
       Runs bs n 0 (after p (statement_steps n b st)) s f (run st s)

@@ -23,7 +23,7 @@ use Rattle.ft_lower.proofs.Whole.{IsResolved}
 
 -- HOW MANY BLOCKS
 
--- there is one block more than the steps before the last one end
+-- there is one more block than the steps before the last one end
 blocks_many : (o is : List Step3) (p : Place) → p.block + length (blocks_onto o (is ++ Stop ∷ []))
     ≡ suc (after p is).block
 blocks_many o [] p = omega arith
@@ -43,7 +43,7 @@ blocks_many o (i ∷ is) p = by (is_last i) (blocks_many [] is (first (suc p.blo
 
 -- KNOWN PAIRS
 
--- what was known is known after a pair more
+-- a known pair stays known when another is learnt
 learn_keeps : (p : ℕ) (k : Known) (q : ℕ) → k q ≡ true → learn p k q ≡ true
 learn_keeps p k q h = by (q == p)
   where
@@ -51,15 +51,15 @@ learn_keeps p k q h = by (q == p)
     by true = refl
     by false = h
 
--- the pair is known
+-- a pair is known once it is learnt
 learn_same : (p : ℕ) (k : Known) → learn p k p ≡ true
 learn_same p k = ap (λ b. cond b true (k p)) (eq-eqb p p refl)
 
--- other pairs are unchanged
+-- learning a pair does not change the others
 learn_other : (p : ℕ) (k : Known) (q : ℕ) → q ≢ p → learn p k q ≡ k q
 learn_other p k q ne = ap (λ b. cond b true (k q)) (ne_eqb q p ne)
 
--- a pair less leaves the others
+-- forgetting a pair does not change the others
 forget_other : (p : ℕ) (k : Known) (q : ℕ) → q ≢ p → forget p k q ≡ k q
 forget_other p k q ne = ap (λ b. cond b false (k q)) (ne_eqb q p ne)
 
@@ -71,11 +71,11 @@ Knows n k = (x : ℕ) → x < n → k x ≡ true
 
 -- over n variables and m cells, with this many blocks
 module _ (n m : ℕ) (blocks : ℕ) where
-  -- a step is well after what is known
+  -- a step is well formed, given what is known
   abbrev StepIsWell : Known → Step3 → Type 0
   StepIsWell k i = StepFits m blocks i × ReadsKnown n k i
 
-  -- what is known before the next step of the row, which begins a block if this one ends one
+  -- what is known before the next step of the row, which begins a block if this step ends one
   abbrev after_step : Step3 → Known → Known
   after_step i k = cond (is_last i) (pairs_below n) (known_after i k)
 
@@ -84,7 +84,7 @@ module _ (n m : ℕ) (blocks : ℕ) where
   walk k [] = k
   walk k (i ∷ is) = walk (after_step i k) is
 
-  -- each step of the row is well
+  -- each step of the row is well formed
   abbrev FlatIsWell : Known → List Step3 → Type 0
   FlatIsWell k [] = Unit {0}
   FlatIsWell k (i ∷ is) = StepIsWell k i × FlatIsWell (after_step i k) is
@@ -106,7 +106,7 @@ module _ (n m : ℕ) (blocks : ℕ) where
     here : walk k (expression_steps t e) t ≡ true
     lower : (q : ℕ) → q < t → walk k (expression_steps t e) q ≡ k q
 
-  -- so are those of each expression
+  -- each expression that fits has such steps
   flat_expression : (e : Expression Slot) (t : ℕ) (k : Known) → n ≤ t → ExpressionFits m n e → Knows n k →
       FlatExpression t k e
   flat_expression (literal w) t k le fits h = record {
@@ -161,40 +161,40 @@ module _ (n m : ℕ) (blocks : ℕ) where
             ∙ A.lower q lt;
       }
 
-  -- the variables are known if the known pairs are those below n
+  -- if exactly the pairs below n are known, the variables are
   knows_below : Knows n (pairs_below n)
   knows_below x lt = lt-ltb x n lt
 
-  -- without the spare the variables are still known
+  -- the variables stay known when the spare is forgotten
   knows_forget : (k : Known) → Knows n k → Knows n (forget n k)
   knows_forget k h x lt = forget_other n k x (λ e. omega arith) ∙ h x lt
 
-  -- at a jump with the spare n the variables are kept
+  -- a jump with the spare n keeps the variables
   keeps : (k : Known) → Knows n k → KeepsVariables n k n
   keeps k h = record { known = h; free = omega arith }
 
-  -- a jump goes to a block that is there
+  -- an existing block other than the entry is a target
   target : (to : ℕ) → to < blocks → 0 < to → IsTarget blocks to
   target to there entry = record { there = there; no_entry = entry }
 
-  -- a row is well, and leaves the variables known
+  -- a row is well formed and leaves the variables known
   record FlatRow (k : Known) (is : List Step3) : Type 0 where
     well : FlatIsWell k is
     knows : Knows n (walk k is)
 
-  -- one row after another
+  -- one row followed by another
   flat_then : (k : Known) (a b : List Step3) → FlatIsWell k a → FlatRow (walk k a) b → FlatRow k (a ++ b)
   flat_then k a b p q = record {
     well = flat-append k a b p q.well;
     knows = subst (λ (f : Known). Knows n f) (sym (walk-append k a b)) q.knows;
   }
 
-  -- a jump before a row
+  -- a jump followed by a row
   flat_go : (k : Known) (to : ℕ) (is : List Step3) → to < blocks → 0 < to → Knows n k → FlatRow (pairs_below n) is →
       FlatRow k (Go n to ∷ is)
   flat_go k to is there entry h R = record { well = ((target to there entry, keeps k h), R.well); knows = R.knows }
 
-  -- an exit before a row
+  -- an exit followed by a row
   flat_exit : (k : Known) (to : ℕ) (is : List Step3) → to < blocks → 0 < to → k (n + 1) ≡ true → Knows n k →
       FlatRow (forget n k) is → FlatRow k (Exit (n + 1) n to ∷ is)
   flat_exit k to is there entry here h R = record {
@@ -203,7 +203,7 @@ module _ (n m : ℕ) (blocks : ℕ) where
     knows = R.knows;
   }
 
-  -- an assignment before a row
+  -- an assignment followed by a row
   flat_write : (to : Slot) (k : Known) (is : List Step3) → SlotFits m n to → k (n + 1) ≡ true → Knows n k →
       ((k1 : Known) → Knows n k1 → FlatRow k1 is) → FlatRow k (write n to ∷ is)
   flat_write (Var x) k is fits here h rest = let R = rest (learn x k) (λ y l. learn_keeps x k y (h y l)) in
@@ -212,7 +212,7 @@ module _ (n m : ℕ) (blocks : ℕ) where
       record { well = ((fits, (here, λ e. omega arith)), R.well); knows = R.knows }
   flat_write (Run c l) k is fits here h rest = absurd fits
 
-  -- an assignment with an index before a row
+  -- an assignment with an index, followed by a row
   flat_write_at : (to : Slot) (k : Known) (is : List Step3) → RunFits m to → k (n + 1) ≡ true → k (n + 2) ≡ true →
       Knows n k → ((k1 : Known) → Knows n k1 → FlatRow k1 is) → FlatRow k (write n to ∷ is)
   flat_write_at (Var x) k is fits index here h rest = absurd fits
@@ -221,7 +221,7 @@ module _ (n m : ℕ) (blocks : ℕ) where
       let R = rest (forget n k) (knows_forget k h) in
       record { well = ((fits, (index, here, (λ e. omega arith), λ e. omega arith)), R.well); knows = R.knows }
 
-  -- the steps of statements are well
+  -- the steps of statements are well formed and leave the variables known
   flat_statements : (st : StatementList Slot) (b : ℕ) (k : Known) → b + block_count st < blocks → StatementsFit m n st →
       Knows n k → FlatRow k (statement_steps n b st)
   flat_statements none b k lt fits h = record { well = tt; knows = h }
@@ -275,7 +275,7 @@ module _ (n m : ℕ) (blocks : ℕ) where
       (flat_then k2 ca (go ∷ (cb ++ go ∷ cr)) A.well GB) in
       flat_then k ce _ E.well X
 
-  -- the zeros at the start are well
+  -- the zeros at the start are well formed
   flat_zeros : (j : ℕ) → FlatIsWell no_pair (zeros j)
   flat_zeros zero = tt
   flat_zeros (suc j) = flat-append no_pair (zeros j) (Put j 0 ∷ []) (flat_zeros j) ((omega arith, tt), tt)
@@ -290,50 +290,50 @@ module _ (n m : ℕ) (blocks : ℕ) where
         | inr ne ↦ learn_keeps j (walk no_pair (zeros j)) x (zeros_known j x (omega arith))
       ]
 
-  -- INTO BLOCKS
+  -- CUTTING INTO BLOCKS
 
-  -- a block ends rightly, and its steps are well
+  -- a block ends properly, and its steps are well formed
   record BlockIsWell (k : Known) (is : List Step3) : Type 0 where
     ended : IsBlock is
     well : RowIsWell n m blocks k is
 
-  -- the first block from what is known, and the others from the variables
+  -- all blocks are well formed: the first given what is known, the others given the variables
   abbrev AllAreWell : Known → Blocks → Type 0
   AllAreWell k [] = Unit {0}
   AllAreWell k (x ∷ bs) = BlockIsWell k x × AllAreWell (pairs_below n) bs
 
-  -- no step of it ends a block
+  -- none of these steps ends a block
   abbrev IsOpen : List Step3 → Type 0
   IsOpen [] = Unit {0}
   IsOpen (i ∷ is) = (is_last i ≡ false) × IsOpen is
 
-  -- one step more that ends no block
+  -- appending a step that ends no block
   open-append : (o : List Step3) (i : Step3) → IsOpen o → is_last i ≡ false → IsOpen (o ++ i ∷ [])
   open-append [] i h e = (e, tt)
   open-append (x ∷ o) i h e = (h.0, open-append o i h.1 e)
 
-  -- what follows a step that ends a block or not
+  -- what must follow a step, given whether it ends a block
   abbrev EndIs : Bool → List Step3 → Type 0
   EndIs b is = elim b as (λ b. Type 0) [ true ↦ is ≡ [] | false ↦ IsBlock is ]
 
-  -- a step that ends a block makes one of an open one
+  -- a step that ends a block closes an open one
   closed : (o : List Step3) (i : Step3) → IsOpen o → is_last i ≡ true → IsBlock (o ++ i ∷ [])
   closed [] i h e = subst (λ b. EndIs b []) (sym e) refl
   closed (x ∷ o) i h e = subst (λ b. EndIs b (o ++ i ∷ [])) (sym h.0) (closed o i h.1 e)
 
-  -- one step more that is well
+  -- appending a step that is well formed
   row-append : (k : Known) (o : List Step3) (i : Step3) → RowIsWell n m blocks k o → StepIsWell (row_known k o) i →
       RowIsWell n m blocks k (o ++ i ∷ [])
   row-append k [] i h w = (w.0, w.1, tt)
   row-append k (x ∷ o) i h w = (h.0, h.1, row-append (known_after x k) o i h.2 w)
 
-  -- what is known after one step more
+  -- what is known after one more step
   row_known-append : (k : Known) (o : List Step3) (i : Step3) → row_known k (o ++ i ∷ [])
       ≡ known_after i (row_known k o)
   row_known-append k [] i = refl
   row_known-append k (x ∷ o) i = row_known-append (known_after x k) o i
 
-  -- by whether the next step ends the block
+  -- the blocks are well formed whether or not the next step ends one
   all_by : (b : Bool) (i : Step3) (is o : List Step3) (k : Known) → is_last i ≡ b →
       ((o1 : List Step3) (k1 : Known) → IsOpen o1 → RowIsWell n m blocks k1 o1 →
       FlatIsWell (row_known k1 o1) (is ++ Stop ∷ []) → AllAreWell k1 (blocks_onto o1 (is ++ Stop ∷ []))) → IsOpen o →
@@ -351,20 +351,20 @@ module _ (n m : ℕ) (blocks : ℕ) where
       next (o ++ i ∷ []) k (open-append o i op e) (row-append k o i row step)
       (subst (λ (f : Known). FlatIsWell f (is ++ Stop ∷ [])) (sym (row_known-append k o i)) flat)
 
-  -- a row that is well makes blocks that are
+  -- a row that is well formed is cut into blocks that are
   all_onto : (is o : List Step3) (k : Known) → IsOpen o → RowIsWell n m blocks k o →
       FlatIsWell (row_known k o) (is ++ Stop ∷ []) → AllAreWell k (blocks_onto o (is ++ Stop ∷ []))
   all_onto [] o k op row flat = (record { ended = closed o Stop op refl; well = row-append k o Stop row (tt, tt) }, tt)
   all_onto (i ∷ is) o k op row flat = all_by (is_last i) i is o k refl (λ o1 k1. all_onto is o1 k1) op row flat.0 flat.1
 
-  -- one of the other blocks
+  -- a block after the first is well formed
   other_at : (bs : Blocks) (b : ℕ) → AllAreWell (pairs_below n) bs → b < length bs →
       BlockIsWell (pairs_below n) (block_of bs b)
   other_at [] b h lt = absurd (omega arith)
   other_at (x ∷ bs) zero h lt = h.0
   other_at (x ∷ bs) (suc b) h lt = other_at bs b h.1 (omega arith)
 
-  -- one block
+  -- each block is well formed
   all_at : (bs : Blocks) (b : ℕ) → AllAreWell no_pair bs → b < length bs → BlockIsWell (known_first n b) (block_of bs b)
   all_at [] b h lt = absurd (omega arith)
   all_at (x ∷ bs) zero h lt = h.0

@@ -1,4 +1,4 @@
--- The lowered program does what the program does, in both directions.
+-- The flow of a program does what the program does, no less and no more.
 use Rattle.std.proofs.Common.{◌≡◌, ℕ, zero, suc, ◌+◌, ◌*◌, ◌≤◌, Bool, true, false, [], ◌∷◌, ◌++◌, length, Some, inl}
 use Rattle.std.proofs.Common.{inr, refl, sym, ap, ◌∙◌, subst, arith}
 use Rattle.std.proofs.lemmas.Bool.{cases_eq}
@@ -19,13 +19,13 @@ use Rattle.ft_lower.proofs.Expressions.{Like, same_pair, other_pair}
 use Rattle.ft_lower.proofs.Ends.{Runs}
 use Rattle.ft_lower.proofs.Statements.{statements_run}
 
--- what a resolved program keeps: its names are there, and need and weight are within their limits
+-- a resolved program: its names exist, and its need and its weight are within the limits
 pub record IsResolved (p : Program) : Type 0 where
   pub names : StatementsFit (length p.inits) p.vars p.body
   pub need : program_need p ≤ 32
   pub weight : program_weight p ≤ 65536
 
--- the first block's zeros
+-- the state after the zeros at the start
 record Fresh (bs : Blocks) (k : ℕ) (p : Place) (f : FlowState) : Type 0 where
   end : FlowState
   reaches : Reaches bs k f end
@@ -35,14 +35,14 @@ record Fresh (bs : Blocks) (k : ℕ) (p : Place) (f : FlowState) : Type 0 where
   out : end.out ≡ f.out
   running : end.done ≡ false
 
--- a pair that is 0 stays 0
+-- if each pair is 0, each still is after one is set to 0
 zero_pair : (k q : ℕ) (f : FlowState) → f.pairs q ≡ 0 → (with_pair k 0 f).pairs q ≡ 0
 zero_pair k q f z = elim (cases_eq q k) [
   | inl e ↦ subst (λ x. (with_pair k 0 f).pairs x ≡ 0) (sym e) (same_pair k 0 f)
   | inr ne ↦ other_pair k 0 f q ne ∙ z
 ]
 
--- the zeros take a step for each variable
+-- the zeros take one step for each variable
 zeros_run : (bs : Blocks) (k : ℕ) (p : Place) (f : FlowState) → HasAt bs p (zeros k) → ((q : ℕ) → f.pairs q ≡ 0) →
     f.place ≡ p → f.done ≡ false → Fresh bs k (after p (zeros k)) f
 zeros_run bs zero p f has z at run = record {
@@ -71,13 +71,13 @@ zeros_run bs (suc k) p f has z at run =
       running = A.running;
     }
 
--- what the flow does if the program has this result
+-- what the flow does if the program has this outcome
 abbrev Follows : Blocks → FlowState → ℕ → Outcome → Type 0
 Follows bs f t (Ended s) = (j : ℕ) × (j ≤ 2 * s.work + 40) × ((steps bs j f).done ≡ true) × ((steps bs j f).out ≡ s.out)
 Follows bs f t (Cut s) = (j : ℕ) × (t ≤ j) × (j ≤ 2 * s.work + 40) × ((steps bs j f).done ≡ false)
     × ((steps bs j f).out ≡ s.out)
 
--- after the zeros come the statements, and then the end
+-- after the zeros come the steps of the statements, and then the end
 follows_from : (bs : Blocks) (n i t : ℕ) (p : Place) (s : State) (f f1 : FlowState) (r : Outcome) → i ≤ 32 → s.work
     ≡ 0 → s.left ≡ t → Reaches bs i f f1 → step_at bs p ≡ Some Stop → Runs bs n 0 p s f1 r → Follows bs f t r
 follows_from bs n i t p s f f1 (Ended s1) le w l to at r =
@@ -123,18 +123,18 @@ follows p fits t =
     follows_from bs n n t (after p1 cp) (start p t) f A.end (meaning p t) (omega (arith, fits.need)) refl refl A.reaches
     (has_back bs p1 cp (Stop ∷ []) h).0 R
 
--- no test is both
+-- a `Bool` is not both true and false
 clash : (b : Bool) → b ≡ true → b ≡ false → ⊥
 clash b p q = cc
 
--- a run that is done is the ended one
+-- if the run is done, the program has ended with its outputs
 done_from : (bs : Blocks) (f : FlowState) (k : ℕ) (r : Outcome) → Follows bs f k r → (steps bs k f).done ≡ true →
     (s : State) × (r ≡ Ended s) × ((steps bs k f).out ≡ s.out)
 done_from bs f k (Ended s) h d = (s, refl, ap (λ (x : FlowState). x.out) (done_once bs f k h.0 d h.2) ∙ h.3)
 done_from bs f k (Cut s) h d = absurd (clash (steps bs h.0 f).done
     (ap (λ (x : FlowState). x.done) (done_stays bs f k h.0 h.1 d) ∙ d) h.3)
 
--- a run that is not done has outputs that are a prefix of those
+-- if the run is not done, its outputs are a prefix of the program's
 running_from : (bs : Blocks) (f : FlowState) (k : ℕ) (r : Outcome) → Follows bs f k r → (steps bs k f).done ≡ false →
     Begins (steps bs k f).out (state_of r).out
 running_from bs f k (Ended s) h d =
@@ -142,13 +142,13 @@ running_from bs f k (Ended s) h d =
     subst (λ o. Begins (steps bs k f).out o) h.3 (out_grows bs f k h.0 (omega (arith, lt)))
 running_from bs f k (Cut s) h d = subst (λ o. Begins (steps bs k f).out o) h.4 (out_grows bs f k h.0 h.1)
 
--- after twice the work and 40 steps the run is done
+-- if the program ends, the run is done with its outputs after twice the work plus 40 steps
 ends_from : (bs : Blocks) (f : FlowState) (k t : ℕ) (s : State) → Follows bs f t (Ended s) → 2 * s.work + 40 ≤ k →
     ((steps bs k f).done ≡ true) × ((steps bs k f).out ≡ s.out)
 ends_from bs f k t s h le = let e = done_stays bs f h.0 k (omega (arith, h.1)) h.2 in
     (ap (λ (x : FlowState). x.done) e ∙ h.2, ap (λ (x : FlowState). x.out) e ∙ h.3)
 
--- and has the outputs of a cut one
+-- if the program is cut, its outputs are, after as many steps, a prefix of the run's
 cuts_from : (bs : Blocks) (f : FlowState) (k t : ℕ) (s : State) → Follows bs f t (Cut s) → 2 * s.work + 40 ≤ k →
     Begins s.out (steps bs k f).out
 cuts_from bs f k t s h le = subst (λ o. Begins o (steps bs k f).out) h.4 (out_grows bs f h.0 k (omega (arith, h.2)))

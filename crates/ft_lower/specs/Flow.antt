@@ -16,7 +16,7 @@ Blocks = List (List Step3)
 abbrev pub blocks_of : Flow → Blocks
 blocks_of f = map (λ b. b.items) f.blocks.items
 
--- a block and a place in it
+-- a block, and an index into it
 pub record Place : Type 0 where
   pub block : ℕ
   pub index : ℕ
@@ -45,11 +45,11 @@ goes_on f = record f { place = on f.place }
 abbrev pub goes_to : ℕ → FlowState → FlowState
 goes_to b f = record f { place = first b }
 
--- the state with another word in a pair
+-- the state with this word in a pair
 abbrev pub with_pair : ℕ → ℕ → FlowState → FlowState
 with_pair p v f = record f { pairs = λ q. cond (q == p) v (f.pairs q) }
 
--- the state with another word in a cell, which is an output
+-- the state with this word put into a cell and added to the outputs
 abbrev pub with_cell : ℕ → ℕ → FlowState → FlowState
 with_cell c v f = record f { cells = slice_set f.cells c v; out = f.out ++ record { addr = cell_address c; value = v } ∷ [] }
 

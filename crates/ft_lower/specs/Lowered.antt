@@ -1,4 +1,4 @@
--- The steps of a program in a row, and the blocks that they form.
+-- The steps of a program in one row, and the blocks into which they are cut.
 use Rattle.std.specs.Prelude.{◌≡◌, ℕ, zero, suc, ◌+◌, true, false, List, [], ◌∷◌, ◌++◌}
 use Rattle.ft_syntax.specs.Plain.{Expression, literal, name, indexed, operation, StatementList, none, assign, assign_at, loop, choose}
 use Rattle.ft_scope.specs.declared.slot.Slot.{Slot}
@@ -9,7 +9,8 @@ use Rattle.ft_lower.specs.declared.step3.Step3.TheVariants.{Put, Copy, Op, Load,
 use Rattle.ft_lower.specs.Flow.{Blocks}
 use Rattle.ft_lower.specs.Well.{is_last}
 
--- the step that reads a cell or a variable into pair t; of an array, the cell that the word of this pair selects
+-- the step that reads a cell or a variable into pair t; for an array, it reads the cell that the word of this pair
+-- selects
 abbrev pub read : ℕ → Slot → Step3
 read t (Var x) = Copy t x
 read t (Cell k) = Load t k
@@ -22,8 +23,8 @@ expression_steps t (name s) = read t s ∷ []
 expression_steps t (indexed s i) = expression_steps t i ++ read t s ∷ []
 expression_steps t (operation o a b) = expression_steps t a ++ (expression_steps (t + 1) b ++ Op o t t (t + 1) ∷ [])
 
--- the step that writes pair n + 1 to a cell or a variable, with the spare n; of an array, pair n + 2 to the cell that
--- the word of pair n + 1 selects
+-- the step that writes pair n + 1 to a cell or a variable, with the spare n; for an array, it writes pair n + 2 to the
+-- cell that the word of pair n + 1 selects
 abbrev pub write : ℕ → Slot → Step3
 write n (Var x) = Copy x (n + 1)
 write n (Cell k) = Store k (n + 1) n
@@ -37,8 +38,8 @@ block_count (assign_at to i e rest) = block_count rest
 block_count (loop e body rest) = 2 + block_count body + block_count rest
 block_count (choose e if_so if_not rest) = 2 + block_count if_so + block_count if_not + block_count rest
 
--- how many blocks the bodies of loops and the sides of choices begin: a stack, from which the numbers come in
--- the order in which the statements are lowered
+-- how many blocks the bodies of loops and the sides of choices begin: a stack, from which the counts are popped in the
+-- order in which the statements are lowered
 abbrev pub body_counts : StatementList Slot → List ℕ
 body_counts none = []
 body_counts (assign to e rest) = body_counts rest
@@ -81,7 +82,7 @@ zeros (suc k) = zeros k ++ Put k 0 ∷ []
 abbrev pub program_steps : Program → List Step3
 program_steps p = zeros p.vars ++ (statement_steps p.vars 0 p.body ++ Stop ∷ [])
 
--- steps in a row, after those of the open block, as blocks
+-- the blocks into which a row of steps is cut, if these steps of an open block come first
 abbrev pub blocks_onto : List Step3 → List Step3 → Blocks
 blocks_onto [] [] = []
 blocks_onto (i ∷ open_block) [] = (i ∷ open_block) ∷ []

@@ -9,9 +9,9 @@ use Rattle.ft_lower.specs.Flow.{Blocks, flow_run}
 pub record Lowers (p : Program) (bs : Blocks) : Type 0 where
   -- a run that is done after k steps has the outputs of the meaning with k turns, which has ended
   pub done : (k : ℕ) → (flow_run bs p.inits k).done ≡ true → (s : State) × (meaning p k ≡ Ended s) × ((flow_run bs p.inits k).out ≡ s.out)
-  -- a run that is not done has outputs that are a prefix of those of the meaning
+  -- a run that is not done has outputs that are a prefix of the meaning's
   pub running : (k : ℕ) → (flow_run bs p.inits k).done ≡ false → Begins (flow_run bs p.inits k).out (outputs (meaning p k))
   -- if the meaning ends, the run is done with its outputs after twice the work plus 40 steps
   pub ends : (k t : ℕ) (s : State) → meaning p t ≡ Ended s → 2 * s.work + 40 ≤ k → ((flow_run bs p.inits k).done ≡ true) × ((flow_run bs p.inits k).out ≡ s.out)
-  -- if the meaning is cut, the run then has its outputs
+  -- if the meaning is cut, its outputs are, after as many steps, a prefix of the run's
   pub cuts : (k t : ℕ) (s : State) → meaning p t ≡ Cut s → 2 * s.work + 40 ≤ k → Begins s.out (flow_run bs p.inits k).out

@@ -18,12 +18,12 @@ size (Exit q spare to) = 4
 size (Go spare to) = 4
 size Stop = 1
 
--- how many the steps of a row become
+-- how many instructions the steps of a row become
 abbrev pub row_size : List Step3 → ℕ
 row_size [] = 0
 row_size (i ∷ is) = size i + row_size is
 
--- how many the steps of all blocks become
+-- how many instructions the steps of all blocks become
 abbrev pub blocks_size : Blocks → ℕ
 blocks_size [] = 0
 blocks_size (b ∷ bs) = row_size b + blocks_size bs

@@ -21,7 +21,7 @@ is_last (Exit q spare to) = false
 is_last (Go spare to) = true
 is_last Stop = true
 
--- the last step, and no other, ends the block
+-- the last step ends the block, and no other step does
 abbrev pub IsBlock : List Step3 → Type 0
 IsBlock [] = ⊥
 IsBlock (i ∷ is) = elim (is_last i) as (λ b. Type 0) [ true ↦ is ≡ [] | false ↦ IsBlock is ]
@@ -56,7 +56,7 @@ no_pair = λ q. false
 abbrev pub pairs_below : ℕ → Known
 pairs_below n = λ q. nat_lt q n
 
--- the known pairs with one more
+-- the known pairs and one more
 abbrev pub learn : ℕ → Known → Known
 learn p k = λ q. cond (q == p) true (k q)
 
@@ -64,7 +64,7 @@ learn p k = λ q. cond (q == p) true (k q)
 abbrev pub forget : ℕ → Known → Known
 forget p k = λ q. cond (q == p) false (k q)
 
--- what is known after a step: also the pair that it sets, and no longer its spare
+-- what is known after a step: also the pair that it sets, but no longer its spare
 abbrev pub known_after : Step3 → Known → Known
 known_after (Put p w) k = learn p k
 known_after (Copy p q) k = learn p k
@@ -77,12 +77,12 @@ known_after (Exit q spare to) k = forget spare k
 known_after (Go spare to) k = forget spare k
 known_after Stop k = k
 
--- at a jump each variable's pair is known, and the spare is none of them
+-- at a jump, each variable's pair is known and is not the spare
 pub record KeepsVariables (vars : ℕ) (k : Known) (spare : ℕ) : Type 0 where
   pub known : (x : ℕ) → x < vars → k x ≡ true
   pub free : vars ≤ spare
 
--- a step reads what is known, and not its spare
+-- a step reads only known pairs other than its spare; at a jump, the variables are kept
 abbrev pub ReadsKnown : ℕ → Known → Step3 → Type 0
 ReadsKnown vars k (Put p w) = Unit {0}
 ReadsKnown vars k (Copy p q) = k q ≡ true
@@ -95,12 +95,12 @@ ReadsKnown vars k (Exit q spare to) = (k q ≡ true) × (q ≢ spare) × KeepsVa
 ReadsKnown vars k (Go spare to) = KeepsVariables vars k spare
 ReadsKnown vars k Stop = Unit {0}
 
--- the steps of a row are well formed, one after another
+-- each step of a row is well formed, given what is known before it
 abbrev pub RowIsWell : ℕ → ℕ → ℕ → Known → List Step3 → Type 0
 RowIsWell vars cells blocks k [] = Unit {0}
 RowIsWell vars cells blocks k (i ∷ is) = StepFits cells blocks i × ReadsKnown vars k i × RowIsWell vars cells blocks (known_after i k) is
 
--- what is known at a block's first step: nothing in the entry, and the variables in the others
+-- what is known at a block's first step: nothing in the entry block, the variables in the others
 abbrev pub known_first : ℕ → ℕ → Known
 known_first vars zero = no_pair
 known_first vars (suc b) = pairs_below vars

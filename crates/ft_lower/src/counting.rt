@@ -8,8 +8,8 @@ use ft_scope::Slot;
 use ft_syntax::Stmt;
 use std::alloc::AllocError;
 
-/// How many blocks statements begin. Pushes the numbers of the bodies of loops and of the sides of choices onto a
-/// stack, from which they are popped in the order in which the statements are lowered.
+/// How many blocks statements begin. Pushes the counts for the bodies of loops and the sides of choices onto a stack,
+/// from which they are popped in the order in which the statements are lowered.
 #[cycle(count)]
 pub fn count_blocks(counts: &mut Vec<u32>, all: &[Stmt<Slot>]) -> Result<u32, AllocError>
     requires few { block_count (plain_list same_slot all.now) < 2 ^ 32 }

@@ -1,4 +1,4 @@
-//! Steps in a row, cut into blocks.
+//! A row of steps, cut into blocks.
 ghost use Rattle.std.specs.Prelude.{◌≡◌, map, [], IfOk};
 ghost use Rattle.ft_lower.specs.Well.{is_last};
 ghost use Rattle.ft_lower.specs.Lowered.{blocks_onto};
@@ -13,7 +13,7 @@ fn ends_block(step: &Step3) -> bool
     matches!(step, Step3::Go { .. } | Step3::Stop)
 }
 
-/// The blocks that steps in a row form. Each takes no more memory than its steps.
+/// The blocks into which a row of steps is cut. Each block that a step ends takes no more memory than its steps.
 pub fn cut(alloc: Global, steps: &[Step3]) -> Result<Vec<Vec<Step3>>, AllocError>
     ensures { IfOk result (λ blocks. map (λ b. b.items) blocks.items ≡ blocks_onto [] steps.now) }
 {

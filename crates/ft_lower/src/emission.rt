@@ -1,4 +1,4 @@
-//! The steps of expressions, statements and programs, in a row.
+//! The steps of expressions, statements and programs, in one row.
 ghost use Rattle.std.specs.Prelude.{◌≡◌, ◌≢◌, ◌+◌, ◌<◌, ◌≤◌, ◌^◌, [], ◌∷◌, ◌++◌, OnOk, IfOk};
 ghost use Rattle.ft_syntax.specs.Plain.{none, plain_expression, plain_statement, plain_list};
 ghost use Rattle.ft_scope.specs.Size.{same_slot, need, most_need};
@@ -12,7 +12,7 @@ use ft_scope::{Prog, Slot};
 use ft_syntax::{Expr, Stmt};
 use std::alloc::{AllocError, Global};
 
-/// One more step.
+/// Appends a step.
 fn put(steps: &mut Vec<Step3>, step: Step3) -> Result<(), AllocError>
     ensures { OnOk result (steps.new.items ≡ steps.old.items ++ step ∷ []) }
 {
@@ -20,7 +20,8 @@ fn put(steps: &mut Vec<Step3>, step: Step3) -> Result<(), AllocError>
     Ok(())
 }
 
-/// The step that reads a cell or a variable into pair p; of an array, the cell that the word of this pair selects.
+/// The step that reads a cell or a variable into pair p; for an array, it reads the cell that the word of this pair
+/// selects.
 fn read_step(p: u8, from: Slot) -> Step3
     ensures { result ≡ read p from }
 {
@@ -39,7 +40,7 @@ fn read_step(p: u8, from: Slot) -> Step3
     }
 }
 
-/// The steps that leave an expression's word in pair p, using this pair and those above it.
+/// Appends the steps that leave an expression's word in pair p, using this pair and those above it.
 fn emit_expression(steps: &mut Vec<Step3>, p: u8, e: &Expr<Slot>) -> Result<(), AllocError>
     requires pairs { p + need (plain_expression same_slot e.now) ≤ 32 }
     ensures { OnOk result (steps.new.items ≡ steps.old.items ++ expression_steps p (plain_expression same_slot e.now)) }
@@ -60,8 +61,8 @@ fn emit_expression(steps: &mut Vec<Step3>, p: u8, e: &Expr<Slot>) -> Result<(), 
     }
 }
 
-/// The step that writes the pair after the spare to a cell or a variable; of an array, the second pair after the spare
-/// to the cell that the word of the first one selects.
+/// The step that writes the pair after the spare to a cell or a variable; for an array, it writes the second pair after
+/// the spare to the cell that the word of the first one selects.
 fn write_step(spare: u8, to: Slot) -> Step3
     requires { spare < 254 }
     ensures { result ≡ write spare to }
@@ -83,7 +84,7 @@ fn write_step(spare: u8, to: Slot) -> Step3
     }
 }
 
-/// The step that goes on to a block if the pair after the spare holds 0.
+/// The step that goes to a block if the pair after the spare holds 0.
 fn exit_step(spare: u8, to: u32) -> Step3
     requires { spare < 255 }
     ensures { result ≡ Exit (spare + 1) spare to }
@@ -92,7 +93,7 @@ fn exit_step(spare: u8, to: u32) -> Step3
     Step3::Exit { q, spare, to }
 }
 
-/// The number on top of a stack.
+/// Pops a count from the stack.
 fn next_count(counts: &mut Vec<u32>) -> u32
     requires some { counts.old.items ≢ [] }
     ensures { counts.old.items ≡ counts.new.items ++ result ∷ [] }
@@ -100,8 +101,8 @@ fn next_count(counts: &mut Vec<u32>) -> u32
     counts.pop().unwrap()
 }
 
-/// The steps of statements that begin within a block, if the variables' pairs are those below the spare, and the top
-/// of the stack has the numbers of blocks that their bodies begin. Returns the block in which they end.
+/// Appends the steps of statements that begin within a block, if the variables' pairs are those below the spare, and
+/// the top of the stack has the counts for their bodies. Returns the block in which they end.
 #[cycle(emit)]
 fn emit_statements(
     steps: &mut Vec<Step3>,
@@ -124,8 +125,8 @@ fn emit_statements(
     Ok(at)
 }
 
-/// The steps of a statement that begin within a block, if the variables' pairs are those below the spare, and the top
-/// of the stack has the numbers of blocks that its bodies begin. Returns the block in which they end.
+/// Appends the steps of a statement that begins within a block, if the variables' pairs are those below the spare, and
+/// the top of the stack has the counts for its bodies. Returns the block in which it ends.
 #[tactic(auto, using(crate::proofs::Forms::forms))]
 #[cycle(emit)]
 fn emit_statement(
@@ -178,7 +179,7 @@ fn emit_statement(
     }
 }
 
-/// 0 in each of the variables' pairs.
+/// Appends steps that put 0 into each variable's pair.
 fn emit_zeros(steps: &mut Vec<Step3>, vars: u8) -> Result<(), AllocError>
     ensures { OnOk result (steps.new.items ≡ steps.old.items ++ zeros vars) }
 {

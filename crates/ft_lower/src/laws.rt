@@ -9,7 +9,7 @@ ghost use Rattle.ft_lower.specs.Well.{IsWell};
 ghost use Rattle.ft_lower.specs.Lowered.{lowered};
 
 /// The Fibonacci program of the documents needs 7 pairs and weighs 69. Its blocks are well formed, become 61
-/// instructions, name pairs below 7, and their run is done after 240 steps with ten numbers.
+/// instructions and name pairs below 7; their run is done after 240 steps with ten numbers.
 pub fn fibonacci_numbers_are_run()
     ensures need { program_need fibonacci ≡ 7 }
     ensures weight { program_weight fibonacci ≡ 69 }
@@ -20,8 +20,8 @@ pub fn fibonacci_numbers_are_run()
     ensures out { (flow_run (lowered fibonacci) (0 ∷ []) 240).out ≡ puts_out (0 ∷ 1 ∷ 1 ∷ 2 ∷ 3 ∷ 5 ∷ 8 ∷ 13 ∷ 21 ∷ 34 ∷ []) }
 {}
 
-/// The array program of the documents needs 5 pairs and weighs 49. Its blocks are well formed, become 41
-/// instructions, name pairs below 5, and their run is done after 63 steps with four words.
+/// The array program of the documents needs 5 pairs and weighs 49. Its blocks are well formed, become 41 instructions
+/// and name pairs below 5; their run is done after 63 steps with four words.
 pub fn array_words_are_run()
     ensures need { program_need array_program ≡ 5 }
     ensures weight { program_weight array_program ≡ 49 }

@@ -1,9 +1,9 @@
 //! Three-address steps over register pairs.
 use ft_isa::Op;
 
-/// A step of a flow. The numbers `p`, `q`, `s`, `i` and `spare` name register pairs below 32; a step that has
-/// a `spare` leaves 0 in that pair. A cell and a block are named by their numbers, and
-/// the cells of an array by the first one and their length, 1 to 1,024.
+/// A step of a flow. The numbers `p`, `q`, `s`, `i` and `spare` name register pairs below 32; a step with a `spare`
+/// leaves 0 in that pair. A cell and a block are named by their numbers, and the cells of an array by the first one and
+/// the number of cells, 1 to 1,024.
 #[derive(Clone, Copy, Debug, PartialEq, Eq)]
 pub enum Step3 {
     /// Pair `p` gets a word.
@@ -28,7 +28,7 @@ pub enum Step3 {
         p: u8,
         cell: u32,
     },
-    /// A cell gets the word of pair `q`, which is an output.
+    /// A cell gets the word of pair `q`; this is an output.
     Store {
         cell: u32,
         q: u8,
@@ -41,7 +41,7 @@ pub enum Step3 {
         first: u32,
         length: u32,
     },
-    /// The cell at `first` plus the word of pair `i` modulo `length` gets the word of pair `q`, which is an output.
+    /// The cell at `first` plus the word of pair `i` modulo `length` gets the word of pair `q`; this is an output.
     StoreAt {
         first: u32,
         length: u32,
@@ -49,7 +49,7 @@ pub enum Step3 {
         q: u8,
         spare: u8,
     },
-    /// Goes to block `to` if pair `q` holds 0, else to the next step.
+    /// Goes to block `to` if pair `q` holds 0, otherwise to the next step.
     Exit {
         q: u8,
         spare: u8,
@@ -60,6 +60,6 @@ pub enum Step3 {
         spare: u8,
         to: u32,
     },
-    /// The end.
+    /// Ends the run.
     Stop,
 }

@@ -29,7 +29,7 @@ one_less n some = omega arith
 below_it : (n : ℕ) → 0 < n → n - 1 < n
 below_it n some = omega arith
 
--- what is committed goes to a cell
+-- a committed pair goes to a cell
 pub advances_to_cell : (o : Object) (s s' : State) (w w' : List Wild) (most n : ℕ) (out : Output) →
     Advances o s w s' w' most n (Commit out) → is_cell s.cells out.addr ≡ true
 advances_to_cell o s s' w w' most n out a =
@@ -54,7 +54,7 @@ none_of : (xs ys : List Output) → [] ≡ xs ++ ys → xs ≡ []
 none_of [] ys h = refl
 none_of (x ∷ xs) ys h = absurd (cc)
 
--- nothing was committed before
+-- if n steps commit nothing, the first j of them commit nothing
 none_before : (o : Object) (j n : ℕ) (s : State) (w : List Wild) → j ≤ n → (span o n s w).outputs ≡ [] →
     (span o j s w).outputs ≡ []
 none_before o j n s w le none =
@@ -84,7 +84,7 @@ at_most n = omega arith
 later : (j n : ℕ) → j < n → j ≤ n
 later j n below = omega (arith, below)
 
--- steps that end at the first output, if one comes
+-- steps that end at the first output, if there is one
 module _ {T : Type 0} (outlet : Ghosts T) (o : Object) (s s' : State) (w w' : List Wild) (t t' : T) (n most : ℕ) where
   pub advances_first : (pause : Pause) (y : Option Output) → Goes outlet o s w t s' w' t' n pause →
       IsFirst None (span o n s w).outputs (goes_on pause) y

@@ -24,7 +24,7 @@ chosen : {X : Type 0} (b : Bool) (x y : X) (o : Option X) → (b ≡ true → x 
 chosen true x y o h = ap Some (h refl)
 chosen false x y o h = refl
 
--- values that are the same at a key make maps that are the same there
+-- maps agree at a key if their values there agree
 pub alike : {X : Type 0} (n : ℕ) (key : ℕ → ℕ) (f g : ℕ → X) (q : ℕ) →
     ((i : ℕ) → i < n → (q == key i) ≡ true → f i ≡ g i) → get (tabulate n key f) q ≡ get (tabulate n key g) q
 unfolding tabulate
@@ -35,13 +35,13 @@ alike (suc n) key f g q h =
     ∙ ap (cond (q == key n) (Some (g n))) (alike n key f g q (λ i below. h i (omega arith)))
     ∙ sym (get-insert (tabulate n key g) (key n) (g n) q)
 
--- the same values make the same map
+-- equal values give equal maps
 pub same_tabulated : {X : Type 0} (n : ℕ) (key : ℕ → ℕ) (f g : ℕ → X) → ((i : ℕ) → i < n → f i ≡ g i) → tabulate n key f
     ≡ tabulate n key g
 same_tabulated n key f g h = same_map nat_cmp_total nat_cmp-IsAntisymmetric _ _ (λ q.
     alike n key f g q (λ i below _. h i below))
 
--- one other value is one insertion
+-- if one value changes, the map is the old one with the new value inserted
 pub one_put : {X : Type 0} (n : ℕ) (key : ℕ → ℕ) → Tells key → (f g : ℕ → X) (k : ℕ) (v : X) → k < n → g k ≡ v →
     ((i : ℕ) → i < n → (i == k) ≡ false → g i ≡ f i)
     → tabulate n key g ≡ insert (tabulate n key f) (key k) v
@@ -77,7 +77,7 @@ other_word words colours k i x apart =
     ∙ ap (λ w. record { colour = get_or colours i Green; word = w })
     (get_or-set_other words k i x.word 0 (differs i k apart))
 
--- a register is written
+-- writing a register in the arrays writes it in the map
 pub register_put : (words : List ℕ) (colours : List Colour) (k : ℕ) (x : Coloured) → length words ≡ 64 → length colours
     ≡ 64 → k < 64
     → registers_of (set words k x.word) (set colours k x.colour) ≡ with_held (registers_of words colours) k x
@@ -89,7 +89,7 @@ register_put words colours k x lw lc below =
     ∙ ap (λ w. record { colour = x.colour; word = w }) (get_or-set_same words k x.word 0 (omega arith)))
     (λ i _ apart. other_word words colours k i x apart)
 
--- no cell has a lower address
+-- no cell has an address below that of the first cell
 pub no_cell_below : (words : List ℕ) (a : ℕ) → a < 1048576 → cell_at (cells_of words) a ≡ None
 no_cell_below words a low = untabulated (length words) cell_address (word_in words) a (λ i _.
     ne_eqb a (cell_address i) (λ e. omega arith))
@@ -112,7 +112,7 @@ cell_read words a high = elim (slice_get_cases words (a - 1048576)).1 [
         ≡ cell_address i → ⊥
     too_high words a i high past below is = omega arith
 
--- where a cell is
+-- the address of a cell gives an index within the array
 pub within : (words : List ℕ) (a : ℕ) → IsTrue (is_cell (cells_of words) a) → (1048576 ≤ a)
     × (a - 1048576 < length words)
 within words a h = in_range a (length words) (sym (cells_there (word_in words) (length words) a) ∙ h)
@@ -120,7 +120,7 @@ within words a h = in_range a (length words) (sym (cells_there (word_in words) (
     in_range : (a n : ℕ) → (nat_le 1048576 a && nat_lt a (1048576 + n)) ≡ true → (1048576 ≤ a) × (a - 1048576 < n)
     in_range a n h = (grind (arith, nat_tests), grind (arith, nat_tests))
 
--- a cell is written
+-- writing a cell in the array writes it in the map
 pub cell_put : (words : List ℕ) (a v : ℕ) → IsTrue (is_cell (cells_of words) a) → cells_of (set words (a - 1048576) v)
     ≡ with_cell (cells_of words) a v
 cell_put words a v h = written words (a - 1048576) v (within words a h).1
@@ -136,24 +136,24 @@ cell_put words a v h = written words (a - 1048576) v (within words a h).1
         ∙ one_put (length words) cell_address cells_tell (word_in words) (word_in (set words k v)) k v below
         (get_or-set_same words k v 0 below) (λ i _ apart. get_or-set_other words k i v 0 (differs i k apart))
 
--- cells at the same addresses are as many
+-- n cells and m cells have the same addresses only if n is m
 pub as_many : (n m : ℕ) → ((a : ℕ) → (nat_le 1048576 a && nat_lt a (1048576 + n))
     ≡ (nat_le 1048576 a && nat_lt a (1048576 + m))) → n ≡ m
 as_many n m h = let low = h (1048576 + n) in let high = h (1048576 + m) in grind (arith, nat_tests)
 
--- cells at the same addresses have as many words
+-- arrays of cells with the same addresses have the same length
 pub as_many_words : (xs ys : List ℕ) → ((a : ℕ) → is_cell (cells_of xs) a ≡ is_cell (cells_of ys) a) → length xs
     ≡ length ys
 as_many_words xs ys h = as_many (length xs) (length ys) (λ a. sym (cells_there (word_in xs) (length xs) a) ∙ h a
     ∙ cells_there (word_in ys) (length ys) a)
 
--- green 0 in all registers
+-- the arrays at the start hold green 0 in each register
 pub registers_at_first : registers_of (replicate 64 0) (replicate 64 Green) ≡ tabulate 64 (λ r. r) (λ _. green_zero)
 registers_at_first = same_tabulated 64 (λ r. r) _ _ (λ i below.
     ap (λ c. record { colour = c; word = get_or (replicate 64 0) i 0 }) (get_or-replicate 64 i Green Green below)
     ∙ ap (λ w. record { colour = Green; word = w }) (get_or-replicate 64 i 0 0 below))
 
--- cells with the first words
+-- an array with these words is the map with these values
 pub filled : (words : List ℕ) (k n : ℕ) (f : ℕ → ℕ) → length words ≡ k → k ≡ n →
     ((i : ℕ) → i < k → get_or words i 0 ≡ f i) → cells_of words ≡ tabulate n cell_address f
 filled words k n f e same h =

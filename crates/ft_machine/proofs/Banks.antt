@@ -1,4 +1,4 @@
--- The rows of the table of steps as a bank's methods choose them.
+-- The rows of the table of steps, as a bank's methods choose between them.
 use Rattle.std.proofs.Common.{◌≡◌, ℕ, Bool, true, false, ◌&&◌, List, [], ◌∷◌, length, drop, ◌++◌, Option, Some, None}
 use Rattle.std.proofs.Common.{ap, sym, ◌∙◌, refl, nat_lt}
 use Rattle.std.specs.Prelude.{if◌then◌else◌, ◌==◌}
@@ -36,7 +36,7 @@ second test t u old new e fails h = record {
       ap (λ v. if v then t (doing old g b f) w else u (doing old g b f) w) (fails g b f) ∙ h.does g b f w;
 }
 
--- a load of what was found
+-- a load that finds a word
 pub load_found : (c : Colour) (rd rs : Reg) (v : ℕ) (old new : Bank) (e : Effect) (w : List Wild) →
     ((g b : ℕ) (f : Option Instr) → Some v ≡ found c (doing old g b f) (held old.registers rs.number).word)
     → DoesQuietly (writes rd c v) old new e → Does (λ s w. load c rd (found c s (held s.registers rs.number).word) s w)
@@ -46,7 +46,7 @@ load_found c rd rs v old new e w is h = record {
       ap (λ o. load c rd o (doing old g b f) w) (sym (is g b f)) ∙ h.does g b f w;
 }
 
--- a wild load that is answered
+-- a wild load whose answer is a word
 pub wild_word : (c : Colour) (rd : Reg) (v : ℕ) (old new : Bank) (e : Effect) (all left : List Wild) → Word v
     ≡ next_answer all → left ≡ drop 1 all → DoesQuietly (writes rd c v) old new e
     → Does (wild_load c rd) old new e all left

@@ -16,7 +16,7 @@ next_count : (a n m b c : ℕ) → m ≡ n + 1 → a + m < 2 ^ 64 → (a + n < 2
     ≡ a + m
 next_count a n m b c is few before next = let e = before (omega (arith, is, few)) in omega (arith, e, next, is, few)
 
--- one more output is counted, if the number fits
+-- counting one more output, if the count fits in a word
 pub count_next : (first old new : ℕ) (before : List Output) (x : Output) →
     (first + length before < 2 ^ 64 → old ≡ first + length before) → new ≡ (old + 1) % 2 ^ 64
     → first + length (before ++ x ∷ []) < 2 ^ 64 → new ≡ first + length (before ++ x ∷ [])

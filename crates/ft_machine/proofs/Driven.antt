@@ -1,4 +1,4 @@
--- Runs under a plan whose outputs are put as lines.
+-- Runs under a plan whose outputs are written as lines.
 use Rattle.std.proofs.Common.{◌≡◌, ℕ, ◌+◌, ◌<◌, ◌≤◌, List, ◌++◌, Option, true, refl, ap, sym, subst, ◌∙◌, arith}
 use Rattle.ft_edge.specs.Told.{append_told}
 use Rattle.ft_edge.specs.Lines.{BreaksOff, Puts, with_lines}
@@ -31,7 +31,7 @@ further : (n before most : ℕ) → n ≤ before → before ≤ most → n ≤ m
 further n before most few le = omega (arith, few, le)
 
 module _ {T : Type 0} (outlet : Ghosts T) (o : Object) (strike : Option Strike) (w : List Wild) where
-  -- a run up to its strike, which may end before it
+  -- a run up to its strike, which it may not reach
   module _ (s0 s' : State) (w0 w' : List Wild) (t t' : T) (before n : ℕ) (pause : Pause) (begun : s0
       ≡ start o) (answers : w0 ≡ w) (spares : (j : ℕ) → j < before → Spares strike j)
       (few : n ≤ before) (a : Goes outlet o s0 w0 t s' w' t' n pause) where
@@ -52,7 +52,7 @@ module _ {T : Type 0} (outlet : Ghosts T) (o : Object) (strike : Option Strike) 
       all = all;
     }
 
-  -- a run from its strike
+  -- a run from its strike on
   module _ (s1 s2 s' : State) (w1 w' : List Wild) (t t' : T) (before m : ℕ) (pause : Pause) (state : s1
       ≡ (run o strike w before).state) (wild : w1 ≡ (run o strike w before).wild)
       (struck : s2 ≡ struck_before strike before s1) (spares : (j : ℕ) → before < j → Spares strike j) (some : 0 < m)
@@ -75,10 +75,10 @@ module _ {T : Type 0} (outlet : Ghosts T) (o : Object) (strike : Option Strike) 
           all = all;
         }
 
--- WHAT A DRIVE PUTS
+-- WHAT A DRIVE WRITES
 
 module _ (o : Object) (strike : Option Strike) (w : List Wild) (s : State) (most n : ℕ) where
-  -- after all steps a run is where it ended
+  -- after all the steps, a run is as it was when it ended
   pub run_whole : (pause : Pause) → ¬ (pause ≡ Refused) → HasRun o strike w s most n pause → run o strike w most
       ≡ run o strike w n
   run_whole Running h r = ap (run o strike w) (sym (r.all refl))

@@ -59,11 +59,11 @@ effect_status (effects.Commit output) b green blue f = refl
 effect_status effects.Done b green blue f = refl
 effect_status effects.Detected b green blue f = refl
 
--- what is left after some steps is fewer
+-- a step after the first n is one of the m that follow
 pub rest_below : (n m j : ℕ) → n ≤ j → j < n + m → j - n < m
 rest_below n m j le below = omega arith
 
--- the last output is the same if outputs are the same, and if others come before
+-- the last step still gives an output if the outputs are equal, or if others come before them
 pub last_as : (pause : Pause) (f g : ℕ → List Output) (n : ℕ) → ((i : ℕ) → i ≤ n → f i ≡ g i) → EndsWith pause f n →
     EndsWith pause g n
 last_as pauses.Running f g n same h = tt
@@ -89,7 +89,7 @@ last_after pauses.Refused front f g n m whole (j, (x, (is, outputs))) = (
   ),
 )
 
--- the last step gave what it returned
+-- the last step gave the output that it returned
 last_one : (pause : Pause) (last : Stepped) (f : ℕ → List Output) (n j : ℕ) → n ≡ j + 1 →
     (pause ≡ pauses.Refused → (output : Output) × (last ≡ Commit output))
     → f n ≡ f j ++ option_to_list (output_told last) → EndsWith pause f n
@@ -100,7 +100,7 @@ last_one pauses.Refused last f n j is given outputs =
     let x = given refl in
     (j, (x.0, (is, outputs ∙ ap (λ l. f j ++ option_to_list (output_told l)) x.1)))
 
--- what is committed goes to a cell
+-- a committed pair goes to a cell
 pub commit_cell : (b new : Bank) (pc : ℕ) (i : Instr) (x : Output) (w left : List Wild) →
     Does (execute i) b new (effects.Commit x) w left → is_cell b.cells x.addr ≡ true
 commit_cell b new pc i x w left h = ((execute_is_proper i (doing b pc pc (Some i)) w).output x
@@ -126,7 +126,7 @@ module _ {T : Type 0} (outlet : Ghosts T) where
   pub passes_detected : (t : T) → PassesOn outlet Detected t t pauses.Detected
   passes_detected t = record { status_is = refl; given = λ e. absurd (cc); hears = hears_none t; still = λ x h. h }
 
-  -- a step with one
+  -- a step with an output
   pub passes_on : (x : Output) (b : Bool) (t t' : T) → b ≡ true → Hears outlet.heard t (x ∷ []) b t' →
       ((other : Output) → outlet.may t other → outlet.may t' other) → PassesOn outlet (Commit x) t t' pauses.Running
   passes_on x b t t' is h still = record {
@@ -146,7 +146,7 @@ module _ {T : Type 0} (outlet : Ghosts T) where
   }
 
   module _ (o : Object) where
-    -- no step
+    -- no steps
     pub goes_none : (s : State) (w : List Wild) (t : T) → s.status ≡ status.Running →
         Goes outlet o s w t s w t 0 pauses.Running
     goes_none s w t running =
@@ -161,7 +161,7 @@ module _ {T : Type 0} (outlet : Ghosts T) where
           still = λ x h. h;
         }
 
-    -- steps after others
+    -- steps that follow others
     pub goes_more : (s s1 s2 : State) (w w1 w2 : List Wild) (t t1 t2 : T) (n m : ℕ) (pause : Pause) →
         Goes outlet o s w t s1 w1 t1 n pauses.Running → Goes outlet o s1 w1 t1 s2 w2 t2 m pause →
         Goes outlet o s w t s2 w2 t2 (n + m) pause
@@ -245,7 +245,7 @@ module _ {T : Type 0} (outlet : Ghosts T) where
           still = p.still;
         }
 
-    -- if there is no instruction
+    -- one step, if there is no instruction
     pub goes_lost : (b : Bank) (pc : ℕ) (w : List Wild) (t : T) → instr_at o pc ≡ None →
         Goes outlet o (doing b pc pc None) w t (record (doing b pc pc None) { status = status.Detected }) w t 1
         pauses.Detected
@@ -278,12 +278,12 @@ module _ {T : Type 0} (outlet : Ghosts T) where
       pub goes_cells : (q : ℕ) → is_cell s'.cells q ≡ is_cell s.cells q
       goes_cells q = ap (λ (x : State). is_cell x.cells q) a.state_is ∙ span_keeps_cells o n s w q
 
-      -- what may be taken goes to a cell still
+      -- the outlet may still take the outputs that go to a cell
       pub goes_may : ((x : Output) → is_cell s.cells x.addr ≡ true → outlet.may t x) → (x : Output) →
           is_cell s'.cells x.addr ≡ true → outlet.may t' x
       goes_may may x there = a.still x (may x (sym (goes_cells x.addr) ∙ there))
 
--- the address after an instruction is no more than a word holds
+-- the code address after an instruction fits in a word
 pub next_is : (i : ℕ) → i < 2 ^ 32 → next (1 + i) ≡ 1 + i + 1
 next_is i small = omega arith
 

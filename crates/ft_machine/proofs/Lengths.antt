@@ -1,4 +1,4 @@
--- The instructions of an object that obeys the rules have lengths.
+-- In an object that obeys the rules, no instruction has an empty run of cells.
 use Rattle.std.proofs.Common.{◌≡◌, ℕ, length, Some, arith, subst, slice_get}
 use Rattle.std.proofs.lemmas.Option.{slice_get_within, get_or_from_slice_get}
 use Rattle.std.proofs.lemmas.List.Elements.{All-get_or}

@@ -1,4 +1,4 @@
--- Lines of outputs that are put.
+-- Lines of outputs, as they are put.
 use Rattle.std.proofs.Common.{◌≡◌, ℕ, List, [], ◌∷◌, ◌++◌, Result, Ok, Err, is_ok, true, refl, ap, sym, subst, ◌∙◌}
 use Rattle.std.proofs.lemmas.List.{map-append}
 use Rattle.ft_edge.specs.declared.failed.Failed.{Failed}
@@ -12,7 +12,7 @@ use Rattle.ft_types.specs.declared.object.Object.{Object}
 use Rattle.ft_types.specs.Texts.{line_at}
 use Rattle.ft_machine.specs.Drives.{PutsOutputs, output_lines, end_of_going}
 
--- the lines of outputs, some after others
+-- the lines of outputs followed by others
 pub lines-append : (o : Object) (xs ys : List Output) → output_lines o (xs ++ ys) ≡ output_lines o xs
     ++ output_lines o ys
 lines-append o xs ys = map-append (line_at o) xs ys
@@ -23,7 +23,7 @@ one_line [] line x rest h = cc
 one_line (y ∷ []) line x rest h = absurd (cc)
 one_line (y ∷ (z ∷ zs)) line x rest h = absurd (cc)
 
--- a put of one line makes it a piece, even if it fails
+-- putting one line makes it a piece, even if the put fails
 line_pieces : (r : Result (Unit {0}) Failed) (line : List ℕ) (old new : SinkLog) →
     Puts (end_of_puts r) (line ∷ []) old new → new.pieces ≡ append_told old.pieces (line ∷ [])
 line_pieces (Ok done) line old new h = ap (λ (log : SinkLog). log.pieces) h

@@ -1,4 +1,4 @@
--- The rows of the table of steps as the code chooses them.
+-- The rows of the table of steps, as the code chooses between them.
 use Rattle.std.proofs.Common.{◌≡◌, ◌≢◌, ℕ, ◌≤◌, Bool, true, false, ◌&&◌, List, length, None, ap, sym, subst, ◌∙◌, refl}
 use Rattle.std.proofs.Common.{nat_lt}
 use Rattle.std.specs.Prelude.{if◌then◌else◌, ◌==◌}
@@ -26,7 +26,7 @@ takes_second : (b : Bool) (t u : List Wild → Stepping) (s : State) (answer : S
     TakesQuietly u s answer → TakesQuietly (λ w. if b then t w else u w) s answer
 takes_second b t u s answer fails h = subst (λ v. TakesQuietly (λ w. if v then t w else u w) s answer) (sym fails) h
 
--- counters that differ fetch nothing
+-- if the counters differ, nothing is fetched
 pub fetch_apart : (o : Object) (s s' : State) (x : Stepped) → s.pc_green ≢ s.pc_blue → TakesQuietly (detected s) s' x →
     TakesQuietly (advance o None s) s' x
 fetch_apart o s s' x apart h = takes_second (s.pc_green == s.pc_blue) (fetch (instr_at o s.pc_green) s) (detected s) s'

@@ -1,4 +1,4 @@
--- Runs: what the test of a status says, and which cells they keep.
+-- Runs: what the test of a status means, and that a run keeps the object's cells.
 use Rattle.std.proofs.Common.{◌≡◌, length, ℕ, zero, suc, List, Option, true, false, refl, ap, ◌∙◌}
 use Rattle.std.specs.Prelude.{not}
 use denote.Enum.Bare.{sameb}
@@ -15,13 +15,13 @@ use Rattle.ft_semantics.proofs.Runs.{HasStopped}
 use Rattle.ft_machine.proofs.Steps.{step_is_proper, strike_keeps}
 use Rattle.ft_machine.proofs.Tabulated.{cells_there}
 
--- what the test of a status says
+-- if the test says so, the machine has stopped
 pub has_stopped : (s : Status) → not (sameb the_status.the_type s status.Running) ≡ true → HasStopped s
 has_stopped status.Running h = cc
 has_stopped status.Done h = tt
 has_stopped status.Detected h = tt
 
--- what it says of a run that goes on
+-- otherwise it is running
 pub still_running : (s : Status) → not (sameb the_status.the_type s status.Running) ≡ false → s ≡ status.Running
 still_running status.Running h = refl
 still_running status.Done h = cc

@@ -1,4 +1,4 @@
--- Arrays that stand for the same map are the same.
+-- Arrays that represent the same map are equal.
 use Rattle.std.proofs.Common.{◌≡◌, ℕ, ◌+◌, ◌-◌, ◌<◌, List, length, Some, Bool, true, false, slice_get, get_or, refl, ap}
 use Rattle.std.proofs.Common.{sym, ◌∙◌, arith, Decides, eqb}
 use Rattle.std.proofs.lemmas.Option.{slice_get-get_or}
@@ -27,7 +27,7 @@ pub same_words : (xs ys : List ℕ) → cells_of xs ≡ cells_of ys → xs ≡ y
 same_words xs ys e = same_lists xs ys (as_many_words xs ys (λ a. ap (λ m. is_cell m a) e)) (λ j lt. sym (word_read xs j)
     ∙ ap (λ m. cell_at m (1048576 + j)) e ∙ word_read ys j)
 
--- equal words are equal cells
+-- arrays of words are equal exactly when their cells are
 pub cells_decide : (xs ys : List ℕ) (r : Bool) → r ≡ pointwise eqb xs ys → Decides r (cells_of xs ≡ cells_of ys)
 cells_decide xs ys r e = Decides-like r (ap cells_of) (same_words xs ys) (slice_eq-Decides Decides-eqb xs ys r e)
 

@@ -1,4 +1,4 @@
--- Spans of steps after one another, and against the run under a plan.
+-- Spans of steps in sequence, and how they relate to the run under a plan.
 use Rattle.std.proofs.Common.{◌≡◌, ℕ, zero, suc, ◌+◌, ◌-◌, ◌<◌, ◌≤◌, List, [], ◌++◌, Option, Some, None, true, ◌&&◌}
 use Rattle.std.proofs.Common.{nat_le, nat_lt, refl, ap, sym, ◌∙◌, append_assoc, subst, arith, add-suc, add-zero}
 use Rattle.std.proofs.lemmas.List.{append-nil}
@@ -26,7 +26,7 @@ use Rattle.ft_machine.specs.declared.bank.Bank.{Bank}
 use Rattle.ft_machine.specs.declared.bank.Effect.{Effect}
 use Rattle.ft_machine.specs.Effects.{Does, doing, followed, put_out}
 
--- a run after these outputs
+-- a run whose outputs follow these
 abbrev pub joined : List Output → Ran → Ran
 joined xs r = record { state = r.state; wild = r.wild; outputs = xs ++ r.outputs }
 
@@ -34,7 +34,7 @@ extended_joined : (xs ys : List Output) (t : Stepping) → extended (xs ++ ys) t
 extended_joined xs ys t = ap (λ zs. record { state = t.state; wild = t.wild; outputs = zs })
     (append_assoc xs ys (option_to_list t.output))
 
--- a span after a span is one span
+-- two spans in sequence are one span
 pub span_join : (o : Object) (n m : ℕ) (s : State) (w : List Wild) → span o (n + m) s w
     ≡ joined (span o n s w).outputs (span o m (span o n s w).state (span o n s w).wild)
 unfolding span
@@ -59,7 +59,7 @@ span_keeps_cells o (suc n) s w a = (step_is_proper o (span o n s w).state (span 
 pub span_has_cells : (o : Object) (c n : ℕ) (s : State) (w : List Wild) → HasCells c s → HasCells c (span o n s w).state
 span_has_cells o c n s w h a = span_keeps_cells o n s w a ∙ h a
 
--- a machine that has stopped stays
+-- a stopped machine does not change
 pub span_stays : (o : Object) (n : ℕ) (s : State) (w : List Wild) → HasStopped s.status → (span o n s w).state ≡ s
 unfolding span
 span_stays o zero s w h = refl
@@ -71,7 +71,7 @@ running_at status.Running h = refl
 running_at status.Done h = absurd (h tt)
 running_at status.Detected h = absurd (h tt)
 
--- if a machine runs, it ran before
+-- a machine that is running after more steps was running before them
 pub span_running : (o : Object) (n m : ℕ) (s : State) (w : List Wild) → (span o (n + m) s w).state.status ≡ Running →
     (span o n s w).state.status ≡ Running
 span_running o n m s w running =
@@ -122,11 +122,11 @@ pub span_lost : (o : Object) (b : Bank) (pc : ℕ) (w : List Wild) → instr_at 
     }
 span_lost o b pc w is = span_one o (doing b pc pc None) w ∙ ap (extended []) (fetched_step o b pc None w is)
 
--- where a cell of n cells is
+-- the bounds on the address of one of n cells
 pub cell_bounds : (n a : ℕ) → (nat_le 1048576 a && nat_lt a (1048576 + n)) ≡ true → (1048576 ≤ a) × (a < 1048576 + n)
 cell_bounds n a h = (grind (arith, nat_tests), grind (arith, nat_tests))
 
--- a run that was not struck is a span from the start
+-- a run that has not been struck is a span from the start
 pub run_start : (o : Object) (strike : Option Strike) (w : List Wild) (m : ℕ) → ((j : ℕ) → j < m → Spares strike j) →
     run o strike w m ≡ span o m (start o) w
 unfolding run span
@@ -137,7 +137,7 @@ run_start o strike w (suc m) h =
     ∙ ap (λ (r : Ran). extended r.outputs (step o r.state r.wild)) (run_start o strike w m (λ j below.
     h j (omega arith)))
 
--- and after its strike it is a span from the state that was struck
+-- after its strike, a run goes on as a span from the struck state
 pub run_on : (o : Object) (strike : Option Strike) (w : List Wild) (k m : ℕ) → ((j : ℕ) → k < j → Spares strike j)
     → run o strike w (k + suc m) ≡ joined (run o strike w k).outputs
     (span o (suc m) (struck_before strike k (run o strike w k).state) (run o strike w k).wild)
@@ -158,17 +158,17 @@ run_on o strike w k (suc m) h =
     ∙ ap (λ (r : Ran). extended r.outputs (step o r.state r.wild)) (run_on o strike w k m h)
     ∙ extended_joined xs (span o (suc m) s v).outputs (step o (span o (suc m) s v).state (span o (suc m) s v).wild)
 
--- some steps and the rest are all
+-- the first m steps and the rest are all n steps
 pub rest_of : (m n : ℕ) → m ≤ n → m + (n - m) ≡ n
 rest_of m n le = omega arith
 
--- from whatever equals the start
+-- a run that has not been struck is a span from a state equal to the start
 pub run_first : (o : Object) (strike : Option Strike) (w w0 : List Wild) (s0 : State) (m : ℕ) → s0 ≡ start o → w0 ≡ w →
     ((j : ℕ) → j < m → Spares strike j) → run o strike w m ≡ span o m s0 w0
 run_first o strike w w0 s0 m begun answers h = run_start o strike w m h ∙ ap (λ s. span o m s w) (sym begun)
     ∙ ap (λ v. span o m s0 v) (sym answers)
 
--- and after its strike it is a span from there
+-- after its strike, it is a span from a state equal to the struck one
 pub run_second : (o : Object) (strike : Option Strike) (w : List Wild) (s1 s2 : State) (w1 : List Wild) (before m : ℕ) →
     s1 ≡ (run o strike w before).state → w1 ≡ (run o strike w before).wild
     → s2 ≡ struck_before strike before s1 → ((j : ℕ) → before < j → Spares strike j) → 0 < m →

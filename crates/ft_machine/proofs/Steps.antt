@@ -1,4 +1,4 @@
--- What each step and each strike keeps, and what an output says.
+-- What each step and each strike leaves unchanged, and what an output implies.
 use Rattle.std.proofs.Common.{◌≡◌, ℕ, Bool, true, false, List, [], ◌∷◌, Option, Some, None, refl, ap, sym, ◌∙◌, subst}
 use Rattle.std.specs.Prelude.{◌||◌, ◌==◌, if◌then◌else◌}
 use Rattle.std.proofs.lemmas.Bool.{eqb-true, and_parts}
@@ -20,7 +20,7 @@ use Rattle.ft_semantics.proofs.StepKinds.{execute_is, step_at_is}
 use Rattle.ft_semantics.specs.Strike.{with_word, is_there, struck_state, struck_before}
 use Rattle.ft_machine.proofs.Tabulated.{contains_key-insert}
 
--- an output leaves the status and goes to a cell, and the cells keep their addresses
+-- an output goes to a cell, its step keeps the status, and the cells keep their addresses
 pub record IsProper (s : State) (t : Stepping) : Type 0 where
   pub output : (out : Output) → t.output ≡ Some out → (t.state.status ≡ s.status) × (is_cell s.cells out.addr ≡ true)
   pub cells : (a : ℕ) → is_cell t.state.cells a ≡ is_cell s.cells a

@@ -13,7 +13,7 @@ either_way : {V : Type 0} (b : Bool) (v : V) (o : Option V) → is_some (cond b 
 either_way true v o = refl
 either_way false v o = refl
 
--- the keys after one is inserted
+-- the keys after an insertion
 pub contains_key-insert : {V : Type 0} (m : _) (k : ℕ) (v : V) (q : ℕ) → contains_key (insert {R = nat_cmp} m k v) q
     ≡ ((q == k) || contains_key m q)
 contains_key-insert m k v q = ap is_some (get-insert nat_cmp_total m k v q)
@@ -26,7 +26,7 @@ between a n = grind (arith, nat_tests)
 none_between : (a : ℕ) → false ≡ (nat_le 1048576 a && nat_lt a 1048576)
 none_between a = grind (arith, nat_tests)
 
--- the cells are at their addresses
+-- the keys of n cells are their addresses
 pub cells_there : {V : Type 0} (value : ℕ → V) (n a : ℕ) → contains_key (tabulate n cell_address value) a
     ≡ (nat_le 1048576 a && nat_lt a (1048576 + n))
 unfolding tabulate

@@ -28,7 +28,7 @@ status_told (Commit output) = status.Running
 status_told Done = status.Done
 status_told Detected = status.Detected
 
--- all of the steps were taken, or the last one that was taken is not quiet
+-- all steps were taken, or the last one taken is not quiet
 abbrev pub IsEnough : Stepped → ℕ → ℕ → Type 0
 IsEnough Quiet taken most = taken ≡ most
 IsEnough (Commit output) taken most = (0 < taken) × (taken ≤ most)
@@ -50,12 +50,13 @@ pub record Advances (o : Object) (s : State) (w : List Wild) (s' : State) (w' : 
   pub status_is : (span o taken s w).state.status ≡ status_told last
   pub before : (j : ℕ) → j < taken → IsQuiet (span o j s w)
 
--- what is kept is unchanged, as no output came; or the one output is kept: private to the crate
+-- an outlet that goes on took no output and keeps what it held; one that does not go on holds the one output that it
+-- took: private to the crate
 abbrev pub IsFirst : Option Output → List Output → Bool → Option Output → Type 0
 IsFirst old outputs true new = (outputs ≡ []) × (new ≡ old)
 IsFirst old outputs false new = option_to_list new ≡ outputs
 
--- what the last step did, from how the steps ended and this output: private to the crate
+-- what the last step did, given how the steps ended and this output: private to the crate
 abbrev pub last_of : Pause → Option Output → Stepped
 last_of pause.Running output = Quiet
 last_of pause.Done output = Done

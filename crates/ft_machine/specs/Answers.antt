@@ -15,18 +15,18 @@ abbrev pub next_answer : List Wild → Wild
 next_answer [] = Stop
 next_answer (answer ∷ rest) = answer
 
--- the result of a step without an output, by the status after it
+-- the result of a step without an output, given the status after it
 abbrev pub told_status : Status → Stepped
 told_status status.Running = Quiet
 told_status status.Done = Done
 told_status status.Detected = Detected
 
--- the result of a step by its output and the status after it
+-- the result of a step, given its output and the status after it
 abbrev pub told_output : Option Output → Status → Stepped
 told_output (Some output) s = Commit output
 told_output None s = told_status s
 
--- the result of a step: its output if it has one, else the machine's status after it
+-- the result of a step: its output if it has one, otherwise the machine's status after it
 abbrev pub told : Stepping → Stepped
 told t = told_output t.output t.state.status
 
@@ -36,6 +36,6 @@ pub record Takes (t : Stepping) (state : State) (wild : List Wild) (answer : Ste
   pub wild_is : wild ≡ t.wild
   pub answer_is : answer ≡ told t
 
--- a call took this step, which uses no answer to wild loads, whatever they are
+-- a call took this step, which uses no answer to a wild load, whatever answers are left
 pub record TakesQuietly (t : List Wild → Stepping) (state : State) (answer : Stepped) : Type 0 where
   pub takes : (wild : List Wild) → Takes (t wild) state wild answer

@@ -1,4 +1,4 @@
--- What registers and cells in arrays stand for: private to the code.
+-- The registers and cells that arrays represent: private to the code.
 use Rattle.std.specs.Prelude.{ℕ, List, length, slice_index_or}
 use Rattle.ft_isa.specs.declared.colour.Colour.{Colour}
 use Rattle.ft_isa.specs.declared.colour.Colour.TheVariants.{Green}

@@ -31,14 +31,14 @@ EndsAs WriteFault s = Unit {0}
 abbrev pub output_lines : Object → List Output → List (List ℕ)
 output_lines o outputs = map (line_at o) outputs
 
--- how the puts of a run with this end ended
+-- how the puts ended, in a run with this end
 abbrev pub put_end : RunEnd → PutEnd
 put_end Done = AllPut
 put_end Detected = AllPut
 put_end OutOfSteps = AllPut
 put_end WriteFault = PutFailed
 
--- the machine is in the run's state after k steps, and the lines of the outputs up to there were put, each as one piece
+-- the machine is in the run's state after k steps, and the lines of the outputs so far were put, each as one piece
 pub record HasTaken (o : Object) (strike : Option Strike) (wild : List Wild) (k : ℕ) (state : State) (old new : SinkLog) : Type 0 where
   pub state_is : state ≡ state_after o strike wild k
   pub pieces : new.pieces ≡ append_told old.pieces (output_lines o (outputs_after o strike wild k))
@@ -50,7 +50,7 @@ Stops Detected At outputs n = At n
 Stops OutOfSteps At outputs n = At n
 Stops WriteFault At outputs n = (k : ℕ) × ((k ≤ n) × (At k × GivesLast outputs k))
 
--- the result of a drive, from how its steps ended
+-- the result of a drive, given how its steps ended
 abbrev pub run_end : Pause → RunEnd
 run_end pause.Running = OutOfSteps
 run_end pause.Done = Done
@@ -61,16 +61,16 @@ run_end pause.Refused = WriteFault
 abbrev pub IsOfCell : Object → Output → Type 0
 IsOfCell o output = (1048576 ≤ output.addr) × (output.addr < 1048576 + length o.cells)
 
--- how the puts ended, by whether the run goes on; if not, a put failed
+-- how the puts ended, given whether the run goes on: if it does not, a put failed
 abbrev pub end_of_going : Bool → PutEnd
 end_of_going true = AllPut
 end_of_going false = PutFailed
 
--- the lines of outputs were put, each as one piece; if a put failed, it was that of the last one
+-- the lines of outputs were put, each as one piece; if a put failed, it was the last one
 pub record PutsOutputs (o : Object) (outputs : List Output) (goes : Bool) (old new : SinkLog) : Type 0 where
   pub lines : Puts (end_of_going goes) (output_lines o outputs) old new
   pub pieces : new.pieces ≡ append_told old.pieces (output_lines o outputs)
 
--- no output
+-- no outputs
 pub outputs_none : (o : Object) (log : SinkLog) → PutsOutputs o [] true log log
 outputs_none o log = record { lines = lines_none log; pieces = told_none log.pieces }

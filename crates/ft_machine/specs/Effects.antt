@@ -12,7 +12,7 @@ use Rattle.ft_machine.specs.declared.bank.Effect.TheVariants.{On, To, Commit, Do
 use Rattle.ft_machine.specs.declared.stepped.Stepped.{Stepped}
 use Rattle.ft_machine.specs.declared.stepped.Stepped.TheVariants as stepped
 
--- the effect of a load that goes on, or does not
+-- the effect of a load, given whether the machine goes on
 abbrev pub went : Bool → Effect
 went true = On
 went false = Detected
@@ -54,11 +54,11 @@ told_effect (Commit output) = stepped.Commit output
 told_effect Done = stepped.Done
 told_effect Detected = stepped.Detected
 
--- the step is this change of the bank with this effect, wherever the counters are
+-- the step makes this change to the bank and has this effect, whatever the counters hold
 pub record Does (t : State → List Wild → Stepping) (old new : Bank) (effect : Effect) (wild left : List Wild) : Type 0 where
   pub does : (green blue : ℕ) (f : Option Instr) → t (doing old green blue f) wild ≡ record { state = followed effect new green blue f; wild = left; output = put_out effect }
 
--- the same for a step that uses no answer to wild loads, whatever the answers are
+-- likewise for a step that uses no answer to a wild load, whatever answers are left
 pub record DoesQuietly (t : State → List Wild → Stepping) (old new : Bank) (effect : Effect) : Type 0 where
   pub does : (green blue : ℕ) (f : Option Instr) (wild : List Wild) → t (doing old green blue f) wild ≡ record { state = followed effect new green blue f; wild = wild; output = put_out effect }
 

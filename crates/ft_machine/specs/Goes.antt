@@ -22,14 +22,14 @@ use Rattle.ft_machine.specs.declared.stepped.Stepped.TheVariants as stepped
 use Rattle.ft_machine.specs.declared.stepped.Pause.{Pause}
 use Rattle.ft_machine.specs.declared.stepped.Pause.TheVariants.{Running, Done, Detected, Refused}
 
--- the machine's status
+-- the machine's status after steps that ended in this way
 abbrev pub status_at : Pause → Status
 status_at Running = status.Running
 status_at Done = status.Done
 status_at Detected = status.Detected
 status_at Refused = status.Running
 
--- whether the outlet goes on
+-- whether the outlet goes on after steps that ended in this way
 abbrev pub goes_on : Pause → Bool
 goes_on Running = true
 goes_on Done = true
@@ -40,14 +40,14 @@ goes_on Refused = false
 abbrev pub GivesLast : (ℕ → List Output) → ℕ → Type 0
 GivesLast outputs n = (j : ℕ) × ((output : Output) × ((n ≡ j + 1) × (outputs n ≡ outputs j ++ output ∷ [])))
 
--- if steps end because the outlet does not go on, the last of them gave an output
+-- if the steps ended because the outlet does not go on, the last of them gave an output
 abbrev pub EndsWith : Pause → (ℕ → List Output) → ℕ → Type 0
 EndsWith Running outputs n = Unit {0}
 EndsWith Done outputs n = Unit {0}
 EndsWith Detected outputs n = Unit {0}
 EndsWith Refused outputs n = GivesLast outputs n
 
--- n steps were taken from a state, each but the last left the machine running, and the outlet took their outputs
+-- n steps were taken from a state; each but the last left the machine running, and the outlet took their outputs
 pub record Goes {T : Type 0} (outlet : Ghosts T) (o : Object) (s : State) (w : List Wild) (t : T) (s' : State) (w' : List Wild) (t' : T) (n : ℕ) (pause : Pause) : Type 0 where
   pub state_is : s' ≡ (span o n s w).state
   pub wild_is : w' ≡ (span o n s w).wild
@@ -64,7 +64,7 @@ pub record PassesOn {T : Type 0} (outlet : Ghosts T) (last : Stepped) (t t' : T)
   pub hears : Hears outlet.heard t (option_to_list (output_told last)) (goes_on pause) t'
   pub still : (output : Output) → outlet.may t output → outlet.may t' output
 
--- n steps of a run under a plan were taken, at most `most`, and fewer only if it ended
+-- n steps of a run under a plan were taken, at most `most`, and fewer only if the run ended
 pub record HasRun (o : Object) (strike : Option Strike) (w : List Wild) (s : State) (most n : ℕ) (pause : Pause) : Type 0 where
   pub state_is : s ≡ state_after o strike w n
   pub status_is : (state_after o strike w n).status ≡ status_at pause
@@ -72,13 +72,13 @@ pub record HasRun (o : Object) (strike : Option Strike) (w : List Wild) (s : Sta
   pub few : n ≤ most
   pub all : pause ≡ Running → n ≡ most
 
--- what is fetched after whole instructions, from how they ended: private to the crate
+-- what is fetched after whole instructions, given how they ended: private to the crate
 abbrev pub fetched_where : Object → ℕ → Pause → Option Instr
 fetched_where o pc Running = None
 fetched_where o pc Refused = None
 fetched_where o pc Done = instr_at o pc
 fetched_where o pc Detected = instr_at o pc
 
--- the state after whole instructions, from how they ended: private to the crate
+-- the state after whole instructions, given how they ended: private to the crate
 abbrev pub state_where : Object → ℕ → Pause → Bank → State
 state_where o pc pause b = record (doing b pc pc (fetched_where o pc pause)) { status = status_at pause }

@@ -1,4 +1,4 @@
--- The state that a machine's fields stand for.
+-- The state that a machine's fields represent.
 use Rattle.std.specs.Prelude.{◌≡◌}
 use Rattle.ft_semantics.specs.State.{State}
 use Rattle.ft_machine.specs.declared.machine.Machine.TheInside.{Inside}
@@ -16,7 +16,7 @@ state_of m = record {
   status = m.status;
 }
 
--- all but registers, queue and cells are equal
+-- two states agree in all but their registers, queue and cells
 pub record Stands (s t : State) : Type 0 where
   pub d : s.d ≡ t.d
   pub pc_green : s.pc_green ≡ t.pc_green

@@ -1,4 +1,4 @@
--- Runs from a state, with no strike.
+-- Runs from any state, without a strike.
 use Rattle.std.specs.Prelude.{◌≡◌, ℕ, zero, suc, ◌+◌, List, [], Option}
 use Rattle.std.proofs.Common.{refl, add-one}
 use Rattle.ft_isa.specs.declared.plan.Wild.{Wild}

@@ -14,7 +14,7 @@ use crate::wild::WildLeft;
 use ft_isa::{Colour, Coloured, FIRST_CELL, Instr, Op, Output, Reg, Subst, Wild, apply};
 use ft_queue::StoreQueue;
 
-/// What an instruction did beyond the bank.
+/// What an instruction did besides changing the bank.
 #[derive(Clone, Copy, Debug, PartialEq, Eq)]
 pub enum Effect {
     /// The machine goes on with the next instruction.
@@ -23,7 +23,7 @@ pub enum Effect {
     To(u64),
     /// The machine goes on, and this pair was committed.
     Commit(Output),
-    /// The machine is at its end.
+    /// The machine has executed `halt`.
     Done,
     /// A fault was noticed.
     Detected,
@@ -140,8 +140,8 @@ impl Bank {
         }
     }
 
-    /// Loads, and returns whether the machine goes on. It is a function of its own: the search of the pending stores
-    /// and the answers to wild loads need registers that the loop over instructions keeps for itself.
+    /// Loads, and returns whether the machine goes on. It is a separate function because the search of the pending
+    /// stores and the answers to wild loads need processor registers that the loop over instructions uses.
     #[inline(never)]
     fn loads(&mut self, colour: Colour, rd: Reg, rs: Reg, wild: &mut WildLeft) -> bool
         ensures { Does (λ s w. load colour rd (found colour s (held s.registers rs.number).word) s w) self.old self.new (went result) wild.old wild.new }
@@ -282,8 +282,8 @@ impl Bank {
     }
 }
 
-/// The result of an operation on two words. A shift is a function of its own: its machine code needs a register that
-/// the loop over instructions keeps for itself. Each operation is named, so that its code makes one choice.
+/// The result of an operation on two words. Shifts are separate functions because their machine code needs a processor
+/// register that the loop over instructions uses. Naming each operation lets its code branch only once.
 #[inline(always)]
 fn applied(op: Op, a: u64, b: u64) -> u64
     ensures { result ≡ apply op a b }
@@ -318,8 +318,8 @@ fn shifted_right(a: u64, b: u64) -> u64
     apply(Op::Shr, a, b)
 }
 
-/// The address of the cell of a run that a word selects. It is a function of its own, as a shift is: a division needs
-/// two registers.
+/// The address of the cell of a run that a word selects. It is a separate function, like the shifts, because a division
+/// needs two processor registers.
 #[inline(never)]
 fn cell_in_run(first: u32, length: u32, word: u64) -> u64
     requires { 0 < length }

@@ -6,7 +6,7 @@ ghost use Rattle.ft_machine.specs.Arrays.{cells_of};
 use ft_isa::FIRST_CELL;
 use std::marker::Model;
 
-/// The words of the cells, from the first cell's address.
+/// The words of the cells, from the first cell's address on.
 #[derive(Drop)]
 pub struct Cells {
     words: Vec<u64>,
@@ -27,7 +27,7 @@ impl Model for Cells {
     ghost view = { λ c. cells_of c.words.items };
 }
 
-/// The word at a place of a list of words, if there is one.
+/// The word at an index of a list of words, if there is one.
 #[inline(always)]
 fn word_at(words: &[u64], k: usize) -> Option<u64>
     ensures { result ≡ slice_get words.now k }

@@ -1,4 +1,4 @@
-//! Cells before the first step.
+//! Where a run begins, and the cells before its first step.
 ghost use Rattle.std.specs.Prelude.{◌≡◌, IfOk, length};
 ghost use Rattle.ft_semantics.specs.State.{tabulate};
 ghost use Rattle.ft_types.specs.Objects.{init_of, entry_address};
@@ -18,7 +18,7 @@ pub fn entry_address<P: Program>(program: &P) -> u64
     1 + program.block(program.entry()).start as u64
 }
 
-/// The cells before the first step: the initial words, from the first cell's address.
+/// The cells before the first step: the initial words, from the first cell's address on.
 #[tactic(auto, using(ft_types::proofs::Counted::spellable_counted))]
 pub fn first_cells<P: Program>(alloc: Global, program: &P) -> Result<Cells, NoMemory>
     requires { IsSpellable (P.object program.now) }

@@ -28,7 +28,7 @@ impl Outlet for FirstOutput {
 }
 
 impl FirstOutput {
-    /// What the last step did, from how the steps ended.
+    /// What the last step did, given how the steps ended.
     pub(crate) fn last(&self, pause: Pause) -> Stepped
         ensures { result ≡ last_of pause self.now.output }
     {

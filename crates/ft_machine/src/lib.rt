@@ -1,10 +1,9 @@
 //! The machine, step by step and over whole runs.
 //!
-//! The crate promises that a `Machine` is a state of the machine's definition. `new` is the start, `step`
-//! one step, and `strike` one strike. `go` takes steps and passes each output to an `Outlet`; `run_under`
-//! is a run under a plan, and `drive` such a run with a line for each output. The definitions are those of
-//! `ft_semantics`; `specs/Answers.antt`, `specs/Goes.antt` and `specs/Drives.antt` relate the calls'
-//! results to them.
+//! The crate promises that a `Machine` holds a state of the machine's definition: `new` is the start, `step` one step,
+//! and `strike` one strike. `go` takes steps and passes each output to an `Outlet`; `run_under` is a run under a plan,
+//! and `drive` such a run with a line for each output. The definitions are those of `ft_semantics`;
+//! `specs/Answers.antt`, `specs/Goes.antt` and `specs/Drives.antt` relate the calls' results to them.
 #![tactic(auto)]
 
 mod bank;

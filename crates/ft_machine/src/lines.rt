@@ -1,4 +1,4 @@
-//! An outlet that puts a line for each output.
+//! An outlet that writes a line for each output.
 ghost use Rattle.std.specs.Prelude.{◌≡◌, ◌≤◌, ◌<◌, ◌+◌, ◌∷◌, [], length};
 ghost use Rattle.ft_edge.specs.Lines.{Puts, end_of_puts};
 ghost use Rattle.ft_types.specs.Spellable.{IsSpellable};
@@ -10,7 +10,7 @@ use ft_edge::{Failed, Sink, put_line};
 use ft_isa::{FIRST_CELL, LINE_ROOM, Output, write_line};
 use ft_types::Program;
 
-/// Puts the line of an output.
+/// Writes the line of an output.
 #[inline(never)]
 pub fn put_output<P: Program, K: Sink>(
     program: &P,
@@ -28,12 +28,12 @@ pub fn put_output<P: Program, K: Sink>(
     put_line(&line[start..], out)
 }
 
-/// Writes a line for each output of a program, each with one put, and does not go on after a put that failed.
+/// Writes a line for each output of a program, each with one put, and does not go on after a failed put.
 #[derive(Drop)]
 pub struct Lines<'a, P, K> {
     /// The program.
     pub program: &'a P,
-    /// Where the lines are put.
+    /// Where the lines are written.
     pub out: &'a mut K,
 }
 

@@ -15,8 +15,8 @@ use ft_types::Program;
 use std::alloc::Global;
 use std::marker::Model;
 
-/// A machine of 64 registers, the destination register d, two program counters, a store queue and
-/// cells. Contracts see it as a state of the machine's definition.
+/// A machine of 64 registers, the destination register d, two program counters, a store queue and cells. Contracts see
+/// it as a `State` of `ft_semantics`.
 #[derive(Drop)]
 pub struct Machine {
     pub(crate) bank: Bank,
@@ -166,7 +166,7 @@ impl Machine {
         }
     }
 
-    /// The instruction that was fetched, if one is.
+    /// The fetched instruction, if there is one.
     pub fn fetched(&self) -> Option<Instr>
         ensures { result ≡ self.now.fetched }
     {
@@ -181,7 +181,7 @@ impl Machine {
     }
 }
 
-/// Whether both have fetched the same.
+/// Whether both have fetched the same instruction, or none.
 fn same_fetched(a: Option<Instr>, b: Option<Instr>) -> bool
     ensures { Decides result (a ≡ b) }
 {

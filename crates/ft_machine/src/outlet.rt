@@ -1,14 +1,14 @@
-//! What is done at each output of a run.
+//! What happens at each output of a run.
 ghost use Rattle.std.specs.Prelude.{◌≡◌, ◌∷◌, [], Bool, true, List};
 ghost use Rattle.ft_isa.specs.declared.output.Output.{Output as Committed};
 ghost use Rattle.ft_machine.specs.Hears.{Hears};
 
 use ft_isa::Output;
 
-/// What is done at each output of a run. The loop over the machine asks it whether the run goes on.
+/// What happens at each output of a run. The loop that runs the machine asks it whether the run goes on.
 pub trait Outlet {
-    // From the first state the outlet took these outputs one by one, went on after each but the last, and after the
-    // last it went on or did not.
+    // From the first state, the outlet took these outputs one by one and went on after each but the last. The `Bool`
+    // says whether it went on after the last, too.
     ghost heard: { Self → List Committed → Bool → Self → Type 0 };
 
     // Whether an output may be taken.
@@ -20,6 +20,6 @@ pub trait Outlet {
         ensures heard { Hears heard self.old (output ∷ []) result self.new }
         ensures still { (other : Committed) → may self.old other → may self.new other };
 
-    // No output was taken yet.
+    // At first, an outlet has taken no outputs.
     ghost heard_none: { (outlet : Self) → heard outlet [] true outlet };
 }

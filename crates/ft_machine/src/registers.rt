@@ -65,7 +65,7 @@ impl Registers {
     pub fn same_as(&self, other: &Registers) -> bool
         ensures { Decides result (self.now ≡ other.now) }
     {
-        // A read of each array of colours tells the proof that it has 64 of them.
+        // Reading each array of colours tells the prover that it has 64 elements.
         let _first = self.colours[0];
         let _other = other.colours[0];
         if self.words.as_slice() != other.words.as_slice() {

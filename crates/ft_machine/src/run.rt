@@ -22,7 +22,7 @@ use ft_types::Program;
 /// How a run ended.
 #[derive(Clone, Copy, Debug, PartialEq, Eq)]
 pub enum RunEnd {
-    /// The machine came to its end.
+    /// The machine executed `halt`.
     Done,
     /// The machine noticed a fault.
     Detected,
@@ -43,7 +43,7 @@ pub fn strike_before(machine: &mut Machine, strike: Option<Strike>, k: u64)
     }
 }
 
-/// How many steps of a run come before its strike.
+/// How many of a run's first `steps` steps come before its strike.
 pub fn steps_before(strike: Option<Strike>, steps: u64) -> u64
     ensures within { result ≤ steps }
     ensures before { (j : ℕ) → j < result → Spares strike j }
@@ -90,7 +90,7 @@ pub fn run_under<P: Program, T: Outlet>(
     }
 }
 
-/// The result of a drive, from how its steps ended.
+/// The result of a drive, given how its steps ended.
 fn run_end(pause: Pause) -> RunEnd
     ensures { result ≡ run_end pause }
 {
@@ -103,7 +103,7 @@ fn run_end(pause: Pause) -> RunEnd
 }
 
 /// Runs a machine from its start under a plan, for at most `steps` steps, and writes a line for each output, each with
-/// one put. `WriteFault` comes only if a put failed, and nothing is put after it.
+/// one put. Returns `WriteFault` only if a put failed; nothing is put after that.
 pub fn drive<P: Program, K: Sink>(
     machine: &mut Machine,
     program: &P,

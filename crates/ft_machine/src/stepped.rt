@@ -10,30 +10,29 @@ pub enum Stepped {
     Quiet,
     /// A blue store committed this pair.
     Commit(Output),
-    /// The machine is at its end.
+    /// The machine has executed `halt`.
     Done,
-    /// The machine has stopped at a fault that it noticed.
+    /// The machine has noticed a fault and stopped.
     Detected,
 }
 
-/// Steps that were taken one after the other: how many, and what the last of them did. Those before it
-/// were quiet.
+/// Steps in a row: how many, and what the last of them did. Those before it were quiet.
 #[derive(Clone, Copy, Debug, PartialEq, Eq)]
 pub struct Advance {
     /// The number of steps.
     pub taken: u64,
-    /// What the last step did; `Quiet` if no step was to be taken.
+    /// What the last step did; `Quiet` if no steps were asked for.
     pub last: Stepped,
 }
 
-/// How steps whose outputs an outlet took ended.
+/// How steps ended, if an outlet took their outputs.
 #[derive(Clone, Copy, Debug, PartialEq, Eq)]
 pub enum Pause {
     /// The machine is still running.
     Running,
-    /// The machine is at its end.
+    /// The machine has executed `halt`.
     Done,
-    /// The machine has stopped at a fault that it noticed.
+    /// The machine has noticed a fault and stopped.
     Detected,
     /// The last step committed an output after which the outlet does not go on.
     Refused,

@@ -25,8 +25,8 @@ use ft_semantics::Status;
 use ft_types::Program;
 
 impl Machine {
-    /// Strikes a site: the word there becomes `value`, and its colour stays. `false` exactly if the machine has stopped
-    /// or the site does not exist, and then nothing changes.
+    /// Strikes a site: the word there becomes `value`, and its colour does not change. Returns `false` exactly if the
+    /// machine has stopped or the site does not exist, and then changes nothing.
     pub fn strike(&mut self, site: Site, value: u64) -> bool
         ensures there { result ≡ is_there self.old site }
         ensures struck { self.new ≡ struck_state self.old site value }
@@ -123,7 +123,7 @@ impl Machine {
         }
     }
 
-    /// Applies what an instruction did.
+    /// Completes the step of an instruction with this effect.
     #[inline(always)]
     fn follow(&mut self, effect: Effect) -> Stepped
         requires running { self.old.status ≡ Status.Running }
@@ -156,7 +156,7 @@ impl Machine {
         }
     }
 
-    /// Stops at a fault that was noticed.
+    /// Stops because a fault was noticed.
     fn detect(&mut self) -> Stepped
         ensures { TakesQuietly (detected self.old) self.new result }
     {
@@ -210,7 +210,7 @@ impl Machine {
         }
     }
 
-    /// Takes some steps: whole instructions if the machine is ready for them, else one step.
+    /// Takes some steps: whole instructions if the machine is ready for them, otherwise one step.
     #[inline(always)]
     fn go_some<P: Program, T: Outlet>(
         &mut self,

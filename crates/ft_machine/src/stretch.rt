@@ -13,7 +13,7 @@ use crate::stepped::Pause;
 use crate::wild::WildLeft;
 use ft_types::{INSTR_BYTES, Program};
 
-/// Steps of whole instructions: how many, where both counters are after them, and how they ended.
+/// Steps of whole instructions: how many, what both counters hold after them, and how they ended.
 #[derive(Clone, Copy)]
 pub(crate) struct Stretch {
     pub taken: u64,
@@ -21,7 +21,7 @@ pub(crate) struct Stretch {
     pub pause: Pause,
 }
 
-/// The maximum number of instructions of a stretch, so that no place overflows.
+/// The maximum number of instructions in a stretch, so that no place overflows.
 const MOST: u64 = 0xffff_ffff;
 
 /// How many instructions a stretch of at most `steps` steps executes.
@@ -49,7 +49,7 @@ fn index_at<P: Program>(program: &P, count: usize, pc: u64) -> Option<usize>
     Some(i as usize)
 }
 
-/// The place of an instruction, in bytes after the first one.
+/// The place of an instruction: its offset from the first one, in bytes.
 #[inline(always)]
 fn place_of(i: usize) -> usize
     requires { i < 2 ^ 32 }
@@ -66,7 +66,7 @@ fn number_at(at: usize) -> u64
     (at / INSTR_BYTES) as u64
 }
 
-/// Where instructions end: at the limit of this stretch, or where the code ends.
+/// Where the next instructions end: at the limit of this stretch or at the end of the code, whichever comes first.
 #[inline(always)]
 fn stretch_end(limit: usize, end: usize) -> usize
     ensures limit { result ≤ limit }
@@ -76,7 +76,7 @@ fn stretch_end(limit: usize, end: usize) -> usize
     if limit < end { limit } else { end }
 }
 
-/// The steps of all instructions but those that `rest` bytes hold.
+/// The steps of all instructions except those that `rest` bytes hold.
 #[inline(always)]
 fn steps_but(all: u64, rest: usize) -> u64
     requires few { rest / 16 ≤ all }
@@ -87,7 +87,7 @@ fn steps_but(all: u64, rest: usize) -> u64
 }
 
 /// Fetches and executes whole instructions in at most `most` steps, as long as the machine runs and the outlet goes on.
-/// If an instruction leads elsewhere, it goes on there.
+/// If an instruction transfers control, execution continues at its target.
 #[inline(never)]
 pub(crate) fn do_instructions<P: Program, T: Outlet>(
     bank: &mut Bank,

@@ -5,7 +5,7 @@ ghost use Rattle.ft_machine.specs.Answers.{next_answer};
 use ft_isa::Wild;
 use std::marker::Model;
 
-/// The answers to wild loads that are still to come: a list.
+/// The remaining answers to wild loads, as a list.
 #[derive(Drop)]
 pub struct WildLeft<'w> {
     rest: &'w [Wild],
@@ -21,7 +21,7 @@ impl<'w> Model for WildLeft<'w> {
 }
 
 impl<'w> WildLeft<'w> {
-    /// All the answers of a plan, in turn.
+    /// All the answers of a plan, in order.
     pub fn new(all: &'w [Wild]) -> WildLeft<'w>
         ensures { result ≡ all.now }
     {

@@ -1,4 +1,4 @@
-//! Schedules of objects that are given as bytes.
+//! Schedules of objects given as bytes.
 ghost use Rattle.std.specs.Prelude.{◌≡◌, ◌<◌};
 ghost use Rattle.ft_types.specs.Spellable.{IsSpellable};
 

@@ -45,7 +45,7 @@ impl Write for HaltingWriter {
     }
 }
 
-/// Whether a piece that is put and finished over a writer with this much room is written whole.
+/// Whether a sink over a writer with this much room writes the whole piece.
 fn is_written(alloc: Global, room: usize, piece: &[u8]) -> Result<bool, Fail> {
     let mut sink = GatheringSink::new(alloc, HaltingWriter::new(alloc, room))?;
     sink.put(piece)?;

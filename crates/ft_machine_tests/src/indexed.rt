@@ -1,4 +1,4 @@
-//! The machine over an object that selects a cell of a run by a register.
+//! The machine on an object in which a register selects a cell of a run.
 ghost use Rattle.ft_types.specs.Spellable.{IsSpellable};
 
 use ft_isa::{NoMemory, Output, Reg, Site};
@@ -15,7 +15,7 @@ const SECOND: u64 = 1_048_577;
 /// The maximum number of steps of the run.
 const STEPS: u64 = 100;
 
-/// The run of an object if register `r` is struck before step 2: the step that stopped it, what was committed, and its
+/// The run of an object if register `r` is struck before step 2: the step that stopped it, what it committed, and its
 /// status.
 fn run_struck(
     alloc: Global,

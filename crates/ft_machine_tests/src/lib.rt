@@ -1,4 +1,4 @@
-//! Tests of the outside, the machine, struck runs, the debugger and the scheduler.
+//! Tests of sinks, shelves and sources, the machine, struck runs, the debugger and the scheduler.
 //!
 //! The crate has only tests, since a crate with tests is proved twice. The values come from the
 //! definitions, not from this implementation's output. Worked objects were made by another implementation

@@ -1,4 +1,4 @@
-//! The machine's steps and strikes over an object that stores once.
+//! The machine's steps and strikes on an object that stores once.
 ghost use Rattle.std.specs.Prelude.{ℕ, length, IfOk};
 ghost use Rattle.ft_semantics.specs.State.{HasCells};
 ghost use Rattle.ft_types.specs.Spellable.{IsSpellable};
@@ -11,7 +11,7 @@ use ft_worked_objects::A;
 use std::alloc::Global;
 use std::test::Fail;
 
-/// The address of the one cell, `out`.
+/// The address of the only cell, `out`.
 const OUT: u64 = 1_048_576;
 
 /// Takes three steps, and returns what the last one did.
@@ -96,7 +96,7 @@ fn strikes_change_their_sites(rt: HostRuntime) -> Result<(), Fail> {
     Ok(())
 }
 
-/// A machine whose green store waits: its address was struck in the register and again in the queue.
+/// A machine with a pending green store, whose address was struck in the register and again in the queue.
 fn struck_machine(
     alloc: Global,
     object: &Object,
@@ -117,7 +117,7 @@ fn struck_machine(
     Ok(machine)
 }
 
-/// Whether the struck machine commits its store and stops, and then stays so.
+/// Whether the struck machine commits its store, stops, and then stays stopped.
 fn commits_and_stops(machine: &mut Machine, object: &Object, wild: &mut WildLeft) -> bool
     requires spelled { IsSpellable object.now }
     requires cells { HasCells (length object.now.cells) machine.old }

@@ -1,4 +1,4 @@
-//! The order in which a schedule has its object's instructions.
+//! The order of a schedule's instructions.
 use crate::checked::decode_and_schedule;
 use crate::full::FULL;
 use ft_types::Object;
@@ -6,7 +6,7 @@ use ft_worked_objects::{A, I, J, K, L, Q, X};
 use std::alloc::Global;
 use std::test::Fail;
 
-/// Objects, and the places of the instructions of their schedules.
+/// Objects, each with its schedule: the places of the instructions in the object, in the schedule's order.
 const ORDERS: &[(&[u8], &[usize])] = &[
     (A, &[0, 1, 4, 2, 3, 5, 6]),
     (Q, &[0, 1, 2, 6, 7, 8, 12, 3, 4, 5, 9, 10, 11, 13, 14]),

@@ -1,9 +1,9 @@
-//! What a session's object and script are made of.
+//! Parts of a session's object and script.
 
 /// The record of an instruction that ends a run.
 pub const HALT: &[u8] = b"\x07\0\0\0\0\0\0\0\0\0\0\0\0\0\0\0";
 
-/// Sets 65 breakpoints, and one of them once more.
+/// Sets 65 breakpoints, and then one of them again.
 pub const BREAKS: &str = "break 0 0\n\
     break 0 1\n\
     break 0 2\n\

@@ -1,5 +1,5 @@
-//! A sink, a shelf and a source that record every call, and end the process if there is no memory for it.
-//! They show that code can satisfy what the traits say about pieces, loads and takes.
+//! A sink, a shelf and a source that record every call, and end the process if there is no memory for that. They show
+//! that code can satisfy what the traits say about pieces, loads and takes.
 ghost use Rattle.std.specs.Prelude.{Some, map};
 
 use ft_edge::{Failed, Load, LoadFault, MemShelf, MemSink, MemSource, Shelf, Sink, Source};

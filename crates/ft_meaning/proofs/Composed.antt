@@ -1,4 +1,4 @@
--- Runs of the code, one after the other, against the definition.
+-- Consecutive runs of the code, compared with the definition.
 use Rattle.std.proofs.Common.{◌≡◌, ℕ, suc, ◌-◌, List, [], ◌∷◌, length, map, replicate, Option, Result, Ok, Err, Vec}
 use Rattle.std.proofs.Common.{Global, refl, sym, ap, ◌∙◌, subst, arith}
 use Rattle.std.proofs.lemmas.List.{length-map}
@@ -41,19 +41,19 @@ runs_from go whole f names r q before after (Err stops.Cut) e h = λ first o w i
 runs_from go whole f names r q before after (Err stops.WriteFault) e h = λ first o w is.
     subst (λ x. BreaksOff (output_lines names (outputs x)) first after) (sym (e o w)) (h first o (f w) is)
 
--- what was output before stays output
+-- what follows only adds outputs
 then_begins : (r : Outcome) (rest : State → Outcome) → ((s : State) → Grows s (state_of (rest s))) →
     Begins (outputs r) (outputs (then_do r rest))
 then_begins (Ended s) rest g = (g s).out
 then_begins (Cut s) rest g = begins_itself s.out
 
--- the whole comes to a part, and then to the rest
+-- the whole run reaches a part, and the rest follows
 abbrev pub Reaches : (State → Outcome) → (State → Outcome) → List (List ℕ) → Run → Run → SinkLog → SinkLog → Type 0
 Reaches whole go names r q start now = (first : SinkLog) (o : List Output) (w : ℕ) → start ≡ told names first o →
     (p : List Output) × (v : ℕ) × (rest : State → Outcome) × ((s : State) → Grows s (state_of (rest s)))
     × (whole (state r o w) ≡ then_do (go (state q p v)) rest) × (now ≡ told names first p)
 
--- a part that stops stops the whole
+-- if a part stops, so does the whole
 pub stops_run : (whole go : State → Outcome) (names : List (List ℕ)) (r0 r q : Run) (before now after : SinkLog)
     (stop : Stop) → Reaches whole go names r0 r before now → RunsTo go names r q now after (Err stop)
     → RunsTo whole names r0 q before after (Err stop)
@@ -68,7 +68,7 @@ stops_run whole go names r0 r q before now after stops.WriteFault reach h = λ f
     (breaks_longer names first after (outputs (go s)) (outputs (then_do (go s) R.2)) (h first R.0 R.1 R.5)
     (then_begins (go s) R.2 R.3))
 
--- the words keep their shape
+-- `Keeps` is transitive
 pub keeps_trans : (r s q : Run) → Keeps r s → Keeps s q → Keeps r q
 keeps_trans r s q a b = record {
   vars = b.vars ∙ a.vars;
@@ -119,7 +119,7 @@ meant prog t r q names bs old new res e f a b c h =
     (subst (λ m. Meant (end_of_run res) names m old new) start
     (meant_from (run (plain_list same_slot bs)) names r q old new res h))
 
--- as many names as declared ones and as places
+-- there are as many joined names as declared ones
 joined_length : (ts : List (List ℕ)) (ps : List (Option ℕ)) → length ts ≡ length ps → length (joined_names ts ps)
     ≡ length ts
 joined_length [] ps h = refl

@@ -1,4 +1,4 @@
--- A turn of a loop, and statements one after the other.
+-- A turn of a loop, and consecutive statements.
 use Rattle.std.proofs.Common.{◌≡◌, ◌≢◌, ℕ, zero, suc, ◌≤◌, refl, sym, ap, ◌∙◌, subst, arith}
 use Rattle.ft_syntax.specs.Plain.{Expression, StatementList, none, assign, assign_at, loop, choose, follow}
 use Rattle.ft_scope.specs.declared.slot.Slot.{Slot}
@@ -18,7 +18,7 @@ module _ (e : Expression Slot) (body : State → Outcome) (s : State) where
   loop_zero (suc m) z = ap (λ v. at_zero v (Ended (evaluated e s)) (with_turn s.left (evaluated e s) (λ s1.
       then_do (body s1) (loops m e body)))) z
 
-  -- a test that is not 0, with no turn left
+  -- a test that is not 0, with no turn left, cuts the run
   pub loop_cut : (m : ℕ) → value e s.vars s.cells ≢ 0 → s.left ≡ 0 → loops m e body s ≡ Cut (evaluated e s)
   loop_cut zero ne z = at_value (value e s.vars s.cells) (Ended (evaluated e s)) (Cut (evaluated e s)) ne
   loop_cut (suc m) ne z =
@@ -48,7 +48,7 @@ then_then : (r : Outcome) (f g h : State → Outcome) → ((s : State) → h s �
 then_then (Ended s) f g h e = e s
 then_then (Cut s) f g h e = refl
 
--- statements, and those that follow them
+-- statements, and then those that follow them
 pub run_follow : (a b : StatementList Slot) (s : State) → run (follow a b) s ≡ then_do (run a s) (run b)
 run_follow none b s = refl
 run_follow (assign to e rest) b s = run_follow rest b (assigned to (value e s.vars s.cells) (evaluated e s))
@@ -60,7 +60,7 @@ run_follow (choose e if_so if_not rest) b s =
     then_then (at_zero (value e s.vars s.cells) (run if_not (evaluated e s)) (run if_so (evaluated e s))) (run rest)
     (run b) (run (follow rest b)) (run_follow rest b)
 
--- the first statements fit, and those that follow
+-- if all statements fit, so do the first ones and those that follow
 pub fits_parts : (c v : ℕ) (a b : StatementList Slot) → StatementsFit c v (follow a b) → StatementsFit c v a
     × StatementsFit c v b
 fits_parts c v none b h = (tt, h)
@@ -69,7 +69,7 @@ fits_parts c v (assign_at to i e rest) b h = let p = fits_parts c v rest b h.3 i
 fits_parts c v (loop e body rest) b h = let p = fits_parts c v rest b h.2 in ((h.0, h.1, p.0), p.1)
 fits_parts c v (choose e if_so if_not rest) b h = let p = fits_parts c v rest b h.3 in ((h.0, h.1, h.2, p.0), p.1)
 
--- what fits does so after words changed
+-- an expression that fits still fits after words changed
 pub expression_moved : (e : Expression Slot) (c d v u : ℕ) → d ≡ c → u ≡ v → ExpressionFits c v e → ExpressionFits d u e
 expression_moved e c d v u p q h = subst (λ x. ExpressionFits x u e) (sym p)
     (subst (λ y. ExpressionFits c y e) (sym q) h)

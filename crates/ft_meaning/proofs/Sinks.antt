@@ -1,4 +1,4 @@
--- What a sink has after one more line, and if a put fails.
+-- What a sink records after one more line, and after a failed put.
 use Rattle.std.proofs.Common.{◌≡◌, ℕ, zero, suc, ◌+◌, ◌-◌, ◌<◌, ◌≤◌, max, take, add-one, List, [], ◌∷◌, ◌++◌, length}
 use Rattle.std.proofs.Common.{map, get_or, Vec, Global, refl, sym, ap, ◌∙◌, subst, arith}
 use Rattle.std.proofs.lemmas.List.{map-append}
@@ -13,7 +13,7 @@ use Rattle.ft_meaning.specs.Begins.{Begins}
 use Rattle.ft_meaning.specs.Room.{HasRoom}
 use Rattle.ft_meaning.specs.Runs.{told}
 
--- a line was put
+-- a line was written
 pub told_push : (names : List (List ℕ)) (first before after : SinkLog) (o : List Output) (x : Output)
     → before ≡ told names first o
     → after ≡ with_lines (line_of names x ∷ []) before → after ≡ told names first (o ++ x ∷ [])
@@ -29,7 +29,7 @@ breaks_here names first before after o x h b =
     subst (λ ls. BreaksOff ls first after) (sym (map-append (line_of names) o (x ∷ [])))
     (breaks_then (output_lines names o) (line_of names x ∷ []) first before after h b)
 
--- more outputs change nothing of a put that failed
+-- a put that failed also breaks off a longer list of outputs
 pub breaks_longer : (names : List (List ℕ)) (old new : SinkLog) (xs ys : List Output)
     → BreaksOff (output_lines names xs) old new → Begins xs ys → BreaksOff (output_lines names ys) old new
 breaks_longer names old new xs ys b more =
@@ -56,7 +56,7 @@ line_is names k v name h =
     let e : cell_address k - cell_address 0 ≡ k = omega arith in
     ap (λ m. line (name_of names m) v) e ∙ ap (λ n. line n v) h
 
--- if there is room, there is more room
+-- a larger room is still enough
 pub more_room : (names : List (List ℕ)) (a b : ℕ) → a ≤ b → HasRoom names a → HasRoom names b
 more_room [] a b le h = tt
 more_room (n ∷ names) a b le h = (omega (arith, h.0), more_room names a b le h.1)

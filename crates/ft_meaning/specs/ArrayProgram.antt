@@ -22,6 +22,6 @@ array_program = record {
 abbrev at_cell : ℕ → ℕ → Output
 at_cell k w = record { addr = cell_address k; value = w }
 
--- what it outputs
+-- the program's outputs
 abbrev pub array_outputs : List Output
 array_outputs = at_cell 0 5 ∷ at_cell 1 4 ∷ at_cell 2 7 ∷ at_cell 0 6 ∷ []

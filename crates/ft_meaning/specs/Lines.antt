@@ -4,7 +4,7 @@ use Rattle.std.specs.Option.{unwrap_or}
 use Rattle.ft_isa.specs.Words.{cell_address, line}
 use Rattle.ft_isa.specs.declared.output.Output.{Output}
 
--- the name of the cell of this number, among the cells' names
+-- the name of cell k, given the cells' names
 abbrev pub name_of : List (List ℕ) → ℕ → List ℕ
 name_of names k = unwrap_or (slice_get names k) []
 

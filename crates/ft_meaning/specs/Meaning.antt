@@ -8,7 +8,7 @@ use Rattle.ft_scope.specs.declared.slot.Slot.{Slot}
 use Rattle.ft_scope.specs.declared.slot.Slot.TheVariants.{Cell, Var, Run}
 use Rattle.ft_scope.specs.Resolved.{Program}
 
--- the state of a run: the words of variables and cells, the outputs so far, the turns that are left and the work done
+-- the state of a run: the words of variables and cells, the outputs so far, the turns left and the work done
 pub record State : Type 0 where
   pub vars : List ℕ
   pub cells : List ℕ
@@ -30,15 +30,15 @@ state_of (Cut s) = s
 abbrev pub outputs : Outcome → List Output
 outputs r = (state_of r).out
 
--- the work: 1 for each assignment and each test that was run, and 1 for each expression node that was evaluated
+-- the work: 1 for each assignment and each test executed, and 1 for each expression node evaluated
 abbrev pub work : Outcome → ℕ
 work r = (state_of r).work
 
--- the cell that a word selects among `length` cells from the first
+-- the cell that a word selects among `length` cells from number `first` on
 abbrev pub cell_of_run : ℕ → ℕ → ℕ → ℕ
 cell_of_run first length w = first + w % length
 
--- the cell of an array that a word selects; other slots have none
+-- the cell of an array that a word selects; other slots are never indexed
 abbrev pub indexed_cell : Slot → ℕ → ℕ
 indexed_cell (Run first length) w = cell_of_run first length w
 indexed_cell (Cell k) w = k
@@ -50,7 +50,7 @@ slot_value (Var x) vars cells = slice_index vars x
 slot_value (Cell k) vars cells = slice_index cells k
 slot_value (Run first length) vars cells = 0
 
--- the word of an expression, by the words of the variables and the cells
+-- the word of an expression, given the words of the variables and the cells
 abbrev pub value : Expression Slot → List ℕ → List ℕ → ℕ
 value (literal w) vars cells = w
 value (name s) vars cells = slot_value s vars cells
@@ -91,13 +91,13 @@ abbrev pub with_turn : ℕ → State → (State → Outcome) → Outcome
 with_turn zero s go = Cut s
 with_turn (suc l) s go = go (with_left l s)
 
--- a loop; its number bounds the recursion, and is at least the number of turns left
+-- runs a loop; the number bounds the recursion, and is at least the number of turns left
 abbrev pub loops : ℕ → Expression Slot → (State → Outcome) → State → Outcome
 loops zero e body s = at_zero (value e s.vars s.cells) (Ended (evaluated e s)) (Cut (evaluated e s))
 loops (suc n) e body s =
     at_zero (value e s.vars s.cells) (Ended (evaluated e s)) (with_turn s.left (evaluated e s) (λ s1. then_do (body s1) (loops n e body)))
 
--- statements
+-- runs statements
 abbrev pub run : StatementList Slot → State → Outcome
 run none s = Ended s
 run (assign to e rest) s = run rest (assigned to (value e s.vars s.cells) (evaluated e s))

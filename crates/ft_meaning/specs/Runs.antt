@@ -12,29 +12,29 @@ use Rattle.ft_meaning.specs.Meaning.{State, Outcome, Ended, Cut, outputs}
 use Rattle.ft_meaning.specs.Lines.{output_lines}
 use Rattle.ft_meaning.specs.Room.{HasRoom}
 
--- the state of the definitions, with these outputs and this work done
+-- the defined state, with these outputs and this work done
 abbrev pub state : Run → List Output → ℕ → State
 state r out w = record { vars = r.vars.items; cells = r.cells.items; out = out; left = r.left; work = w }
 
--- a sink's record after the lines of these outputs, each put as one piece
+-- a sink's record after the lines of these outputs, each written with one put
 abbrev pub told : List (List ℕ) → SinkLog → List Output → SinkLog
 told names first out = with_lines (output_lines names out) first
 
--- the code's words have the shape that they had, and the turns did not increase
+-- the code's vectors keep their lengths, and the turns left do not increase
 pub record Keeps (r q : Run) : Type 0 where
   pub vars : length q.vars.items ≡ length r.vars.items
   pub cells : length q.cells.items ≡ length r.cells.items
   pub line : length q.line.items ≡ length r.line.items
   pub left : q.left ≤ r.left
 
--- each cell has a name, and there is room for it
+-- each cell has a name, there are at most 1024 cells, and the line buffer has room for each name and a value
 pub record Ready (names : List (List ℕ)) (r : Run) : Type 0 where
   pub as_many : length names ≡ length r.cells.items
   pub few : length r.cells.items ≤ 1024
   pub line : 22 ≤ length r.line.items
   pub room : HasRoom names (length r.line.items - 22)
 
--- whatever lines were put and work was done before, the code does what the definition does
+-- whatever lines were written and whatever work was done before, the code does what the definition does
 abbrev pub RunsTo : (State → Outcome) → List (List ℕ) → Run → Run → SinkLog → SinkLog → Result (Unit {0}) Stop → Type 0
 RunsTo go names r q before after (Ok u) =
     (first : SinkLog) (o : List Output) (w : ℕ) → before ≡ told names first o → (p : List Output) × (v : ℕ) ×

@@ -5,7 +5,7 @@
 pub enum MeanEnd {
     /// The program ended.
     Ended,
-    /// A loop's test was not 0 with no turn left.
+    /// A loop's test was not 0, and no turn was left.
     Cut,
     /// A line could not be written.
     WriteFault,

@@ -18,7 +18,7 @@ pub fn longest(names: &[Vec<u8>]) -> usize
     most
 }
 
-/// Puts the line of an output. The buffer has room for it.
+/// Writes the line of an output. The buffer has room for it.
 pub fn put_output<K: Sink>(
     name: &[u8],
     value: u64,

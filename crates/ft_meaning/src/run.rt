@@ -1,4 +1,4 @@
-//! A run of a program, which writes its outputs as they come.
+//! A run of a program, which writes its outputs as they occur.
 ghost use Rattle.std.specs.Prelude.{◌≡◌, ◌<◌, ◌≤◌, length, map, slice_index};
 ghost use Rattle.ft_isa.specs.Words.{apply};
 ghost use Rattle.ft_syntax.specs.Plain.{none, plain_expression, plain_statement, plain_list};
@@ -16,13 +16,13 @@ use ft_syntax::{Expr, Stmt};
 /// Why a run stopped before its end.
 #[derive(Clone, Copy)]
 pub enum Stop {
-    /// A loop's test was not 0 with no turn left.
+    /// A loop's test was not 0, and no turn was left.
     Cut,
     /// A line could not be written.
     WriteFault,
 }
 
-/// The words of variables and cells, the turns that are left, and room for a line.
+/// The words of variables and cells, the turns left, and room for a line.
 #[derive(Drop)]
 pub struct Run {
     pub vars: Vec<u64>,
@@ -43,8 +43,8 @@ fn cell_at(array: Slot, word: u64, cells: usize) -> usize
     }
 }
 
-/// The word of the array cell that an index selects. It is a function of its own, so that the words of names and
-/// literals save no registers.
+/// The word of the array cell that an index selects. This is a separate function so that evaluating names and literals
+/// saves no registers.
 #[inline(never)]
 #[cycle(word)]
 fn indexed_word(array: Slot, index: &Expr<Slot>, vars: &[u64], cells: &[u64]) -> u64
@@ -56,7 +56,7 @@ fn indexed_word(array: Slot, index: &Expr<Slot>, vars: &[u64], cells: &[u64]) ->
     cells[cell_at(array, word, cells.len())]
 }
 
-/// The word of an operation on two expressions. It is a function of its own, as an index is.
+/// The word of an operation on two expressions. This is a separate function for the same reason as `indexed_word`.
 #[inline(never)]
 #[cycle(word)]
 fn operation_word(op: Op, a: &Expr<Slot>, b: &Expr<Slot>, vars: &[u64], cells: &[u64]) -> u64
@@ -69,7 +69,7 @@ fn operation_word(op: Op, a: &Expr<Slot>, b: &Expr<Slot>, vars: &[u64], cells: &
     apply(op, x, y)
 }
 
-/// An expression's word, by the words of the variables and the cells.
+/// An expression's word, given the words of the variables and the cells.
 #[cycle(word)]
 fn word_of(e: &Expr<Slot>, vars: &[u64], cells: &[u64]) -> u64
     requires { ExpressionFits (length cells.now) (length vars.now) (plain_expression same_slot e.now) }
@@ -125,7 +125,7 @@ impl Run {
         Ok(())
     }
 
-    /// Assigns a word, and writes the line of a cell.
+    /// Assigns a word, and writes the line if it goes to a cell.
     fn assign<K: Sink>(
         &mut self,
         names: &[Vec<u8>],

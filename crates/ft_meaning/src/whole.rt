@@ -45,11 +45,12 @@ fn end_of_run(run: Result<(), Stop>) -> MeanEnd
     }
 }
 
-/// Runs a program's meaning with this many loop turns for the whole run. It writes a line for each output, each with
-/// one put, and returns how the meaning ended. `Cut` is returned exactly if a loop's test is not 0 with no turn left.
-/// `WriteFault` is returned only if a put failed, after which nothing is put. `NoMemory` comes before the first put.
+/// Computes a program's meaning with this many loop turns for the whole run. With the result `Ended` or `Cut`, the
+/// meaning ended or was cut, as the result says, and a line was written for each of its outputs, each with one put.
+/// `WriteFault` and `NoMemory` do not say how the meaning ends: with `WriteFault` the put of a line failed, the lines
+/// before it were written and nothing was put after it; with `NoMemory` nothing was put.
 ///
-/// It takes time in proportion to the work, and its recursion is no deeper than statements and operators nest in the
+/// The time is proportional to the work, and the recursion is no deeper than statements and operators nest in the
 /// source.
 pub fn mean<K: Sink>(alloc: Global, prog: &Prog<'_>, turns: u64, out: &mut K) -> MeanEnd
     ensures ends { EndsAs result (meaning (program_of prog.now) turns) }

@@ -1,4 +1,4 @@
-//! Explains assembly texts that are refused.
+//! Explains why assembly texts are refused.
 use crate::content::{Content, say_other_kind};
 use crate::excerpt::Place;
 use crate::lines::{MARKED, NOT_UTF8, RETURN, first_not_utf8, is_marked};
@@ -13,7 +13,7 @@ use ft_isa::{FIRST_CELL, NoMemory};
 const ORDER: &str =
     "this line is out of order: first come cells, then nodes, types (each with its `reg` and then `pend` lines), blocks (each with its instructions), and `entry`\n";
 
-/// Says what follows a first word.
+/// Says what must follow the first word of a line.
 fn say_forms(page: &mut Page, word: &[u8], forms: &str) -> Result<(), NoMemory> {
     page.quote(word)?;
     page.say(format_args!(" is followed by {forms}"))
@@ -42,7 +42,7 @@ fn say_operand(
     say_rule(page, operand)
 }
 
-/// Says what to write instead of a name or register where a number belongs, or of a name where a register does.
+/// Says what to write instead of a name or register where a number is expected, or of a name where a register is.
 fn say_instead(page: &mut Page, operand: Operand<'_>, text: &[u8]) -> Result<(), NoMemory> {
     let is_word = operand.form == "W";
     if is_word && is_register(operand.text) {
@@ -88,7 +88,7 @@ fn explain_operands(
     place.show(page, operand.text.len())
 }
 
-/// A byte of a line that no line may have: its place, and what is wrong with it.
+/// A byte that no line may contain: its place in this line, and what is wrong with it.
 fn wrong_byte(line: &[u8]) -> Option<(usize, &'static str)> {
     if is_marked(line) {
         return Some((0, MARKED));
@@ -102,7 +102,7 @@ fn wrong_byte(line: &[u8]) -> Option<(usize, &'static str)> {
     first_space(line)
 }
 
-/// Whether a line, given by its number, is among the instructions of a text.
+/// Whether the line with this number is among the instructions of a text.
 fn is_in_code(text: &[u8], number: usize) -> bool {
     match line_with(text, b"block") {
         Some(first) => first < number,
@@ -110,7 +110,7 @@ fn is_in_code(text: &[u8], number: usize) -> bool {
     }
 }
 
-/// Explains why a line with none of the forms is refused.
+/// Explains why a line that fits no form is refused.
 fn explain_form(
     page: &mut Page,
     name: &str,
@@ -132,7 +132,7 @@ fn explain_form(
     place.show(page, word.len())
 }
 
-/// Explains why a line is out of order.
+/// Explains that a line is out of order, and gives the order.
 fn explain_order(page: &mut Page, name: &str, start: Place<'_>) -> Result<(), NoMemory> {
     let place = start.after(word_start(start.line(), 0));
     let word = word_at(start.line(), word_start(start.line(), 0));
@@ -141,7 +141,7 @@ fn explain_order(page: &mut Page, name: &str, start: Place<'_>) -> Result<(), No
     place.show(page, word.len())
 }
 
-/// What is wrong with a text as a whole.
+/// Says what is wrong with a text as a whole.
 fn say_whole(page: &mut Page, number: u64, told: u64) -> Result<(), NoMemory> {
     match number {
         1 => page.say(format_args!("line {told} is not a line of an assembly text")),
@@ -152,7 +152,7 @@ fn say_whole(page: &mut Page, number: u64, told: u64) -> Result<(), NoMemory> {
     }
 }
 
-/// Explains why an assembly text is refused. If the refusal has a line, the text is given.
+/// Explains why an assembly text is refused. The text is given if it can be read again and the refusal names a line.
 pub fn explain_text(
     page: &mut Page,
     name: &str,

@@ -22,24 +22,24 @@ pub enum Content {
     List,
     /// A link map.
     Map,
-    /// A script of the debugger.
+    /// A debugger script.
     Script,
-    /// A program in C.
+    /// A C program.
     C,
-    /// A module of WebAssembly.
+    /// A WebAssembly module.
     Wasm,
-    /// A text with two bytes for each character.
+    /// A text in UTF-16.
     Wide,
     /// An empty file.
     Empty,
-    /// Other bytes that are not text.
+    /// Any other bytes that are not text.
     Binary,
-    /// Another text.
+    /// Any other text.
     Unknown,
 }
 
 impl Content {
-    /// What it is called.
+    /// What such a file is called.
     fn words(self) -> &'static str {
         match self {
             Content::Object => "an object",
@@ -57,7 +57,7 @@ impl Content {
         }
     }
 
-    /// What to do with it if something else was expected.
+    /// What to do with such a file if something else was expected.
     fn advice(self, wanted: Content) -> &'static str {
         match self {
             Content::Object if wanted == Content::Assembly =>
@@ -87,17 +87,17 @@ pub fn begins_as_object(bytes: &[u8]) -> bool {
     bytes.starts_with(b"TALFT")
 }
 
-/// Whether a byte occurs in text files.
+/// Whether a byte may occur in a text file.
 fn is_of_text(byte: u8) -> bool {
     matches!(byte, b'\t' | b'\n' | 0x0c | b'\r' | 0x1b | b' '..=b'~' | 0x80..)
 }
 
-/// Whether bytes are a text.
+/// Whether bytes are text.
 fn is_text(bytes: &[u8]) -> bool {
     bytes.iter().all(|byte| is_of_text(*byte))
 }
 
-/// The first line with a word that is not a comment; empty if there is none.
+/// The first line that is neither blank nor a comment; empty if there is none.
 fn first_said(text: &[u8]) -> &[u8] {
     let mut rest = text;
     for _ in 0..text.len() {
@@ -121,7 +121,7 @@ fn next_kind(lexer: &mut Lexer<'_>) -> Option<Kind> {
     }
 }
 
-/// Whether a line begins a source.
+/// Whether a source may begin with this line.
 fn begins_source(line: &[u8]) -> bool {
     let mut lexer = Lexer::new(line);
     let first = next_kind(&mut lexer);
@@ -136,7 +136,7 @@ fn begins_source(line: &[u8]) -> bool {
     }
 }
 
-/// Whether a line begins a script of the debugger.
+/// Whether a debugger script may begin with this line.
 fn begins_script(line: &[u8]) -> bool {
     let begins = line.starts_with(b"step ")
         || line.starts_with(b"go ")
@@ -144,7 +144,7 @@ fn begins_script(line: &[u8]) -> bool {
     begins || line.starts_with(b"break ") || line == b"where".as_slice()
 }
 
-/// What a text is, from its first line that is neither empty nor a comment.
+/// What a text is, judging by its first line that is neither empty nor a comment.
 fn content_of_line(alloc: Global, line: &[u8]) -> Result<Content, NoMemory> {
     let content = if line.is_empty() {
         Content::Unknown
@@ -164,7 +164,7 @@ fn content_of_line(alloc: Global, line: &[u8]) -> Result<Content, NoMemory> {
     Ok(content)
 }
 
-/// Whether a line is a C preprocessor directive.
+/// Whether a text has a C preprocessor directive.
 fn has_directive(text: &[u8]) -> bool {
     let mut rest = text;
     for _ in 0..text.len() {
@@ -179,13 +179,13 @@ fn has_directive(text: &[u8]) -> bool {
     false
 }
 
-/// Whether a text is a C program, judging by the name of its file or by a line.
+/// Whether a text is a C program, judging by the name of its file or by its directives.
 fn is_c(name: &str, text: &[u8]) -> bool {
     let name = name.as_bytes();
     name.ends_with(b".c") || name.ends_with(b".h") || has_directive(text)
 }
 
-/// What a file is, as far as its name and its beginning show.
+/// What a file is, judging by its name and its beginning.
 pub(crate) fn content_of_file(
     alloc: Global,
     name: &str,
@@ -198,7 +198,7 @@ pub(crate) fn content_of_file(
     Ok(content)
 }
 
-/// What bytes are, as far as their beginning shows.
+/// What bytes are, judging by their beginning.
 fn content_of(alloc: Global, bytes: &[u8]) -> Result<Content, NoMemory> {
     let bytes = bytes.get(..LOOKED_AT).unwrap_or(bytes);
     let content = if bytes.is_empty() {
@@ -234,7 +234,7 @@ pub(crate) fn say_kind(
     page.say(format_args!("this is {is}, not {not}{advice}\n"))
 }
 
-/// If a file is not what was expected, says what it is and what to do; returns false if it may be as expected.
+/// If a file is not what was expected, says what it is and what to do. Returns false if it may be what was expected.
 pub fn say_other_kind(
     page: &mut Page,
     name: &str,

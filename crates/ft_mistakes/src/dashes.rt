@@ -28,7 +28,7 @@ fn begins_with_letter(name: &str) -> bool {
     matches!(name.as_bytes(), [b'a'..=b'z' | b'A'..=b'Z', ..])
 }
 
-/// The word without a value after `=`.
+/// The part of a word before `=`.
 fn before_value(word: &str) -> &str {
     match word.split_once('=') {
         Some((name, _)) => name,
@@ -36,7 +36,7 @@ fn before_value(word: &str) -> &str {
     }
 }
 
-/// Parses a word that begins with a typographic dash, after any hyphens; `None` if it does not.
+/// Parses a word in which a typographic dash, perhaps after hyphens, comes before a name; `None` for any other word.
 fn read_dashed(word: &str) -> Option<Dashed<'_>> {
     let is_dashed = begins_with_dash(word.trim_start_matches('-').as_bytes());
     let name = before_value(word.trim_start_matches(DASHES));
@@ -66,7 +66,7 @@ fn has_name(option: &'static str, name: &str) -> bool {
     }
 }
 
-/// Whether a name is that of an option or of a call for help.
+/// Whether a name is that of an option or asks for help.
 fn is_of_option(name: &str) -> bool {
     matches!(name.as_bytes(), b"help" | b"h")
         || OPTIONS.iter().any(|option| has_name(*option, name))

@@ -1,4 +1,4 @@
-//! Words of other machines and of other debuggers, and what to write instead.
+//! Mnemonics of other machines, commands of other debuggers, and what to write instead.
 mod bits;
 mod control;
 mod data;
@@ -10,12 +10,12 @@ type Row = (&'static str, &'static str);
 /// The mnemonics of other machines.
 const MACHINES: &[&[Row]] = &[control::ROWS, data::ROWS, bits::ROWS];
 
-/// Whether a word is one of these, which are separated by spaces. Case is ignored.
+/// Whether a word is in a list of words separated by spaces. Case is ignored.
 fn is_among(word: &str, known: &'static str) -> bool {
     known.split(' ').any(|one| one.eq_ignore_ascii_case(word))
 }
 
-/// The advice that a table has for a word.
+/// The advice that a table gives for a word.
 fn said_in(rows: &'static [Row], word: &str) -> Option<&'static str> {
     let mut found = None;
     for (known, said) in rows {
@@ -26,8 +26,8 @@ fn said_in(rows: &'static [Row], word: &str) -> Option<&'static str> {
     found
 }
 
-/// The advice for a mnemonic of another machine. Its nearest neighbours among the words of this one often mean
-/// something else.
+/// The advice for a mnemonic of another machine. The mnemonic of this machine with the most similar spelling often
+/// means something else.
 pub(crate) fn of_machine(word: &str) -> Option<&'static str> {
     for rows in MACHINES {
         if let Some(said) = said_in(*rows, word) {

@@ -3,10 +3,10 @@ use crate::page::Page;
 use ft_isa::NoMemory;
 use ft_text::read_line;
 
-/// The maximum number of bytes shown of a line.
+/// The maximum number of bytes of a line that are shown.
 const WIDTH: usize = 100;
 
-/// The maximum number of bytes shown before the place.
+/// The maximum number of bytes that are shown before the place.
 const BEFORE: usize = 60;
 
 /// A place in a text.
@@ -20,7 +20,7 @@ pub struct Place<'a> {
     before: usize,
 }
 
-/// Whether a byte is not the first one of a character.
+/// Whether a byte continues a character.
 fn goes_on(byte: u8) -> bool {
     byte & 0xc0 == 0x80
 }
@@ -37,7 +37,7 @@ fn letters(bytes: &[u8]) -> usize {
     bytes.iter().filter(|byte| !goes_on(**byte)).count()
 }
 
-/// The bytes of a text from one place up to another; none if it has no such places.
+/// The bytes of a text from one place up to another; empty if that is not a range of the text.
 pub(crate) fn part(text: &[u8], start: usize, past: usize) -> &[u8] {
     text.get(start..past).unwrap_or(&[])
 }
@@ -92,7 +92,7 @@ impl<'a> Place<'a> {
         })
     }
 
-    /// A place of the same line, after this many of its bytes.
+    /// The place in the same line after this many bytes.
     pub fn after(self, before: usize) -> Place<'a> {
         Place { before, ..self }
     }
@@ -107,22 +107,22 @@ impl<'a> Place<'a> {
         self.line
     }
 
-    /// The number of the character in the line, counted from 1.
+    /// The number of the character at the place, counted from 1 in its line.
     pub fn column(&self) -> usize {
         letters(part(self.line, 0, self.before)).saturating_add(1)
     }
 
-    /// The first byte of the line that is shown.
+    /// Where the shown part of the line begins.
     fn first(&self) -> usize {
         letter_from(self.line, self.before.saturating_sub(BEFORE))
     }
 
-    /// The end of what is shown of the line.
+    /// Where the shown part of the line ends.
     fn past(&self, first: usize) -> usize {
         letter_from(self.line, first.saturating_add(WIDTH))
     }
 
-    /// Explains what is wrong with the byte at the place, and shows it.
+    /// Says what is wrong with the byte at the place, and shows it.
     pub fn explain(&self, page: &mut Page, name: &str, words: &str) -> Result<(), NoMemory> {
         page.head_at(name, self)?;
         page.say(words)?;
@@ -130,7 +130,7 @@ impl<'a> Place<'a> {
         self.show(page, 1)
     }
 
-    /// Shows the line, and below it a caret at the place, with a wave under the rest of `length` bytes. A long line
+    /// Shows the line, with a caret below the place and tildes below the rest of the `length` bytes there. A long line
     /// is cut around the place.
     pub fn show(&self, page: &mut Page, length: usize) -> Result<(), NoMemory> {
         let first = self.first();

@@ -1,17 +1,17 @@
-//! What is missing where a source has an unexpected token, and idioms of C.
+//! What is missing before an unexpected token of a source, and advice on idioms of other languages.
 use crate::excerpt::part;
 use ft_lexer::{Kind, Lexer, Token};
 
 /// What precedes a place in a source.
 #[derive(Clone, Copy)]
 struct Before<'s> {
-    /// The first token of the statement, of the declaration or of the test there.
+    /// The first token of the statement, declaration or test there.
     first: Option<Kind>,
-    /// How many tokens this has.
+    /// How many tokens of it precede the place.
     count: usize,
     /// Whether one of them is `=`.
     assigned: bool,
-    /// How many of its brackets are open.
+    /// How many of its parentheses are open.
     open: usize,
     /// How many braces are open.
     depth: usize,
@@ -36,7 +36,7 @@ fn deeper(depth: usize, kind: Kind) -> usize {
     }
 }
 
-/// How many brackets are open after a token.
+/// How many parentheses are open after a token.
 fn opened(open: usize, kind: Kind) -> usize {
     match kind {
         Kind::LParen => open.saturating_add(1),
@@ -46,7 +46,7 @@ fn opened(open: usize, kind: Kind) -> usize {
 }
 
 impl<'s> Before<'s> {
-    /// What precedes the next token, which follows this one.
+    /// What precedes the token after this one.
     fn then(self, token: Token<'s>) -> Before<'s> {
         let last = Some(token);
         let depth = deeper(self.depth, token.kind);
@@ -118,7 +118,7 @@ fn follows_whole(kind: Option<Kind>) -> bool {
     }
 }
 
-/// What is missing after a term at the end of a statement, of a declaration or of a test.
+/// What is missing after a term that ends a statement, a declaration or a test.
 fn lacking_after_term(before: Before<'_>) -> Option<&'static str> {
     if before.open > 0 {
         return Some(")");
@@ -158,7 +158,7 @@ pub(crate) fn lack_at(source: &[u8], at: usize) -> Option<Lack<'_>> {
     })
 }
 
-/// What a reserved word of another language should be replaced by.
+/// What to write instead of a word that is reserved in another language.
 fn habit_of_word(word: &[u8]) -> Option<&'static str> {
     match word {
         b"for" | b"do" | b"loop" | b"repeat" | b"until" => {
@@ -173,10 +173,10 @@ fn habit_of_word(word: &[u8]) -> Option<&'static str> {
     }
 }
 
-/// What to do without a call that prints.
+/// What to do instead of calling a function that prints.
 const OUTPUT: &str = "there are no calls or macros: an assignment to a cell is the output";
 
-/// What to write instead of a macro such as `println!(..)` whose `!` is at a place; `None` if there is none.
+/// What to write instead of a macro such as `println!(..)` whose `!` is at a place; `None` if no macro is there.
 pub(crate) fn instead_of_macro(source: &[u8], at: usize) -> Option<&'static str> {
     let last = read_before(source, at).last?;
     let is_called = matches!(source.get(at.saturating_add(1)), Some(b'(' | b'[' | b'{'));
@@ -189,7 +189,7 @@ pub(crate) fn instead_of_macro(source: &[u8], at: usize) -> Option<&'static str>
     }
 }
 
-/// What to write instead of a C idiom that this token suggests after the first name of a statement.
+/// What to write instead of the idiom that this token suggests after the first name of a statement.
 fn habit_after_first(word: &[u8], next: Kind) -> Option<&'static str> {
     if next != Kind::Assign
         && let Some(words) = habit_of_word(word)
@@ -215,7 +215,7 @@ fn begins_statement(last: Kind) -> bool {
     matches!(last, Kind::Semi | Kind::LBrace | Kind::RBrace)
 }
 
-/// What to write instead of a C idiom that this token suggests after the last one.
+/// What to write instead of the idiom that a token suggests after the one before it.
 fn habit_after(last: Kind, next: Kind) -> Option<&'static str> {
     match next {
         Kind::If if last == Kind::Else => Some("write `else { if (..) { .. } }`"),
@@ -239,10 +239,10 @@ fn habit_after(last: Kind, next: Kind) -> Option<&'static str> {
     }
 }
 
-/// The message for an array that begins with several values.
+/// The message for an array with several initial values.
 const SAME_VALUE: &str = "all cells of an array have the same initial value";
 
-/// What is wrong with the first value or with the length in the declaration of a cell.
+/// What is wrong with the initial value or the length in the declaration of a cell.
 fn habit_of_cell(before: Before<'_>, next: Kind) -> Option<&'static str> {
     let last = before.last?.kind;
     match next {
@@ -257,7 +257,7 @@ fn habit_of_cell(before: Before<'_>, next: Kind) -> Option<&'static str> {
     }
 }
 
-/// What to write instead of a C idiom that this token suggests in a declaration or a test.
+/// What to write instead of the idiom that this token suggests in a declaration or a test.
 fn habit_inside(before: Before<'_>, next: Kind) -> Option<&'static str> {
     match (before.first, next) {
         (Some(Kind::Var), Kind::Assign) if before.count == 2 => {
@@ -320,7 +320,7 @@ pub(crate) fn unclosed(source: &[u8]) -> Option<(usize, Token<'_>)> {
     Some((opened_at(source, end.depth)?, last))
 }
 
-/// The last brace that raises the number of open ones to this.
+/// The place of the last `{` that brings the number of open braces to `wanted`.
 fn opened_at(source: &[u8], wanted: usize) -> Option<usize> {
     let mut lexer = Lexer::new(source);
     let mut depth: usize = 0;
@@ -339,7 +339,7 @@ fn opened_at(source: &[u8], wanted: usize) -> Option<usize> {
 
 /// What to write instead of a comma.
 pub(crate) fn instead_of_comma(source: &[u8], at: usize) -> &'static str {
-    // After the brace that begins a list, its first number is taken for the beginning of a statement.
+    // After the brace that opens a list, the first number is taken for the beginning of a statement.
     if read_before(source, at).first == Some(Kind::Number) {
         SAME_VALUE
     } else {

@@ -3,7 +3,7 @@
 /// A field: where it begins in its record, how many bytes it has, and its name.
 pub(crate) type Field = (usize, usize, &'static str);
 
-/// The unused part of a record.
+/// The name of a field that is not used.
 const UNUSED: &str = "a field that is not used";
 
 /// The fields of the header.
@@ -62,10 +62,10 @@ pub(crate) const BLOCK: &[Field] = &[(0, 4, "its first instruction"), (4, 4, "it
 /// The field of a substitution row.
 pub(crate) const SUBST: &[Field] = &[(0, 4, "its node")];
 
-/// The field of a byte of the names.
+/// The field of a name byte.
 pub(crate) const NAME: &[Field] = &[(0, 1, "the byte itself")];
 
-/// The fields of a node by its kind: those of its parts, after the ones that all kinds have.
+/// The fields of each kind of node, after the fields that all nodes have.
 const NODES: &[&[Field]] = &[
     &[(4, 4, UNUSED), (8, 8, "its word")],
     &[
@@ -104,7 +104,7 @@ const NODE: &[Field] = &[
     (3, 1, UNUSED),
 ];
 
-/// The fields of a jump or a branch after its registers.
+/// The fields of a jump or a branch.
 const TRANSFER: &[Field] = &[
     (0, 1, "its kind"),
     (1, 1, "its first register"),
@@ -129,7 +129,7 @@ const ACCESS: &[Field] = &[
     (8, 8, UNUSED),
 ];
 
-/// The fields of an instruction by its kind.
+/// The fields of each kind of instruction.
 const INSTRS: &[&[Field]] = &[
     &[
         (0, 1, "its kind"),
@@ -179,7 +179,7 @@ const INSTRS: &[&[Field]] = &[
     ],
 ];
 
-/// The field that contains an offset of a record.
+/// The field at this offset of a record.
 pub(crate) fn field_at(fields: &[Field], offset: usize) -> Option<Field> {
     let mut found = None;
     for field in fields {
@@ -190,7 +190,7 @@ pub(crate) fn field_at(fields: &[Field], offset: usize) -> Option<Field> {
     found
 }
 
-/// The field of a node of this kind that contains an offset of its record.
+/// The field at this offset in the record of a node of this kind.
 pub(crate) fn node_field(kind: u8, offset: usize) -> Option<Field> {
     if offset < 4 {
         return field_at(NODE, offset);
@@ -201,7 +201,7 @@ pub(crate) fn node_field(kind: u8, offset: usize) -> Option<Field> {
     )
 }
 
-/// The field of an instruction of this kind that contains an offset of its record.
+/// The field at this offset in the record of an instruction of this kind.
 pub(crate) fn instr_field(kind: u8, offset: usize) -> Option<Field> {
     field_at(
         INSTRS.get(usize::from(kind)).copied().unwrap_or(ACCESS),

@@ -1,7 +1,7 @@
 //! How commands are written, and what their help says.
 //!
-//! The script `build/help.sh` reads these lists, too: it answers a call for help before the program is compiled. So
-//! each list ends with a line of its own.
+//! `build/help.awk` reads these lists, too, to answer calls for help before the program is compiled. So each list ends
+//! with `];` at the start of a line.
 
 /// The commands, three lines each: how it is written, what it does, and an example.
 pub(crate) const COMMANDS: &[&str] = &[
@@ -65,7 +65,7 @@ pub(crate) const OPTIONS: &[&str] = &[
     "--faults FILE             the fault list: one STEP:SITE:WORD on each line",
 ];
 
-/// The command of a name, as three lines.
+/// The three lines of the command with this name.
 pub(crate) fn command_lines(name: &str) -> Option<&'static str> {
     for command in COMMANDS {
         if first_word(*command) == name {
@@ -75,7 +75,7 @@ pub(crate) fn command_lines(name: &str) -> Option<&'static str> {
     None
 }
 
-/// The words of a text up to its first blank.
+/// The part of a text before its first space.
 pub fn first_word(text: &str) -> &str {
     match text.split_once(' ') {
         Some((word, _)) => word,
@@ -91,7 +91,7 @@ pub(crate) fn form(command: &'static str) -> &'static str {
     }
 }
 
-/// How the command of these words is written; empty if there is none.
+/// How the command that these words name is written; empty if they name none.
 pub fn form_of_words(words: &[String]) -> &'static str {
     match words {
         [first, ..] => form(command_lines(first.as_str()).unwrap_or("")),
@@ -130,7 +130,7 @@ pub(crate) fn value_of(command: &'static str, option: &str) -> Option<&'static s
     None
 }
 
-/// The maximum number that an option or a command takes.
+/// The largest number that a command takes as its operand or as the value of an option.
 pub(crate) fn most_of(command: &'static str) -> u64 {
     match first_word(command).as_bytes() {
         b"campaign" | b"survey" => 1_000_000,

@@ -9,12 +9,12 @@ use ft_isa::NoMemory;
 /// The width of the column for a command with its operand.
 const WIDTH: usize = 18;
 
-/// Whether a word asks for help.
+/// Whether the first word asks for help.
 pub(crate) fn is_help(word: &str) -> bool {
     word == "help" || word == "--help" || word == "-h"
 }
 
-/// Whether a word after a command asks for its help.
+/// Whether a word after a command asks for help with that command.
 pub(crate) fn asks_for_help(word: &str) -> bool {
     word == "--help" || word == "-h"
 }
@@ -32,12 +32,12 @@ pub fn asks_for_version(words: &[String]) -> bool {
     }
 }
 
-/// Says the version.
+/// Writes the version.
 pub(crate) fn say_version(page: &mut Page) -> Result<(), NoMemory> {
     page.say(format_args!("talft {VERSION}\n"))
 }
 
-/// Says a command with its operand, and what it does.
+/// Writes a command with its operand, and what it does.
 fn say_command(page: &mut Page, command: &'static str) -> Result<(), NoMemory> {
     let name = first_word(command);
     let operand = operand_of(command);
@@ -57,12 +57,12 @@ pub(crate) fn say_commands(page: &mut Page) -> Result<(), NoMemory> {
     Ok(())
 }
 
-/// Says an option.
+/// Writes an option and its help text.
 fn say_option(page: &mut Page, option: &'static str) -> Result<(), NoMemory> {
     page.say(format_args!("  {option}\n"))
 }
 
-/// Says how commands are written, what each does, and all options.
+/// Writes the general help: how commands are written, what each does, and all options.
 pub(crate) fn say_help(page: &mut Page) -> Result<(), NoMemory> {
     say_version(page)?;
     page.say("usage: talft COMMAND OPERAND [OPTION VALUE ..]\n\n")?;
@@ -80,7 +80,7 @@ pub(crate) fn say_form(page: &mut Page, command: &'static str) -> Result<(), NoM
     page.say(format_args!("usage: talft {written}\n"))
 }
 
-/// Says the options that a command takes.
+/// Lists the options that a command takes.
 fn say_options(page: &mut Page, command: &'static str) -> Result<(), NoMemory> {
     let mut is_first = true;
     for option in OPTIONS {
@@ -95,7 +95,7 @@ fn say_options(page: &mut Page, command: &'static str) -> Result<(), NoMemory> {
     Ok(())
 }
 
-/// Says how a command is written, what it does, its options and an example.
+/// Writes the help of a command: how it is written, what it does, its options and an example.
 pub(crate) fn say_help_of(page: &mut Page, command: &'static str) -> Result<(), NoMemory> {
     let (summary, example) = summary_and_example(command);
     say_version(page)?;

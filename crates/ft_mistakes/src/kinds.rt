@@ -1,4 +1,4 @@
-//! The kinds of nodes, as the lines of assembly texts name them.
+//! The kinds of nodes, as assembly texts name them.
 use crate::mnemonics::say_near_operation;
 use crate::near::{is_near, say_near};
 use crate::operands::{Operand, place_of_word, word, wrong_operand};
@@ -7,14 +7,14 @@ use crate::samples::{NODE, sample_lines};
 use ft_isa::{NoMemory, Op};
 use std::alloc::Global;
 
-/// The words after `node` of kinds whose operands have names of their own.
+/// The words after `node` for kinds whose operands have names of their own.
 const NAMED: &[(&str, &str)] = &[
     ("sel", "SCOPE KIND M A"),
     ("upd", "SCOPE KIND M A V"),
     ("rem", "SCOPE KIND A LENGTH"),
 ];
 
-/// The words after `node` of other kinds: the first of these forms that all samples of the kind have.
+/// The words after `node` for other kinds: a kind has the first of these forms that fits all its samples.
 const FORMS: &[&str] = &[
     "SCOPE KIND",
     "SCOPE KIND I",
@@ -23,10 +23,10 @@ const FORMS: &[&str] = &[
     "SCOPE KIND A B C",
 ];
 
-/// The words after `node` of an operation.
+/// The words after `node` for an operation.
 const OPERATION: &str = "SCOPE KIND A B";
 
-/// The kind that a sample has; empty for an operation.
+/// The kind of a sample; empty for an operation.
 fn kind_of(sample: &str) -> &[u8] {
     let kind = word(sample.as_bytes(), 2);
     if Op::of_word(kind).is_some() {
@@ -36,12 +36,12 @@ fn kind_of(sample: &str) -> &[u8] {
     }
 }
 
-/// Whether some sample has this kind.
+/// Whether some sample is of this kind.
 fn is_kind(samples: &str, kind: &[u8]) -> bool {
     samples.lines().any(|sample| kind_of(sample) == kind)
 }
 
-/// Whether all samples of a kind have this form.
+/// Whether all samples of a kind fit this form.
 fn have_form(samples: &str, kind: &[u8], form: &'static str) -> bool {
     for sample in samples.lines() {
         if kind_of(sample) == kind && wrong_operand(sample.as_bytes(), form).is_some() {
@@ -51,7 +51,7 @@ fn have_form(samples: &str, kind: &[u8], form: &'static str) -> bool {
     true
 }
 
-/// The words after `node` of this kind; `None` if there is no such kind.
+/// The words after `node` for this kind; `None` if there is no such kind.
 fn form_of(samples: &str, kind: &[u8]) -> Option<&'static str> {
     if Op::of_word(kind).is_some() {
         return Some(OPERATION);
@@ -72,7 +72,7 @@ fn form_of(samples: &str, kind: &[u8]) -> Option<&'static str> {
     None
 }
 
-/// The scope of a node, or else its kind, as the operand at fault.
+/// The operand at fault in a node of an unknown kind: its scope if that is wrong, otherwise its kind.
 fn wrong_head(line: &[u8]) -> Option<Operand<'_>> {
     match wrong_operand(line, "SCOPE KIND") {
         Some(wrong) if wrong.form != "nothing" => Some(wrong),
@@ -84,7 +84,7 @@ fn wrong_head(line: &[u8]) -> Option<Operand<'_>> {
     }
 }
 
-/// The operand of a node that is not what its kind says.
+/// The operand of a node that does not fit its kind.
 pub(crate) fn wrong_node(alloc: Global, line: &[u8]) -> Result<Option<Operand<'_>>, NoMemory> {
     let samples = sample_lines(alloc, NODE)?;
     Ok(match form_of(samples.as_str(), word(line, 2)) {
@@ -93,7 +93,7 @@ pub(crate) fn wrong_node(alloc: Global, line: &[u8]) -> Result<Option<Operand<'_
     })
 }
 
-/// Says which kinds there are.
+/// Lists the kinds of nodes.
 fn say_all(page: &mut Page, samples: &str) -> Result<(), NoMemory> {
     let mut last: &[u8] = &[];
     page.say("a node is ")?;
@@ -120,7 +120,7 @@ fn say_near_kind(page: &mut Page, samples: &str, text: &str) -> Result<bool, NoM
     Ok(false)
 }
 
-/// Says which kinds of nodes there are, and which was probably meant by a text that is none.
+/// Lists the kinds of nodes, and says which one was probably meant by an unknown kind.
 pub(crate) fn say_kinds(page: &mut Page, text: &[u8]) -> Result<(), NoMemory> {
     let samples = sample_lines(page.alloc(), NODE)?;
     let text = str::from_utf8(text).unwrap_or("");

@@ -1,4 +1,4 @@
-//! Lines of formats without comments or empty lines: fault lists, scripts and link maps.
+//! What is wrong with lines of fault lists, scripts and link maps, which have no comments or empty lines.
 use crate::spaces::first_space;
 
 /// A byte order mark.
@@ -11,7 +11,7 @@ pub(crate) const RETURN: &str =
 /// The message for a text that begins with a byte order mark.
 pub(crate) const MARKED: &str = "the file begins with a byte order mark: save it without one";
 
-/// The message for a line with a byte of another encoding.
+/// The message for a line that is not UTF-8.
 pub(crate) const NOT_UTF8: &str = "this line is not UTF-8: write it in ASCII";
 
 /// The place of the first byte of a line that is not UTF-8.
@@ -27,7 +27,7 @@ pub(crate) fn is_marked(text: &[u8]) -> bool {
     text.starts_with(MARK)
 }
 
-/// Whether a text begins like a comment of some language.
+/// Whether a text begins like a comment in some language.
 pub(crate) fn begins_comment(text: &[u8]) -> bool {
     text.starts_with(b"#")
         || text.starts_with(b";")
@@ -40,7 +40,7 @@ fn is_blank(byte: Option<&u8>) -> bool {
     matches!(byte, Some(b' ' | b'\t'))
 }
 
-/// A mistake in a line that looks valid, and its place.
+/// What is wrong with a line in any of these formats, and where.
 pub(crate) fn wrong_line(line: &[u8]) -> Option<(usize, &'static str)> {
     let last = line.len().saturating_sub(1);
     if is_marked(line) {
@@ -67,7 +67,7 @@ pub(crate) fn wrong_line(line: &[u8]) -> Option<(usize, &'static str)> {
     first_space(line)
 }
 
-/// What is wrong with a byte between words, after the one before it; empty if nothing is.
+/// What is wrong with a byte between words, given the byte before it; empty if nothing is.
 fn wrong_after(before: u8, byte: u8) -> &'static str {
     match (before, byte) {
         (_, b'\t') => "words are separated by one space, not by a tab",
@@ -90,7 +90,7 @@ fn wrong_gap(line: &[u8]) -> Option<(usize, &'static str)> {
     wrong
 }
 
-/// A mistake in a line of words, or between its words, and its place.
+/// What is wrong with a line of words, or between its words, and where.
 pub fn wrong_words(line: &[u8]) -> Option<(usize, &'static str)> {
     match wrong_line(line) {
         Some(wrong) => Some(wrong),

@@ -5,7 +5,7 @@ use crate::records::{Part, Record};
 use ft_format::Header;
 use ft_text::read_line;
 
-/// The counts of a text without a line.
+/// The counts of a text with no lines.
 const NOTHING: Header = Header {
     magic: 0,
     cells: 0,
@@ -47,7 +47,7 @@ pub(crate) fn words_before_rows(line: &[u8]) -> Option<usize> {
     }
 }
 
-/// How many rows of a substitution a line has.
+/// How many substitution rows a line has.
 fn count_rows(line: &[u8]) -> usize {
     match words_before_rows(line) {
         Some(before) => count_words(line).saturating_sub(before),
@@ -65,7 +65,7 @@ fn count_in(line: &[u8], part: Part) -> usize {
     }
 }
 
-/// A count, and how many records of a kind a line adds.
+/// A count plus the number of records of a kind that a line adds.
 fn more(count: u32, line: &[u8], part: Part) -> u32 {
     let added = u32::try_from(count_in(line, part)).unwrap_or(u32::MAX);
     count.saturating_add(added)
@@ -151,7 +151,7 @@ pub(crate) fn cell_of(text: &[u8], name: &[u8]) -> Option<u64> {
     None
 }
 
-/// Whether a block whose line has this number is empty: no instruction follows it.
+/// Whether the block on the line with this number is empty: no instruction follows it.
 pub(crate) fn is_empty_block(text: &[u8], number: usize) -> bool {
     let mut rest = text;
     let mut passed: usize = 0;

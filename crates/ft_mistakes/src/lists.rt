@@ -1,4 +1,4 @@
-//! Explains fault lists, campaigns and scripts that are refused.
+//! Explains why fault lists, campaigns and scripts are refused.
 use crate::content::{Content, say_other_kind};
 use crate::excerpt::Place;
 use crate::lines::wrong_line;
@@ -6,7 +6,7 @@ use crate::page::Page;
 use crate::strikes::{is_fault, say_wrong_part};
 use ft_isa::{NoMemory, read_strike};
 
-/// How many bytes of a line begin a fault.
+/// How many bytes at the start of a line could begin a fault.
 fn begun(line: &[u8]) -> usize {
     match read_strike(line) {
         Ok(_) => 0,
@@ -44,7 +44,7 @@ fn second_fault(line: &str) -> Option<usize> {
     }
 }
 
-/// What is wrong with a whole list, with a campaign or with a script.
+/// Says what is wrong with a whole list, with a campaign or with a script.
 fn say_whole(page: &mut Page, number: u64, told: u64) -> Result<(), NoMemory> {
     match number {
         1 => page.say(format_args!("line {told} is not a fault: expected STEP:SITE:WORD")),
@@ -58,7 +58,7 @@ fn say_whole(page: &mut Page, number: u64, told: u64) -> Result<(), NoMemory> {
     }
 }
 
-/// The message for a line of a campaign's output.
+/// The message for a line that comes from a campaign's output.
 const VERDICT: &str =
     "this line has a verdict after the fault; a fault list has only STEP:SITE:WORD";
 
@@ -84,7 +84,8 @@ fn explain_line(page: &mut Page, name: &str, start: Place<'_>) -> Result<(), NoM
     place.show(page, 1)
 }
 
-/// Explains why a fault list, a campaign or a script is refused. The list is given if the refusal has a line.
+/// Explains why a fault list, a campaign or a script is refused. The list is given if it can be read again and the
+/// refusal names a line.
 pub fn explain_list(
     page: &mut Page,
     name: &str,

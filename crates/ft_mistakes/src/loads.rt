@@ -9,7 +9,7 @@ pub const OBJECT_LIMIT: usize = 67_108_864;
 /// The maximum size of a source in bytes.
 pub const SOURCE_LIMIT: usize = 1_048_576;
 
-/// The bytes of a file of at most `limit` bytes; `None` if it cannot be read or has more.
+/// The bytes of a file of at most `limit` bytes; `None` if it is longer or cannot be read.
 pub fn load<S: Shelf>(
     alloc: Global,
     name: &str,

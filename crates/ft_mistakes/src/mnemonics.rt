@@ -17,7 +17,7 @@ const NODE: &str = "SCOPE, a kind and its operands, as in `node 0 word 5`";
 /// The words after an operation.
 const OPERATION: &str = "R R R, or R R C W";
 
-/// The first word of each line except instructions, with the words after it.
+/// The first word of each kind of line except instructions, with the words that follow it.
 const TABLES: &[(&str, &str)] = &[
     ("cell", "NAME BASIC INIT"),
     ("node", NODE),
@@ -28,7 +28,8 @@ const TABLES: &[(&str, &str)] = &[
     ("entry", "B"),
 ];
 
-/// The words after an instruction other than an operation: the first of these forms that its sample has.
+/// The words after the name of an instruction other than an operation: it has the first of these forms that fits its
+/// sample.
 const INSTRS: &[&str] = &[
     "nothing",
     "R",
@@ -39,10 +40,10 @@ const INSTRS: &[&str] = &[
     "R R MEMORY ROW ..",
 ];
 
-/// What follows an instruction of another form.
+/// What follows the name of an instruction with another form.
 const OTHER: &str = "other words";
 
-/// The words after the first word of a line that is no instruction.
+/// The words after the first word of a line that is not an instruction.
 fn form_in_tables(word: &[u8]) -> Option<&'static str> {
     for (first, rest) in TABLES {
         if first.as_bytes() == word {
@@ -85,7 +86,7 @@ pub(crate) fn form_of(alloc: Global, word: &[u8]) -> Result<Option<&'static str>
     Ok(form_in_samples(samples.as_str(), word))
 }
 
-/// The operand of a line that is not what the forms say.
+/// The operand of a line that does not fit the forms.
 pub(crate) fn operand_of<'t>(
     alloc: Global,
     line: &'t [u8],
@@ -102,7 +103,7 @@ pub(crate) fn operand_of<'t>(
     }
 }
 
-/// Whether a line, which is not empty and no comment, has a form of assembly texts.
+/// Whether a line that is neither empty nor a comment may be a line of an assembly text.
 pub(crate) fn is_line(alloc: Global, line: &[u8]) -> Result<bool, NoMemory> {
     match assemble_bytes(alloc, line) {
         Err(AsmError::Text { .. }) => Ok(false),
@@ -111,7 +112,7 @@ pub(crate) fn is_line(alloc: Global, line: &[u8]) -> Result<bool, NoMemory> {
     }
 }
 
-/// Advice for a first word from another assembly language; empty if there is none.
+/// Advice on a first word that other assembly languages use; empty if there is none.
 fn habit_of(word: &[u8]) -> &'static str {
     if begins_comment(word) || word.starts_with(b"--") {
         "a comment begins with `#`, on a line of its own"
@@ -134,7 +135,8 @@ fn is_of_tables(first: &str) -> bool {
     )
 }
 
-/// Says which first word of a table's line was probably meant, or of any line before the instructions.
+/// Says which first word of a line other than an instruction was probably meant. Among instructions, only `block` and
+/// `entry` are possible.
 fn say_near_table(page: &mut Page, word: &str, is_code: bool) -> Result<bool, NoMemory> {
     for (first, _) in TABLES {
         let is_meant = !is_code || !is_of_tables(*first);
@@ -175,7 +177,7 @@ fn say_near_sample(page: &mut Page, samples: &str, word: &str) -> Result<bool, N
     Ok(false)
 }
 
-/// Says how to write an instruction that lacks its colour.
+/// Says how to write an instruction whose colour is missing.
 fn say_coloured(page: &mut Page, samples: &str, word: &str) -> Result<bool, NoMemory> {
     for sample in samples.lines() {
         if let Some(coloured) = first_word(sample).strip_suffix("_G")
@@ -204,7 +206,8 @@ fn say_meant(page: &mut Page, word: &str, is_code: bool) -> Result<(), NoMemory>
     page.say(": `man talft-assembly` lists the instructions")
 }
 
-/// Says that no line of an assembly text begins with this word, and what to write; it may be among instructions.
+/// Says that no line of an assembly text begins with this word, and what to write. `is_code` says whether the line is
+/// among instructions.
 pub(crate) fn say_unknown(page: &mut Page, word: &[u8], is_code: bool) -> Result<(), NoMemory> {
     let habit = habit_of(word);
     if !habit.is_empty() {

@@ -12,7 +12,7 @@ fn edits_allowed(length: usize) -> usize {
     if length < 4 { 1 } else { 2 }
 }
 
-/// Whether one word, of at least three letters, begins the other.
+/// Whether one word, of at least three letters, is a prefix of the other.
 fn begins_alike(word: &str, known: &str) -> bool {
     (word.len() >= 3 && known.starts_with(word)) || (known.len() >= 3 && word.starts_with(known))
 }

@@ -1,4 +1,4 @@
-//! Words that are not numbers.
+//! Explains why words are not numbers.
 use crate::dashes::begins_with_dash;
 use crate::page::Page;
 use ft_isa::{NoMemory, read_number};
@@ -22,7 +22,7 @@ fn has(word: &[u8], wanted: u8) -> bool {
     word.iter().any(|byte| *byte == wanted)
 }
 
-/// The message for the blanks in a word; empty if it has none.
+/// The message for a word with a blank in it; empty if it has none.
 pub(crate) fn blank_in(word: &[u8]) -> &'static str {
     if has(word, b'\t') {
         "it contains a tab"

@@ -1,4 +1,4 @@
-//! Explains objects that are refused.
+//! Explains why objects are refused.
 use crate::content::{Content, content_of_file, say_kind};
 use crate::excerpt::part;
 use crate::fields::{Field, HEADER, field_at};
@@ -18,7 +18,7 @@ fn header_of(bytes: &[u8]) -> Option<Header> {
     Some(Header::read(bytes))
 }
 
-/// The number that bytes spell, the highest first.
+/// The number that bytes represent in big-endian order.
 fn value_of(bytes: &[u8]) -> u64 {
     let mut value: u64 = 0;
     for byte in bytes {
@@ -27,7 +27,7 @@ fn value_of(bytes: &[u8]) -> u64 {
     value
 }
 
-/// The rule of the format with this number, in words.
+/// The format's rule with this number, in words.
 pub fn rule(number: u64) -> &'static str {
     match number {
         1 => "this is not an object: it does not begin with TALFT and version 1 or 2",
@@ -43,14 +43,14 @@ pub fn rule(number: u64) -> &'static str {
     }
 }
 
-/// The message for an object that was copied as a text.
+/// The message for an object that was copied in text mode.
 const AS_TEXT: &str =
     "  each line feed has a carriage return before it, as after a copy in text mode: copy the object in binary mode\n";
 
-/// What to do about an object that lacks its end.
+/// What to do about an object whose end is missing.
 const CUT_OFF: &str = ": it is cut off: copy it again\n";
 
-/// Whether the number of surplus bytes equals that of CR LF pairs.
+/// Whether there are as many surplus bytes as CR LF pairs.
 fn is_as_text(bytes: &[u8], wanted: usize) -> bool {
     let mut ends: usize = 0;
     let mut last = 0;
@@ -81,7 +81,7 @@ fn say_length(page: &mut Page, bytes: &[u8]) -> Result<(), NoMemory> {
     }
 }
 
-/// Says what is at a place: a field of a part, and its value.
+/// Writes the name and the value of a field.
 fn say_field(page: &mut Page, bytes: &[u8], start: usize, field: Field) -> Result<(), NoMemory> {
     let (offset, size, name) = field;
     let at = start.saturating_add(offset);
@@ -118,7 +118,7 @@ fn may_be_damaged(bytes: &[u8], content: Content) -> bool {
     is_begun || matches!(content, Content::Object | Content::Binary)
 }
 
-/// Says what is wrong with the number of bytes, without the bytes.
+/// Says what is wrong with the number of bytes if the bytes cannot be read again.
 fn say_short(page: &mut Page, at: u64) -> Result<(), NoMemory> {
     match at {
         0 => page.say("the file is empty\n"),
@@ -129,7 +129,7 @@ fn say_short(page: &mut Page, at: u64) -> Result<(), NoMemory> {
     }
 }
 
-/// Explains why an object is refused, without its bytes.
+/// Explains why an object is refused if its bytes cannot be read again.
 fn explain_unseen(page: &mut Page, name: &str, number: u64, at: u64) -> Result<(), NoMemory> {
     page.head(name)?;
     if number == 2 {
@@ -166,7 +166,7 @@ pub fn explain_object(
     say_place(page, bytes, at as usize)
 }
 
-/// Explains why a file is too long for an object.
+/// Explains that a file is too long to be an object.
 pub fn explain_long(page: &mut Page, name: &str, most: u64) -> Result<(), NoMemory> {
     page.head(name)?;
     page.say(format_args!("the object is too long: at most {most} bytes are allowed\n"))

@@ -5,10 +5,10 @@ use crate::numbers::{is_number, say_misfit};
 use crate::page::Page;
 use ft_isa::{NoMemory, Site, read_site};
 
-/// How many times a basic type may have `ref:`.
+/// The maximum number of `ref:` in a basic type.
 const MOST_REFS: usize = 255;
 
-/// An operand that is not what its form says: the place in the line, its text, and what it should be.
+/// An operand that does not fit its form: its place in the line, its text, and its form.
 #[derive(Clone, Copy)]
 pub(crate) struct Operand<'t> {
     pub at: usize,
@@ -21,20 +21,20 @@ fn is_blank(byte: u8) -> bool {
     byte == b' ' || byte == b'\t'
 }
 
-/// The place of the first word at or after a place of a line.
+/// The place of the first word at or after a place in a line.
 pub(crate) fn word_start(line: &[u8], at: usize) -> usize {
     let rest = line.get(at..).unwrap_or(&[]);
     at.saturating_add(rest.iter().take_while(|byte| is_blank(**byte)).count())
 }
 
-/// The word that begins at a place of a line; empty at its end.
+/// The word that begins at a place in a line; empty at the line's end.
 pub(crate) fn word_at(line: &[u8], at: usize) -> &[u8] {
     let rest = line.get(at..).unwrap_or(&[]);
     let length = rest.iter().take_while(|byte| !is_blank(**byte)).count();
     rest.get(..length).unwrap_or(&[])
 }
 
-/// The place of a word of a line, counted from 0; the line's end if it has fewer.
+/// The place of a word in a line, counted from 0; the line's end if it has fewer words.
 pub(crate) fn place_of_word(line: &[u8], number: usize) -> usize {
     let mut at = word_start(line, 0);
     for _ in 0..number {
@@ -44,7 +44,7 @@ pub(crate) fn place_of_word(line: &[u8], number: usize) -> usize {
     at
 }
 
-/// A word of a line, counted from 0; empty if it has fewer.
+/// A word in a line, counted from 0; empty if it has fewer words.
 pub(crate) fn word(line: &[u8], number: usize) -> &[u8] {
     word_at(line, place_of_word(line, number))
 }
@@ -92,7 +92,7 @@ fn is_basic(word: &[u8]) -> bool {
     }
 }
 
-/// The largest number of a form.
+/// The largest number that fits a form.
 fn most_of(form: &str) -> u64 {
     match form.as_bytes() {
         b"W" | b"INIT" => u64::MAX,
@@ -101,7 +101,7 @@ fn most_of(form: &str) -> u64 {
     }
 }
 
-/// Whether a word is what a form says.
+/// Whether a word fits a form.
 fn fits(word: &[u8], form: &str) -> bool {
     match form.as_bytes() {
         b"R" => is_register(word),
@@ -112,7 +112,7 @@ fn fits(word: &[u8], form: &str) -> bool {
     }
 }
 
-/// What a word of this form is; empty for a number.
+/// What fits this form, in words; empty for a number.
 fn rule_of(form: &str) -> &'static str {
     match form.as_bytes() {
         b"R" => "a register is r0 to r63",
@@ -139,7 +139,7 @@ pub(crate) fn meaning_of(form: &str) -> &'static str {
     }
 }
 
-/// What is wrong with an operand whatever it should be; empty if it depends on that.
+/// What is wrong with an operand regardless of its form; empty if nothing is.
 fn habit_of(text: &[u8]) -> &'static str {
     if let [b'#', byte, ..] = text
         && byte.is_ascii_digit()
@@ -172,7 +172,7 @@ pub(crate) fn say_rule(page: &mut Page, operand: Operand<'_>) -> Result<(), NoMe
     say_misfit(page, operand.text, most_of(operand.form))
 }
 
-/// A superfluous word of a line, at or after a place.
+/// A superfluous word in a line, at or after a place.
 fn further(line: &[u8], at: usize) -> Option<Operand<'_>> {
     let start = word_start(line, at);
     let text = word_at(line, start);
@@ -203,7 +203,7 @@ fn wrong_row(line: &[u8], at: usize) -> Option<Operand<'_>> {
     None
 }
 
-/// A missing operand at a place, or a wrong one after it.
+/// An operand at fault: the missing one at a place, or a wrong one after it.
 fn wrong_at<'t>(at: usize, start: usize, text: &'t [u8], form: &'static str) -> Operand<'t> {
     Operand {
         at: if text.is_empty() { at } else { start },
@@ -212,7 +212,7 @@ fn wrong_at<'t>(at: usize, start: usize, text: &'t [u8], form: &'static str) -> 
     }
 }
 
-/// The first operand of a line, after its first word, that does not fit the forms, which are separated by blanks.
+/// The first operand of a line that does not fit the forms, which are separated by blanks.
 pub(crate) fn wrong_operand<'t>(line: &'t [u8], forms: &'static str) -> Option<Operand<'t>> {
     let first = word_start(line, 0);
     let mut at = first.saturating_add(word_at(line, first).len());
@@ -233,8 +233,7 @@ pub(crate) fn wrong_operand<'t>(line: &'t [u8], forms: &'static str) -> Option<O
     further(line, at)
 }
 
-/// The first operand of an operation that fits neither two registers and a register nor two registers and a
-/// coloured word.
+/// The first wrong operand of an operation, which takes three registers, or two registers, a colour and a word.
 pub(crate) fn wrong_operation(line: &[u8]) -> Option<Operand<'_>> {
     let wrong = wrong_operand(line, "R R R")?;
     if is_colour(wrong.text) {

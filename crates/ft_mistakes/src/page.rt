@@ -4,7 +4,7 @@ use ft_isa::NoMemory;
 use std::alloc::Global;
 use std::fmt::Display;
 
-/// The maximum number of bytes quoted of a word.
+/// The maximum number of bytes of a word that are quoted.
 const QUOTED: usize = 40;
 
 /// The length of the longest name that a file can have.
@@ -96,7 +96,7 @@ impl Page {
         self.say("`")
     }
 
-    /// Adds a count with the noun for it.
+    /// Adds a count and the noun for what is counted.
     pub fn count(&mut self, count: u32, what: &str) -> Result<(), NoMemory> {
         let end = if count == 1 { "" } else { "s" };
         self.say(format_args!("{count} {what}{end}"))
@@ -112,7 +112,7 @@ impl Page {
         self.show_some(name.as_bytes(), most)
     }
 
-    /// Adds blanks that are as wide as these bytes when they are shown.
+    /// Adds blanks that take as much room as these bytes when they are shown.
     pub fn indent(&mut self, bytes: &[u8]) -> Result<(), NoMemory> {
         let text = String::from_utf8_lossy(self.alloc, bytes)?;
         for letter in text.as_str().chars() {

@@ -45,7 +45,7 @@ impl Part {
         }
     }
 
-    /// The field that contains an offset of the record. The kind of a node or an instruction is its first byte.
+    /// The field at this offset of the record. The kind of a node or an instruction is its record's first byte.
     pub fn field(self, kind: u8, offset: usize) -> Option<Field> {
         match self {
             Part::Cell => field_at(CELL, offset),
@@ -61,7 +61,7 @@ impl Part {
     }
 }
 
-/// The sections in their order: the kind of their records, the size of one, and how many there are.
+/// The sections in their order: the kind of their records, the size of a record, and how many there are.
 fn sections(header: Header) -> [(Part, usize, u32); 9] {
     [
         (Part::Cell, 16, header.cells),
@@ -85,7 +85,7 @@ pub(crate) fn total(header: Header) -> usize {
     end
 }
 
-/// The record that contains a place of the bytes, past the header.
+/// The record at a place past the header.
 pub(crate) fn record_at(header: Header, at: usize) -> Option<Record> {
     let mut start = HEADER_SIZE;
     for (part, size, count) in sections(header) {

@@ -1,16 +1,16 @@
-//! Sample lines of assembly texts: one way or more in which each kind of instruction and of node is written.
+//! Sample lines of assembly texts: one or more for each kind of instruction and each kind of node.
 //!
-//! The kinds are those of the object format, and `ft_asm` writes their lines: so this crate names no kind by itself.
+//! The kinds come from the object format, and `ft_asm` writes the lines, so this module needs no list of kinds.
 use ft_asm::{assemble_bytes, disassemble};
 use ft_isa::NoMemory;
 use ft_view::View;
 use std::alloc::Global;
 
-/// A text whose last node and whose only instruction give way to samples.
+/// A text in which samples replace the last node and the only instruction.
 const TEXT: &[u8] =
     b"cell a int 0\nnode 1 memory\nnode 1 word 0\nnode 1 word 0\ntype 1 0\nblock 0\nhalt\nentry 0\n";
 
-/// A place for samples: where its record begins in the object of that text, and the number of its line, from 0.
+/// A place for samples: where its record begins in that text's object, and the number of its line, counted from 0.
 #[derive(Clone, Copy)]
 pub(crate) struct Slot {
     record: usize,
@@ -23,7 +23,7 @@ pub(crate) const NODE: Slot = Slot {
     line: 3,
 };
 
-/// The instruction: the records of a node and of a type have 16 bytes, and that of a block has 8.
+/// The instruction. The records of a node and of a type have 16 bytes each, and that of a block has 8.
 pub(crate) const INSTR: Slot = Slot {
     record: 136,
     line: 6,
@@ -32,7 +32,7 @@ pub(crate) const INSTR: Slot = Slot {
 /// How many kinds are tried.
 const KINDS: u8 = 64;
 
-/// How many records are tried of each kind.
+/// How many records of each kind are tried.
 const TRIED: u8 = 16;
 
 /// Sets a byte of an object, if it has one there.
@@ -42,8 +42,8 @@ fn put(object: &mut [u8], at: usize, byte: u8) {
     }
 }
 
-/// Puts a record of a kind, with this number out of those that are tried, into a slot: 0 or 1 for its colour or
-/// register and for its three numbers.
+/// Puts the record of this kind and number into a slot. The bits of the number set its colour or register and its three
+/// numbers to 0 or 1.
 fn put_sample(object: &mut [u8], slot: Slot, kind: u8, number: u8) {
     let at = slot.record;
     put(object, at, kind);
@@ -93,7 +93,7 @@ fn add_kinds(
     Ok(())
 }
 
-/// Sample lines of all kinds for a slot, those of one kind beside each other.
+/// Sample lines of all kinds for a slot, grouped by kind.
 pub(crate) fn sample_lines(alloc: Global, slot: Slot) -> Result<String, NoMemory> {
     let Ok(mut object) = assemble_bytes(alloc, TEXT) else {
         return Err(NoMemory);

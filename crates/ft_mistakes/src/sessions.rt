@@ -1,4 +1,4 @@
-//! Scripts of the debugger with lines that are not commands.
+//! Explains which lines of a debugger script are not commands.
 use crate::elsewhere::of_debugger;
 use crate::excerpt::Place;
 use crate::forms::first_word;
@@ -40,8 +40,8 @@ fn form_of(first: &str) -> Option<&'static str> {
     None
 }
 
-/// The place of the word at fault in a line that begins with the name of a command: for a site that is none, and
-/// for the word after a site, its own.
+/// Where the word at fault begins in a line that begins with a command's name: in a `zap` command, the invalid site or
+/// else the word after the site; otherwise the start of the line.
 fn place_in(line: &str) -> usize {
     let Some((site, _)) = line
         .strip_prefix("zap ")
@@ -56,7 +56,7 @@ fn place_in(line: &str) -> usize {
     }
 }
 
-/// Says what is wrong with the words of a command of this form.
+/// Says what is wrong with the words of a command that should have this form.
 fn say_invalid(page: &mut Page, line: &str, form: &'static str) -> Result<(), NoMemory> {
     page.say(format_args!("invalid command: expected `{form}`"))?;
     match line.strip_prefix("zap ") {

@@ -1,4 +1,4 @@
-//! Explains sources that are refused.
+//! Explains why sources are refused.
 use crate::content::{Content, say_other_kind};
 use crate::excerpt::{Place, letter_from, part};
 use crate::expected::{
@@ -28,7 +28,7 @@ fn token_at(source: &[u8], at: usize) -> &[u8] {
     part(rest, 0, digits.max(letter_from(rest, 1)))
 }
 
-/// Whether the next token after the one of so many bytes at a place opens an index.
+/// Whether the first token at or after a place opens an index.
 fn is_indexed(source: &[u8], past: usize) -> bool {
     match Lexer::new(part(source, past, source.len())).next() {
         Some(Ok(token)) => token.kind == Kind::LBracket,
@@ -52,13 +52,13 @@ fn first_declared(source: &[u8], name: &[u8]) -> Option<usize> {
     None
 }
 
-/// Says a token between back quotes, and then words.
+/// Writes a token between back quotes, and then words.
 fn say_of(page: &mut Page, token: &[u8], words: &str) -> Result<(), NoMemory> {
     page.quote(token)?;
     page.say(words)
 }
 
-/// What is wrong with a byte that begins no token.
+/// Says what is wrong with a byte that begins no token.
 fn say_byte(page: &mut Page, source: &[u8], at: usize, token: &[u8]) -> Result<(), NoMemory> {
     if at == 0 && is_marked(source) {
         return page.say(MARKED);
@@ -88,7 +88,7 @@ fn say_byte(page: &mut Page, source: &[u8], at: usize, token: &[u8]) -> Result<(
     }
 }
 
-/// Says that a token is not expected, and what to write instead of an idiom of another language.
+/// Says that a token is unexpected, and what to write instead of an idiom of another language.
 fn say_unexpected(page: &mut Page, source: &[u8], at: usize, token: &[u8]) -> Result<(), NoMemory> {
     if token.is_empty() {
         return page.say("unexpected end of the source");
@@ -101,7 +101,7 @@ fn say_unexpected(page: &mut Page, source: &[u8], at: usize, token: &[u8]) -> Re
     }
 }
 
-/// What is wrong with a token that is nested too deeply.
+/// Says that a token is nested too deeply, or is one operator too many.
 fn say_depth(page: &mut Page, token: &[u8]) -> Result<(), NoMemory> {
     match token {
         b"(" | b"{" | b"[" => say_of(page, token, " is nested more than 100 deep"),
@@ -151,7 +151,7 @@ fn say_undeclared(page: &mut Page, source: &[u8], name: &[u8]) -> Result<(), NoM
     }
 }
 
-/// What is wrong with the token at a place.
+/// Says what is wrong with the token at a place.
 fn say_at(page: &mut Page, number: u64, source: &[u8], at: usize) -> Result<(), NoMemory> {
     let token = token_at(source, at);
     match number {
@@ -176,7 +176,7 @@ fn say_at(page: &mut Page, number: u64, source: &[u8], at: usize) -> Result<(), 
     }
 }
 
-/// What is wrong with a whole source, or with one whose bytes are missing.
+/// Says what is wrong with a whole source, or with one that cannot be read again.
 fn say_whole(page: &mut Page, number: u64, told: u64) -> Result<(), NoMemory> {
     match number {
         1 => page.say(format_args!("the source is too long: at most {told} bytes are allowed")),
@@ -191,7 +191,7 @@ fn say_whole(page: &mut Page, number: u64, told: u64) -> Result<(), NoMemory> {
     }
 }
 
-/// What is wrong with a source that is refused with this number.
+/// What is wrong with a source that is refused with this number, in words.
 fn rule(number: u64) -> &'static str {
     match number {
         2 => "a character is not part of the language, or a name has more than 32 bytes",
@@ -226,7 +226,7 @@ fn point_to_first(page: &mut Page, name: &str, source: &[u8], at: usize) -> Resu
     place.show(page, token.len())
 }
 
-/// Explains what is missing, at the end of the token before it.
+/// Explains what is missing, and points to the end of the token before it.
 fn explain_lack(
     page: &mut Page,
     name: &str,
@@ -241,7 +241,7 @@ fn explain_lack(
     place.show(page, 1)
 }
 
-/// Explains that a brace is not closed, at the end of the source.
+/// Explains that a brace is not closed: points to the end of the source, and to the brace.
 fn explain_unclosed(
     page: &mut Page,
     name: &str,
@@ -270,7 +270,7 @@ fn explain_unclosed(
     brace.show(page, 1)
 }
 
-/// Explains what is wrong at a place of a source.
+/// Explains what is wrong at a place in a source.
 fn explain_at(
     page: &mut Page,
     name: &str,
@@ -278,7 +278,7 @@ fn explain_at(
     at: usize,
     source: &[u8],
 ) -> Result<(), NoMemory> {
-    // What is missing at the end is missing after the last token.
+    // Whatever is missing at the end is missing right after the last token.
     let place = Place::of(source, at.min(source.trim_ascii_end().len()));
     page.head_at(name, &place)?;
     say_at(page, number, source, at)?;
@@ -290,7 +290,7 @@ fn explain_at(
     Ok(())
 }
 
-/// Explains why a source is refused. If the refusal has a place, the source is given.
+/// Explains why a source is refused. The source is given if it can be read again and the refusal has a place.
 pub fn explain_source(
     page: &mut Page,
     name: &str,

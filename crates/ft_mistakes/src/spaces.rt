@@ -1,6 +1,6 @@
-//! Spaces other than the one of ASCII, which editors and web pages put in its place.
+//! Spaces other than the ASCII space, which editors and web pages substitute for it.
 
-/// Each of them, with what is said of it.
+/// Each of these spaces, with its message.
 const SPACES: &[(&str, &str)] = &[
     (
         "\u{a0}",
@@ -72,7 +72,7 @@ const SPACES: &[(&str, &str)] = &[
     ),
 ];
 
-/// What is said of the space of another kind that bytes begin with.
+/// The message for the non-ASCII space that bytes begin with, if they begin with one.
 pub(crate) fn space_of(bytes: &[u8]) -> Option<&'static str> {
     for (space, words) in SPACES {
         if bytes.starts_with(space.as_bytes()) {
@@ -82,7 +82,7 @@ pub(crate) fn space_of(bytes: &[u8]) -> Option<&'static str> {
     None
 }
 
-/// The first space of another kind in a line: its place, and what is said of it.
+/// The first non-ASCII space in a line: its place and its message.
 pub(crate) fn first_space(line: &[u8]) -> Option<(usize, &'static str)> {
     let mut first = None;
     for (at, byte) in line.iter().enumerate() {

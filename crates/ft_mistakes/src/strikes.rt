@@ -1,4 +1,4 @@
-//! Texts that are not faults.
+//! Explains why texts are not faults.
 use crate::numbers::{blank_in, is_number, say_misfit};
 use crate::page::Page;
 use ft_isa::{NoMemory, read_site, read_strike};
@@ -37,7 +37,7 @@ fn parts_of(text: &str, separator: char) -> (&str, Option<&str>) {
     }
 }
 
-/// Says what is wrong with a site and a word, which this character separates.
+/// Says what is wrong with a site and a word that this character separates.
 pub(crate) fn say_site_and_word(
     page: &mut Page,
     text: &str,
@@ -59,7 +59,7 @@ pub(crate) fn say_site_and_word(
     }
 }
 
-/// Says which part of a text makes it not a fault.
+/// Says which part of a text keeps it from being a fault.
 pub(crate) fn say_wrong_part(page: &mut Page, text: &str) -> Result<(), NoMemory> {
     let (step, rest) = parts_of(text, ':');
     if !is_number(step.as_bytes(), u64::MAX) {

@@ -1,4 +1,4 @@
-//! Assembly texts whose tables break a rule of the object format: finds the lines that do.
+//! Finds the line of an assembly text that breaks a rule of the object format.
 use crate::excerpt::Place;
 use crate::listing::{counts_of, is_empty_block, line_of, line_with, words_before_rows};
 use crate::objects::rule;
@@ -8,10 +8,10 @@ use crate::records::{HEADER_SIZE, Part, Record, record_at};
 use ft_format::Header;
 use ft_isa::{NoMemory, read_number};
 
-/// Where the header's field of the entry block begins.
+/// Where the header's field for the entry block begins.
 const ENTRY_FIELD: usize = 44;
 
-/// The kinds of lines that the header counts: where their field ends, their name, and the maximum number of them.
+/// What the header counts: where the field ends, what the counted lines or parts are called, and how many are allowed.
 const COUNTED: &[(usize, &str, &str)] = &[
     (12, "cells", "at most 1024 are allowed"),
     (16, "nodes", "at most 1048576 are allowed"),
@@ -24,7 +24,7 @@ const COUNTED: &[(usize, &str, &str)] = &[
     (44, "bytes of names", "at most 40960 are allowed"),
 ];
 
-/// What breaks a rule: a record, its line, the number of a word in the line, and how many records the text has.
+/// What breaks a rule: a record, its line, the number of a word in the line, and the counts of the text's records.
 #[derive(Clone, Copy)]
 struct Breach<'t> {
     record: Record,
@@ -33,7 +33,7 @@ struct Breach<'t> {
     counts: Header,
 }
 
-/// The word of a node's line that corresponds to an offset in its record.
+/// The number of the word in a node's line that corresponds to an offset in its record.
 fn word_of_node(offset: usize) -> usize {
     match offset {
         0 | 1 => 2,
@@ -44,7 +44,7 @@ fn word_of_node(offset: usize) -> usize {
     }
 }
 
-/// The word of an instruction's line that corresponds to an offset in its record.
+/// The number of the word in an instruction's line that corresponds to an offset in its record.
 fn word_of_instr(line: &[u8], offset: usize) -> usize {
     match word(line, 0) {
         b"jmp_B" if offset >= 12 => 2,
@@ -56,7 +56,8 @@ fn word_of_instr(line: &[u8], offset: usize) -> usize {
     }
 }
 
-/// The word of a line that corresponds to an offset in a record. The record is one of those that the line adds.
+/// The number of the word in a line that corresponds to an offset in a record. `index` is the record's number among
+/// those of its kind that the line adds.
 fn word_of(part: Part, line: &[u8], offset: usize, index: usize) -> usize {
     match part {
         Part::Cell if offset < 4 => 1,
@@ -78,7 +79,7 @@ fn word_of(part: Part, line: &[u8], offset: usize, index: usize) -> usize {
     }
 }
 
-/// What breaks a rule at a place of the tables.
+/// What breaks a rule at a place in the tables.
 fn breach_at(text: &[u8], counts: Header, at: usize) -> Option<Breach<'_>> {
     let record = record_at(counts, at)?;
     let (place, index) = line_of(text, record)?;
@@ -98,7 +99,7 @@ impl<'t> Breach<'t> {
         word(self.place.line(), self.number)
     }
 
-    /// Whether the word is a basic type.
+    /// Whether a basic type belongs in the place of the word.
     fn is_basic(&self) -> bool {
         match self.record.part {
             Part::Cell => self.number == 2,
@@ -108,7 +109,7 @@ impl<'t> Breach<'t> {
         }
     }
 
-    /// Whether the word is the number of a memory.
+    /// Whether the number of a memory belongs in the place of the word.
     fn is_memory(&self) -> bool {
         match self.record.part {
             Part::Type | Part::Instr => true,
@@ -119,7 +120,7 @@ impl<'t> Breach<'t> {
         }
     }
 
-    /// What the word refers to, and how many of these there are.
+    /// What the word refers to, and how many of those there are.
     fn named(&self) -> (&'static str, u32) {
         if self.is_basic() || self.record.part == Part::Block {
             return ("type", self.counts.types);
@@ -248,7 +249,7 @@ fn say_reason(
     }
 }
 
-/// Explains what breaks a rule, at its line.
+/// Explains what breaks a rule, and points to it.
 fn explain_breach(
     page: &mut Page,
     name: &str,
@@ -269,7 +270,7 @@ fn explain_breach(
     place.show(page, breach.word().len())
 }
 
-/// The number of records that the header's field at a place counts.
+/// The count in the header's field at a place.
 fn count_at(counts: Header, at: usize) -> u32 {
     match at {
         8..12 => counts.cells,
@@ -314,7 +315,7 @@ fn explain_entry(page: &mut Page, name: &str, text: &[u8], counts: Header) -> Re
     place.show(page, entry.len())
 }
 
-/// Explains why the tables of an assembly text are refused if the text is missing or no line is known.
+/// Explains why the tables of an assembly text are refused if the text cannot be read again or the line is not known.
 fn explain_unplaced(page: &mut Page, name: &str, number: u64, at: u64) -> Result<(), NoMemory> {
     page.head(name)?;
     page.say("the text is not a valid object: ")?;
@@ -322,8 +323,7 @@ fn explain_unplaced(page: &mut Page, name: &str, number: u64, at: u64) -> Result
     page.say(format_args!("\n  at byte {at} of its tables in version 2 of the object format\n"))
 }
 
-/// Explains why the tables of an assembly text are refused: their spelling breaks the rule with this number at this
-/// place.
+/// Explains why the tables of an assembly text are refused: their bytes break the rule with this number at this place.
 pub fn explain_tables(
     page: &mut Page,
     name: &str,

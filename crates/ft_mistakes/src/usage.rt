@@ -1,4 +1,4 @@
-//! Words that are not a command.
+//! Explains why words are not a command.
 use crate::dashes::{Dashed, dashed_option, first_dashed, say_dashed};
 use crate::forms::{COMMANDS, OPTIONS, command_lines, first_word, most_of, operand_of, value_of};
 use crate::help::{
@@ -11,7 +11,7 @@ use crate::page::Page;
 use crate::strikes::say_wrong_part;
 use ft_isa::{NoMemory, read_strike, read_wild};
 
-/// Whether an option was given among these words, which are alternately options and values.
+/// Whether an option was given among these words, which alternate between options and values.
 fn is_given(words: &[String], option: &str) -> bool {
     for (i, word) in words.iter().enumerate() {
         if i % 2 == 0 && word.as_str() == option {
@@ -21,7 +21,7 @@ fn is_given(words: &[String], option: &str) -> bool {
     false
 }
 
-/// Says what is wrong with the value of `--fault`; false if nothing is.
+/// Says what is wrong with the value of `--fault`; returns false if nothing is.
 fn say_fault(page: &mut Page, value: &str) -> Result<bool, NoMemory> {
     if read_strike(value.as_bytes()).is_ok() {
         return Ok(false);
@@ -33,7 +33,7 @@ fn say_fault(page: &mut Page, value: &str) -> Result<bool, NoMemory> {
     Ok(true)
 }
 
-/// Says what is wrong with the value of `--wild`; false if nothing is.
+/// Says what is wrong with the value of `--wild`; returns false if nothing is.
 fn say_wild(page: &mut Page, value: &str) -> Result<bool, NoMemory> {
     if read_wild(page.alloc(), value.as_bytes()).is_ok() {
         return Ok(false);
@@ -46,7 +46,7 @@ fn say_wild(page: &mut Page, value: &str) -> Result<bool, NoMemory> {
     Ok(true)
 }
 
-/// Says what is wrong with the number of an option, which is at most `most`; false if nothing is.
+/// Says what is wrong with the number given for an option, which is at most `most`; returns false if nothing is.
 fn say_number(page: &mut Page, option: &str, value: &str, most: u64) -> Result<bool, NoMemory> {
     if is_number(value.as_bytes(), most) {
         return Ok(false);
@@ -58,7 +58,7 @@ fn say_number(page: &mut Page, option: &str, value: &str, most: u64) -> Result<b
     Ok(true)
 }
 
-/// Says what is wrong with the value of an option; false if nothing is.
+/// Says what is wrong with the value of an option; returns false if nothing is.
 fn say_value(page: &mut Page, option: &str, value: &str, most: u64) -> Result<bool, NoMemory> {
     match option.as_bytes() {
         b"--fault" => say_fault(page, value),
@@ -133,7 +133,7 @@ fn say_untaken(page: &mut Page, command: &'static str, word: &str) -> Result<(),
     say_unknown_option(page, command, word)
 }
 
-/// Says what is wrong with an option, after the words before it; false if nothing is.
+/// Says what is wrong with an option that follows these words; returns false if nothing is.
 fn say_option(
     page: &mut Page,
     command: &'static str,
@@ -150,7 +150,7 @@ fn say_option(
         return Ok(true);
     }
     match value {
-        // Where an option follows, the value was forgotten.
+        // If another option follows, the value was forgotten.
         Some(value) if value_of(command, value).is_none() => {
             say_value(page, option, value, most_of(command))
         }
@@ -203,8 +203,8 @@ fn explain_dashed(
     }
 }
 
-/// Explains that a file with the name of an option could not be read: probably the operand was forgotten. Returns
-/// false otherwise.
+/// If the file that could not be read has the name of an option, explains that the operand was probably forgotten;
+/// otherwise returns false.
 pub fn explain_option_as_file(page: &mut Page, words: &[String]) -> Result<bool, NoMemory> {
     let [first, operand, ..] = words else {
         return Ok(false);
@@ -270,7 +270,7 @@ fn say_unknown(page: &mut Page, word: &str) -> Result<(), NoMemory> {
     page.say("more: `talft help`, `talft help COMMAND`\n")
 }
 
-/// Says the requested help.
+/// Writes the requested help.
 fn say_help_for(page: &mut Page, rest: &[String]) -> Result<(), NoMemory> {
     let [name, ..] = rest else {
         return say_help(page);

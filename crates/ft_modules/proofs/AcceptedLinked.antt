@@ -47,31 +47,31 @@ use Rattle.ft_modules.proofs.SentOn.{like_through}
 
 -- ENTRY TYPES
 
--- no rows say the same as none
+-- register rows that agree with no rows are none
 no_rows : (o x : Object) (rs qs : List RegType) → rs ≡ [] → AllZip (SameRow o x) rs qs → qs ≡ []
 no_rows o x [] [] e l = refl
 no_rows o x [] (q ∷ qs) e l = absurd l
 no_rows o x (r ∷ rs) qs e l = cc
 
--- no queue rows say the same as none
+-- queue rows that agree with no rows are none
 no_pairs : (o x : Object) (rs qs : List (ℕ × ℕ)) → rs ≡ [] → AllZip (SamePair o x) rs qs → qs ≡ []
 no_pairs o x [] [] e l = refl
 no_pairs o x [] (q ∷ qs) e l = absurd l
 no_pairs o x (r ∷ rs) qs e l = cc
 
--- the memory of a node with the memory variable's shape
+-- a node with the shape of the memory variable stands for it
 variable_memory : (o : Object) (n : ℕ) → AreNodes o.nodes → HasShape o.nodes n shape.Memory →
     memory_at (trees o.nodes) n ≡ memory_variable
 variable_memory o n nodes s = ap memory_part (tree_at-row o.nodes n s.node nodes s.found)
     ∙ ap (λ (y : Shape). memory_part (tree_of (trees o.nodes) y)) s.shape
 
--- a memory's node whose tree is the memory variable
+-- a memory's node that stands for the memory variable has its shape
 variable_shape : (x : Object) (y : Shape) → is_memory y ≡ true → memory_part (tree_of (trees x.nodes) y)
     ≡ memory_variable → y ≡ shape.Memory
 variable_shape x shape.Memory m e = refl
 variable_shape x y m e = cc
 
--- what says the same as an entry type is one
+-- a code type that agrees with an entry type is one
 entry_like : (o x : Object) (t u : ℕ) (y : CodeType) → IsSpellable o → IsSpellable x → LikeTypes o t x u →
     slice_get x.types u ≡ Some y → IsEntryType o t → IsEntryType x u
 entry_like o x t u y so sx l there e =
@@ -94,7 +94,7 @@ entry_like o x t u y so sx l there e =
       });
     }
 
--- the linked object's entry block, n, at address a, is of a code type that says what the first module's entry type says
+-- block n of the linked object, at address a, has a code type that agrees with the first module's entry type
 record EntryIn (first x : Object) (n a : ℕ) : Type 0 where
   pub block : Block
   pub there : slice_get x.blocks n ≡ Some block
@@ -115,7 +115,7 @@ module _ (linkage : LinkMap) (first : Object) (others : List Object) (h : AreLin
   abbrev cs : List Change
   cs = map (change_of (first ∷ others)) (links linkage)
 
-  -- the linked object is spelled
+  -- the linked object is spellable
   spelled : IsSpellable x
   spelled = spelled_linked linkage first others h
 
@@ -125,7 +125,7 @@ module _ (linkage : LinkMap) (first : Object) (others : List Object) (h : AreLin
 
   -- BLOCKS
 
-  -- the rows of a module's block apply in the linked object
+  -- the typing rules of a module's block apply in the linked object
   applies_in : (m : ℕ) (o : Object) (e : slice_get modules m ≡ Some o) (n : ℕ) (y : Block) → slice_get o.blocks n
       ≡ Some y → Applies x (start_context x ((before_of modules m).types + y.code_type))
       (block_instrs x ((before_of modules m).blocks + n))
@@ -138,7 +138,7 @@ module _ (linkage : LinkMap) (first : Object) (others : List Object) (h : AreLin
       (start_beside o x to y.code_type ((before_of modules m).types + y.code_type) b.alike)
       ((mine m o e).walked n (slice_get_within o.blocks n y f)) b.code ((mine m o e).accepted.blocks n y f)
 
-  -- the rows of each block apply in the linked object
+  -- the typing rules of each block of the linked object apply
   applies_all : (n : ℕ) (y : Block) → slice_get x.blocks n ≡ Some y →
       Applies x (start_context x y.code_type) (block_instrs x n)
   applies_all n y e =
@@ -164,11 +164,11 @@ module _ (linkage : LinkMap) (first : Object) (others : List Object) (h : AreLin
       } in
       p.1 ∙ ap Some (sym is)
 
-  -- the link of the entry block, by its number and by its address
+  -- whether a link is from the first module's entry block, by the block's number
   abbrev by_number : Link → Bool
   by_number l = (l.module_of == 0) && (l.block == first.entry)
 
-  -- both ways to look for the link of the entry block find the same
+  -- looking for the entry block's link by number or by address finds the same link
   entry_link : find by_number joins ≡ link_at modules joins 0 (entry_address first)
   entry_link = find_same _ _ joins (λ i l e.
       let j = all_there (IsJoined modules) joins i l h.joined e in
@@ -190,7 +190,7 @@ module _ (linkage : LinkMap) (first : Object) (others : List Object) (h : AreLin
       and_from _ _ p.0 (eq-eqb _ _ (one_number _ _ _ l.block first.entry b.0 (entry_block first)
       (mine 0 first refl).spelled.blocks there at_entry (omega (arith, start, same))))))
 
-  -- the entry block, by the link of the first module's
+  -- the entry block, by the link of the first module's entry block
   entry_by_link : (u : Option Link) → link_at modules joins 0 (entry_address first) ≡ u →
       EntryIn first x (entry_by modules first.entry u) (sent_by_change (before_of modules 0) first (entry_address first)
       (option_map (change_of modules) u)).0
@@ -238,7 +238,7 @@ module _ (linkage : LinkMap) (first : Object) (others : List Object) (h : AreLin
             (block_alike linkage first others h spelled l.to_module j.to.object j.to.there l.to_block d.0 d.1);
       }
 
-  -- the entry block is where the first module's is sent
+  -- the linked object's entry block is where the first module's is sent
   entry_in : EntryIn first x x.entry (sent_to cs (before_of modules 0) first (entry_address first)).0
   entry_in =
       subst (λ (u : Option Link). EntryIn first x (entry_by modules first.entry u)
@@ -274,15 +274,15 @@ module _ (linkage : LinkMap) (first : Object) (others : List Object) (h : AreLin
         blocks = applies_all;
       }
 
-  -- the world of the run
+  -- the modules in the linked object, as the run needs them
   pub linked_world : World modules joins x
   linked_world = world linkage first others h spelled
 
-  -- the first module's entry block is found at its address
+  -- the first module's entry block is the block at its address
   pub first_found : block_at first (entry_address first) ≡ Some (entry_block first)
   first_found = block_at_own first first.entry (entry_block first) (mine 0 first refl).spelled at_entry
 
-  -- it is sent to the linked object's
+  -- this block is sent to the linked object's entry block
   pub first_sent : block_at x ((linked_world 0 first refl).to (entry_address first)).0 ≡ Some (entry_block x)
   unfolding linked_world
   first_sent =

@@ -1,4 +1,4 @@
--- Code addresses of blocks: each block is found at its own, and none begins inside another.
+-- Code addresses of blocks: each block is found at its own address, and none begins inside another.
 use Rattle.std.proofs.Common.{◌≡◌, ◌⊎◌, inl, inr, ⊎_elim, ℕ, zero, suc, ◌-◌, ◌<◌, ◌≤◌, Bool, true, false, cond, ◌==◌}
 use Rattle.std.proofs.Common.{List, [], ◌∷◌, length, map, take, drop, slice_get, Option, Some, refl, sym, ap, ◌∙◌}
 use Rattle.std.proofs.Common.{subst, arith, eq-eqb, ne_eqb}
@@ -21,13 +21,13 @@ use Rattle.ft_tolerance.proofs.AcceptedSteps.{here}
 
 -- FINDING
 
--- tests that give the same find the same
+-- tests with the same results find the same element
 pub find_same : {X : Type 0} (p q : X → Bool) (xs : List X) → ((n : ℕ) (x : X) → slice_get xs n ≡ Some x → p x ≡ q x) →
     find p xs ≡ find q xs
 find_same p q [] h = refl
 find_same p q (x ∷ xs) h = λ i. cond (h 0 x refl i) (Some x) (find_same p q xs (λ n y e. h (suc n) y e) i)
 
--- what is found in a mapped list
+-- a search in a mapped list
 pub find_mapped : {X Y : Type 0} (p : Y → Bool) (f : X → Y) (xs : List X) → find p (map f xs)
     ≡ option_map f (find (λ x. p (f x)) xs)
 find_mapped p f [] = refl
@@ -38,13 +38,13 @@ find_mapped p f (x ∷ xs) = ap (cond (p (f x)) (Some (f x))) (find_mapped p f x
     by_test true = refl
     by_test false = refl
 
--- two tests each of which passes if the other does
+-- two tests are equal if each passes whenever the other does
 pub same_tests : (a b : Bool) → (a ≡ true → b ≡ true) → (b ≡ true → a ≡ true) → a ≡ b
 same_tests true b h k = sym (h refl)
 same_tests false true h k = k refl
 same_tests false false h k = refl
 
--- an element of the first k is below k
+-- the index of an element of the first k is below k
 take_length : {X : Type 0} (xs : List X) (k n : ℕ) (x : X) → slice_get (take k xs) n ≡ Some x → n < k
 take_length [] zero n x e = cc
 take_length [] (suc k) n x e = cc
@@ -54,7 +54,7 @@ take_length (y ∷ xs) (suc k) (suc n) x e = omega (arith, take_length xs k n x 
 
 -- BLOCKS
 
--- each block begins at the least place or after it, and below the end
+-- a block begins at or after the least place, and before the end
 pub within_blocks : (end least : ℕ) (bs : List Block) (n : ℕ) (y : Block) → AreBlocks end least bs → slice_get bs n
     ≡ Some y → (least ≤ y.start) × (y.start < end)
 within_blocks end least [] n y h e = cc
@@ -63,7 +63,7 @@ within_blocks end least (b ∷ bs) zero y h e = let same : b ≡ y = cc in
 within_blocks end least (b ∷ bs) (suc n) y h e = let w = within_blocks end (suc b.start) bs n y h.2 e in
     (omega (arith, h.0, w.0), w.1)
 
--- blocks that begin at one place are one
+-- blocks that begin at the same place are one block
 pub one_number : (end least : ℕ) (bs : List Block) (n m : ℕ) (y z : Block) → AreBlocks end least bs → slice_get bs n
     ≡ Some y → slice_get bs m ≡ Some z → y.start ≡ z.start → n ≡ m
 one_number end least bs n m y z h e f s =
@@ -73,7 +73,7 @@ one_number end least bs n m y z h e f s =
     (λ (ge : n ≤ m). omega (arith, le, ge)) (cases_lt m n))
     (cases_lt n m)
 
--- a block that begins later is a later one
+-- a block that begins later has a larger number
 number_less : (end least : ℕ) (bs : List Block) (n m : ℕ) (y z : Block) → AreBlocks end least bs → slice_get bs n
     ≡ Some y → slice_get bs m ≡ Some z → y.start < z.start → n < m
 number_less end least bs n m y z h e f s =
@@ -87,7 +87,7 @@ number_less end least bs n m y z h e f s =
     (cases_lt m n))
     (cases_lt n m)
 
--- a block is found at its own address
+-- a list of blocks finds a block by its own address
 find_start : (end least : ℕ) (bs : List Block) (n : ℕ) (y : Block) → AreBlocks end least bs → slice_get bs n ≡ Some y →
     find (λ (b : Block). code_address y.start == code_address b.start) bs ≡ Some y
 find_start end least [] n y h e = cc
@@ -102,13 +102,13 @@ find_start end least (b ∷ bs) (suc n) y h e =
     (ne_eqb (code_address y.start) (code_address b.start) (λ i. omega (arith, i, w.0)))
     ∙ find_start end (suc b.start) bs n y h.2 e
 
--- a block is found at its own address
+-- an object finds a block by its own address
 pub block_at_own : (o : Object) (n : ℕ) (y : Block) → IsSpellable o → slice_get o.blocks n ≡ Some y →
     block_at o (code_address y.start) ≡ Some y
 unfolding block_at
 block_at_own o n y spelled e = find_start (length o.instrs) 0 o.blocks n y spelled.blocks e
 
--- the end of a block, by what comes after it
+-- a block ends at or before the start of any later block
 end_least : (end least : ℕ) (bs : List Block) (n m : ℕ) (y z : Block) (e : ℕ) → AreBlocks end least bs → slice_get bs n
     ≡ Some y → slice_get bs m ≡ Some z → n < m → unwrap_or (option_map start_of (slice_get bs (suc n))) e ≤ z.start
 end_least end least bs n m y z e h f g lt =
@@ -122,11 +122,11 @@ end_least end least bs n m y z e h f g lt =
         subst (λ (k : Block). w.start ≤ k.start) same (omega arith))
     by_next w i (inr ne) = (let r = rises end least bs (suc n) m w z h i g (omega (arith, lt, ne)) in omega (arith, r))
 
--- the length of a stretch
+-- an index in a slice is below the slice's length
 range_length : (is : List Instr) (a b n : ℕ) (i : Instr) → slice_get (slice_range is a b) n ≡ Some i → n < b - a
 range_length is a b n i e = take_length (drop a is) (b - a) n i e
 
--- no block begins at a later instruction of a block
+-- no block begins at an instruction of a block other than the first
 pub no_block_inside : (o : Object) (p : Place) (j m : ℕ) (z : Block) → IsSpellable o → IsAccepted o →
     (at : IsPlace o p) → p.index ≡ suc j → slice_get o.blocks m ≡ Some z → code_address (instr_number p)
     ≡ code_address z.start → ⊥

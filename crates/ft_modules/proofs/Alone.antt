@@ -1,4 +1,4 @@
--- A module is refused only for totals, and by itself not at all.
+-- A module is refused only for totals, and never by itself.
 use Rattle.std.proofs.Common.{◌≡◌, ℕ, ◌+◌, true, ◌&&◌, List, [], ◌∷◌, ◌++◌, None, refl, ap, ◌∙◌, subst, arith}
 use Rattle.std.specs.List.{list_all}
 use Rattle.std.specs.Option.{option_or, option_map}
@@ -30,7 +30,7 @@ totals_alone cells o h earlier m =
     option_or (option_map (λ f. CodeOf m f.0 f.1) (walk j)) (
     unless (are_few (earlier ++ o ∷ [])) (TooBig m))))
 
--- by itself it is within the limits
+-- the totals of a single module are within the limits
 few_alone : (cells : List Cell) (o : Object) → IsModule cells o → AreFew (o ∷ [])
 few_alone cells o h =
     let s = h.spelled in
@@ -44,7 +44,7 @@ few_alone cells o h =
       substs = (let f = s.few_substs in omega arith);
     }
 
--- by itself a module is not refused
+-- a single module is not refused
 pub not_alone : (o : Object) → IsModule o.cells o → modules_refusal [] 0 o.cells (o ∷ []) ≡ None
 unfolding modules_refusal
 not_alone o h = or_none _ _ (totals_alone o.cells o h [] 0

@@ -1,4 +1,4 @@
--- What a step of a row gives, and how a jump arrives in the module and in the linked object.
+-- What a typing rule claims of a step, and how a jump arrives in the module and in the linked object.
 use Rattle.std.proofs.Common.{◌≡◌, ℕ, zero, suc, ◌+◌, Bool, true, false, not, ◌&&◌, ◌==◌, nat_lt, List, [], ◌∷◌}
 use Rattle.std.proofs.Common.{length, slice_get, Option, Some, None, refl, sym, ap, ◌∙◌, subst, arith, eq-eqb}
 use Rattle.std.proofs.Common.{mod-eq_of_lt}
@@ -40,7 +40,7 @@ use Rattle.ft_modules.proofs.World.{block_place, block_begins, block_start_fits}
 
 -- LISTS
 
--- what is at one place of two lists
+-- elements at the same place of two lists
 pub zip_at : {A B : Type 0} (R : A → B → Type 0) (xs : List A) (ys : List B) (k : ℕ) (x : A) (y : B) → AllZip R xs ys →
     slice_get xs k ≡ Some x → slice_get ys k ≡ Some y → R x y
 zip_at R [] ys k x y l e f = cc
@@ -51,7 +51,7 @@ zip_at R (a ∷ xs) (b ∷ ys) (suc k) x y l e f = zip_at R xs ys k x y l.1 e f
 
 -- STEPS
 
--- a fetch at a place
+-- a machine at a place fetches the place's instruction
 pub fetches : (o : Object) (p : Place) (n : ℕ) (s : State) → Here o p n → Fits o p s → (i : Instr) →
     slice_get o.instrs (instr_number p) ≡ Some i → advance o None s [] ≡ quiet (record s { fetched = Some i }) []
 fetches o p n s h f i there =
@@ -61,41 +61,41 @@ fetches o p n s h f i there =
     ap (λ (b : Bool). if b then fetch (instr_at o s.pc_green) s [] else detected s []) test
     ∙ ap (λ (u : Option Instr). fetch u s []) at
 
--- the outputs of steps that have none
+-- a load has no output
 load_silent : (c : Colour) (rd : Reg) (u : Option ℕ) (s : State) → (load c rd u s []).output ≡ None
 load_silent c rd None s = refl
 load_silent c rd (Some v) s = refl
 
--- either of two
+-- a choice between two steps without output has none
 if_silent : (b : Bool) (x y : Stepping) → x.output ≡ None → y.output ≡ None → (if b then x else y).output ≡ None
 if_silent true x y h k = h
 if_silent false x y h k = k
 
--- a green jump
+-- a green jump has no output
 jump_green_silent : (a : ℕ) (s : State) → (jump_green a s []).output ≡ None
 jump_green_silent a s = if_silent (s.d == 0) _ _ refl refl
 
--- a branch that is not taken
+-- a branch that is not taken has no output
 pass_silent : (s : State) → (pass s []).output ≡ None
 pass_silent s = if_silent (s.d == 0) _ _ refl refl
 
--- a blue jump
+-- a blue jump has no output
 jump_blue_silent : (a : ℕ) (s : State) → (jump_blue a s []).output ≡ None
 jump_blue_silent a s = if_silent (not (s.d == 0) && (s.d == a)) _ _ refl refl
 
--- a blue store that goes on shows its pair
+-- a blue store that continues has its pair as output
 store_blue_by : (b : Bool) (a v : ℕ) (s : State) → s.status ≡ Running →
     (if b then commit a v s [] else detected s []).state.status ≡ Running →
     (if b then commit a v s [] else detected s []).output ≡ Some (record { addr = a; value = v })
 store_blue_by true a v s go h = refl
 store_blue_by false a v s go h = cc
 
--- a blue store shows its pair
+-- a blue store after which the machine runs has its pair as output
 pub store_blue_shows : (a v : ℕ) (s : State) → s.status ≡ Running → (store_blue a v s []).state.status ≡ Running →
     (store_blue a v s []).output ≡ Some (record { addr = a; value = v })
 store_blue_shows a v s go h = store_blue_by (commits a v s) a v s go h
 
--- instructions that are no blue store have no output
+-- an instruction other than a blue store has no output
 pub silent : (i : Instr) (s : State) → is_blue_store i ≡ false → (execute i s []).output ≡ None
 silent (Ld k rd rs) s h = load_silent k rd (found k s (word s rs)) s
 silent (St Green rd rs) s h = if_silent (nat_lt (length s.queue) 8) _ _ refl refl
@@ -108,7 +108,7 @@ silent i s h = refl
 
 -- CLAIMS
 
--- a fact that is claimed of a row holds if the row passes
+-- a claim holds if the rule's premises do
 pub claimed : (o : Object) (c : Context) (i : Instr) (C : Type 0) (x : Outcome) → row o c i ≡ x → After (λ _. C) C x →
     Passes o c i → C
 unfolding After
@@ -117,13 +117,13 @@ claimed o c i C Ends e a p = a
 claimed o c i C (Fails n) e a (ends f) = cc
 claimed o c i C (Fails n) e a (goes d f) = cc
 
--- the context that a row leads to, with what holds of it, if it never ends the block
+-- the context to which a rule leads, and what holds of it, if the rule never ends the block
 pub record GoesTo (o : Object) (c : Context) (i : Instr) (G : Context → Type 0) : Type 0 where
   pub context : Context
   pub goes_to : row o c i ≡ Goes context
   pub holds : G context
 
--- the context, by the outcome
+-- it exists, by the rule's outcome
 goes_to_by : (o : Object) (c : Context) (i : Instr) (G : Context → Type 0) (x : Outcome) → row o c i ≡ x → After G ⊥ x →
     Passes o c i → GoesTo o c i G
 unfolding After
@@ -132,12 +132,12 @@ goes_to_by o c i G Ends e a p = absurd a
 goes_to_by o c i G (Fails n) e a (ends f) = cc
 goes_to_by o c i G (Fails n) e a (goes d f) = cc
 
--- the context of a row that passes
+-- it exists if the rule's premises hold
 pub goes_to : (o : Object) (c : Context) (i : Instr) (G : Context → Type 0) → After G ⊥ (row o c i) → Passes o c i →
     GoesTo o c i G
 goes_to o c i G a p = goes_to_by o c i G (row o c i) refl a p
 
--- what holds if a row ends the block and so never goes on
+-- a rule that never leads on ends the block, and its claim holds
 pub ends_by : (o : Object) (c : Context) (i : Instr) (E : Type 0) (x : Outcome) → row o c i ≡ x → After (λ _. ⊥) E x →
     Passes o c i → (row o c i ≡ Ends) × E
 unfolding After
@@ -146,7 +146,7 @@ ends_by o c i E Ends e a p = (e, a)
 ends_by o c i E (Fails n) e a (ends f) = cc
 ends_by o c i E (Fails n) e a (goes d f) = cc
 
--- the claim at an outcome
+-- the claim about the context to which a rule leads
 pub goes_holds : (G : Context → Type 0) (E : Type 0) (x : Outcome) (d : Context) → After G E x → x ≡ Goes d → G d
 unfolding After
 goes_holds G E (Goes c) d a e = let same : c ≡ d = cc in subst G same a
@@ -168,7 +168,7 @@ pub address_word : (o : Object) (v : Valuation) (c : Context) (s : State) (r : R
 address_word o v c s r k t w f e is = (f.registers r.number (addressed k t w) e).word ∙ value_constant w v
     ∙ mod-eq_of_lt is
 
--- what one step of each run gives: equal outputs, and states together
+-- what one step gives in each run: equal outputs, and states that correspond
 pub record Steps (modules : List Object) (joins : List Link) (x : Object) (world : World modules joins x) (m : ℕ)
     (a b : Stepping) : Type 0 where
   pub output : a.output ≡ b.output
@@ -178,7 +178,8 @@ module _ (modules : List Object) (joins : List Link) (x : Object) (spelled : IsS
     (world : World modules joins x) where
   -- ARRIVALS
 
-  -- module states at the start of block y, and states of the linked object where that is sent to
+  -- if the module's machine is at the start of block y, and the linked object's where y is sent, their states
+  -- correspond
   pub arrives : (m : ℕ) (o : Object) (there : slice_get modules m ≡ Some o) (w : ℕ) (y : Block) → block_at o w
       ≡ Some y → (s t : State) (v u : Valuation) → v ≡ u → FitsContext o v (start_context o y.code_type) s → s.pc_green
       ≡ w → s.pc_blue ≡ w → s.fetched ≡ None → s.status ≡ Running → (b : Block) → block_at x ((world m o there).to w).0

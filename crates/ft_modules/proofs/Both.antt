@@ -1,4 +1,4 @@
--- The outcomes of two rows: if the first does not fail, neither does the second.
+-- The outcomes of two typing rules, where the second does not fail unless the first does.
 use Rattle.std.proofs.Common.{◌≡◌, ℕ, zero, suc, Bool, true, false, List, [], ◌∷◌, Option, Some, None, refl, subst}
 use Rattle.ft_isa.specs.declared.basic.Base.{Base}
 use Rattle.ft_isa.specs.declared.basic.Base.TheVariants.{Code}
@@ -8,7 +8,7 @@ use Rattle.ft_typing.specs.Context.{Typed, FormPair, Context}
 use Rattle.ft_typing.specs.RowWords.{Outcome, Goes, Ends, Fails, need, for_typed, for_ref_over, for_code_over}
 use Rattle.ft_typing.specs.RowWords.{for_oldest}
 
--- R of the two contexts that the rows go on to, or both end the block, or the first fails
+-- both rules lead on, to contexts that R relates; or both end the block; or the first fails
 unfoldable pub Both : (Context → Context → Type 0) → Outcome → Outcome → Type 0
 Both R (Goes c) (Goes d) = R c d
 Both R (Goes c) Ends = ⊥
@@ -18,17 +18,17 @@ Both R Ends Ends = Unit {0}
 Both R Ends (Fails p) = ⊥
 Both R (Fails p) x = Unit {0}
 
--- rows that go on to contexts which R relates
+-- both rules lead on to contexts that R relates
 pub both_goes : (R : Context → Context → Type 0) (c d : Context) → R c d → Both R (Goes c) (Goes d)
 unfolding Both
 both_goes R c d h = h
 
--- rows that end the block
+-- both rules end the block
 pub both_end : (R : Context → Context → Type 0) → Both R Ends Ends
 unfolding Both
 both_end R = tt
 
--- a test that holds of the second if it holds of the first
+-- a premise whose test passes in the second rule if it does in the first
 pub both_need : (R : Context → Context → Type 0) (p : Premise) (b b' : Bool) (x x' : Outcome) →
     (b ≡ true → (b' ≡ true) × Both R x x') → Both R (need p b x) (need p b' x')
 unfolding Both need
@@ -36,20 +36,20 @@ both_need R p false b' x x' h = tt
 both_need R p true true x x' h = (h refl).1
 both_need R p true false x x' h = let e = (h refl).0 in cc
 
--- a register about which the same is known
+-- a register that has the same type in both contexts
 both_typed_same : (R : Context → Context → Type 0) (y : Option Typed) (f f' : Typed → Outcome) →
     ((t : Typed) → y ≡ Some t → Both R (f t) (f' t)) → Both R (for_typed y f) (for_typed y f')
 unfolding Both for_typed
 both_typed_same R None f f' h = tt
 both_typed_same R (Some t) f f' h = h t refl
 
--- registers about which the same is known, by an equation
+-- registers that have the same type in both contexts, by an equation
 pub both_typed : (R : Context → Context → Type 0) (y y' : Option Typed) (f f' : Typed → Outcome) → y ≡ y' →
     ((t : Typed) → y ≡ Some t → Both R (f t) (f' t)) → Both R (for_typed y f) (for_typed y' f')
 both_typed R y y' f f' e h = subst (λ (z : Option Typed). Both R (for_typed y f) (for_typed z f')) e
     (both_typed_same R y f f' h)
 
--- registers about which this is known
+-- registers with known types
 pub both_known : (R : Context → Context → Type 0) (y y' : Option Typed) (t t' : Typed) (f f' : Typed → Outcome) → y
     ≡ Some t → y' ≡ Some t' → Both R (f t) (f' t') → Both R (for_typed y f) (for_typed y' f')
 unfolding for_typed
@@ -68,7 +68,7 @@ pub both_code : (R : Context → Context → Type 0) (t t' : ℕ) (f f' : ℕ �
 unfolding for_code_over
 both_code R t t' f f' h = h
 
--- the same static queue
+-- a static queue that is the same in both contexts
 both_oldest_same : (R : Context → Context → Type 0) (q : List FormPair) (f f' : FormPair → List FormPair → Outcome) →
     ((p : FormPair) (r : List FormPair) → q ≡ p ∷ r → Both R (f p r) (f' p r)) →
     Both R (for_oldest q f) (for_oldest q f')
@@ -76,7 +76,7 @@ unfolding Both for_oldest
 both_oldest_same R [] f f' h = tt
 both_oldest_same R (p ∷ r) f f' h = h p r refl
 
--- the same static queue, by an equation
+-- static queues that are the same in both contexts, by an equation
 pub both_oldest : (R : Context → Context → Type 0) (q q' : List FormPair) (f f' : FormPair → List FormPair → Outcome) →
     q ≡ q' → ((p : FormPair) (r : List FormPair) → q ≡ p ∷ r → Both R (f p r) (f' p r)) →
     Both R (for_oldest q f) (for_oldest q' f')

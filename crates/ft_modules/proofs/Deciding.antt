@@ -1,4 +1,4 @@
--- The tests of refusals decide what they are named for.
+-- The tests of refusals decide what their names say.
 use Rattle.std.proofs.Common.{◌≡◌, ℕ, zero, suc, ◌+◌, ◌<◌, Bool, true, List, [], ◌∷◌, length}
 use Rattle.std.proofs.Common.{slice_get, Option, Some, None, refl, ap, subst, arith, eqb-true, eq-eqb}
 use Rattle.std.specs.Prelude.{All}
@@ -34,11 +34,11 @@ use Rattle.ft_modules.proofs.Elements.{all_of}
 
 -- CODE TYPES
 
--- equal colours are found the same
+-- equal colours pass the test
 pub colour_same : (c d : Colour) → c ≡ d → same_colour c d ≡ true
 colour_same c d h = subst (λ (z : Colour). same_colour c z ≡ true) h (same_colours c)
 
--- register rows that the test finds the same say the same
+-- register rows that pass the test agree
 row_is : (o x : Object) (r q : RegType) → same_row o x r q ≡ true → SameRow o x r q
 row_is o x r q e =
     let a = and_parts _ _ e in
@@ -51,26 +51,26 @@ row_is o x r q e =
       tree = same_integer_is _ _ a.1;
     }
 
--- and the other way round
+-- conversely, register rows that agree pass the test
 is_row : (o x : Object) (r q : RegType) → SameRow o x r q → same_row o x r q ≡ true
 is_row o x r q h = and_from _ _ (and_from _ _ (and_from _ _ (eq-eqb _ _ h.reg) (colour_same r.colour q.colour h.colour))
     (is_same_basic r.basic q.basic h.basic)) (integer_same _ _ h.tree)
 
--- lists of register rows that the test finds the same
+-- lists of register rows that pass the test agree
 rows_are : (o x : Object) (rs qs : List RegType) → same_rows o x rs qs ≡ true → AllZip (SameRow o x) rs qs
 rows_are o x [] [] e = tt
 rows_are o x [] (q ∷ qs) e = cc
 rows_are o x (r ∷ rs) [] e = cc
 rows_are o x (r ∷ rs) (q ∷ qs) e = let a = and_parts _ _ e in (row_is o x r q a.0, rows_are o x rs qs a.1)
 
--- and the other way round
+-- conversely, lists of register rows that agree pass the test
 are_rows : (o x : Object) (rs qs : List RegType) → AllZip (SameRow o x) rs qs → same_rows o x rs qs ≡ true
 are_rows o x [] [] h = refl
 are_rows o x [] (q ∷ qs) h = absurd h
 are_rows o x (r ∷ rs) [] h = absurd h
 are_rows o x (r ∷ rs) (q ∷ qs) h = and_from _ _ (is_row o x r q h.0) (are_rows o x rs qs h.1)
 
--- queue rows that the test finds the same
+-- lists of queue rows that pass the test agree
 pairs_are : (o x : Object) (rs qs : List (ℕ × ℕ)) → same_pairs o x rs qs ≡ true → AllZip (SamePair o x) rs qs
 pairs_are o x [] [] e = tt
 pairs_are o x [] (q ∷ qs) e = cc
@@ -78,7 +78,7 @@ pairs_are o x (r ∷ rs) [] e = cc
 pairs_are o x (r ∷ rs) (q ∷ qs) e = let a = and_parts _ _ e in let b = and_parts _ _ a.0 in
     (record { address = same_integer_is _ _ b.0; value = same_integer_is _ _ b.1 }, pairs_are o x rs qs a.1)
 
--- and the other way round
+-- conversely, lists of queue rows that agree pass the test
 are_pairs : (o x : Object) (rs qs : List (ℕ × ℕ)) → AllZip (SamePair o x) rs qs → same_pairs o x rs qs ≡ true
 are_pairs o x [] [] h = refl
 are_pairs o x [] (q ∷ qs) h = absurd h
@@ -86,7 +86,7 @@ are_pairs o x (r ∷ rs) [] h = absurd h
 are_pairs o x (r ∷ rs) (q ∷ qs) h = let a = h.0 in
     and_from _ _ (and_from _ _ (integer_same _ _ a.address) (integer_same _ _ a.value)) (are_pairs o x rs qs h.1)
 
--- code types that the test finds alike say the same
+-- code types that pass the test agree
 pub like_is : (o : Object) (t : ℕ) (x : Object) (u : ℕ) → like_types o t x u ≡ true → LikeTypes o t x u
 unfolding like_types
 like_is o t x u e =
@@ -100,7 +100,7 @@ like_is o t x u e =
       memory = same_memory_is _ _ a.1;
     }
 
--- and the other way round
+-- conversely, code types that agree pass the test
 pub is_like : (o : Object) (t : ℕ) (x : Object) (u : ℕ) → LikeTypes o t x u → like_types o t x u ≡ true
 unfolding like_types
 is_like o t x u h = and_from _ _ (and_from _ _ (and_from _ _ (eq-eqb _ _ h.ints) (are_rows o x _ _ h.regs))
@@ -108,19 +108,19 @@ is_like o t x u h = and_from _ _ (and_from _ _ (and_from _ _ (eq-eqb _ _ h.ints)
 
 -- CELLS AND ROWS
 
--- names that the test finds the same are equal
+-- names that pass the test are equal
 name_is : (a b : List ℕ) → same_name a b ≡ true → a ≡ b
 name_is [] [] e = refl
 name_is [] (y ∷ ys) e = cc
 name_is (x ∷ xs) [] e = cc
 name_is (x ∷ xs) (y ∷ ys) e = let p = and_parts _ _ e in λ i. eqb-true x y p.0 i ∷ name_is xs ys p.1 i
 
--- a name is found the same as itself
+-- a name passes the test with itself
 name_itself : (a : List ℕ) → same_name a a ≡ true
 name_itself [] = refl
 name_itself (x ∷ xs) = and_from _ _ (eq-eqb x x refl) (name_itself xs)
 
--- cells that the test finds the same are equal
+-- cells that pass the test are equal
 cell_is : (a b : Cell) → same_cell a b ≡ true → a ≡ b
 cell_is a b e =
     let p = and_parts _ _ e in
@@ -131,55 +131,55 @@ cell_is a b e =
       init = eqb-true a.init b.init p.1 i;
     }
 
--- lists of cells that the test finds the same are equal
+-- lists of cells that pass the test are equal
 pub cells_are : (xs ys : List Cell) → same_cells xs ys ≡ true → xs ≡ ys
 cells_are [] [] e = refl
 cells_are [] (y ∷ ys) e = cc
 cells_are (x ∷ xs) [] e = cc
 cells_are (x ∷ xs) (y ∷ ys) e = let p = and_parts _ _ e in λ i. cell_is x y p.0 i ∷ cells_are xs ys p.1 i
 
--- cells are found the same as themselves
+-- a list of cells passes the test with itself
 cells_itself : (xs : List Cell) → same_cells xs xs ≡ true
 cells_itself [] = refl
 cells_itself (x ∷ xs) = and_from _ _ (and_from _ _
     (and_from _ _ (name_itself x.name) (is_same_basic x.basic x.basic refl)) (eq-eqb x.init x.init refl))
     (cells_itself xs)
 
--- equal cells are found the same
+-- equal lists of cells pass the test
 pub are_cells : (xs ys : List Cell) → xs ≡ ys → same_cells xs ys ≡ true
 are_cells xs ys h = subst (λ (z : List Cell). same_cells xs z ≡ true) h (cells_itself xs)
 
--- a test of all elements
+-- if a list passes a test, so does each element
 pub each_passes : {X : Type 0} (p : X → Bool) (xs : List X) → list_all p xs ≡ true → (n : ℕ) (x : X) → slice_get xs n
     ≡ Some x → p x ≡ true
 each_passes p [] e n x f = cc
 each_passes p (y ∷ ys) e zero x f = let q = and_parts _ _ e in let same : y ≡ x = cc in subst (λ z. p z ≡ true) same q.0
 each_passes p (y ∷ ys) e (suc n) x f = let q = and_parts _ _ e in each_passes p ys q.1 n x f
 
--- a base that the test finds to be `int` is it
+-- a base that passes the test is `int`
 int_is : (b : Base) → is_int b ≡ true → b ≡ Int
 int_is Int e = refl
 int_is (Code t) e = cc
 
--- and the other way round
+-- conversely, `int` passes the test
 is_int_of : (b : Base) → b ≡ Int → is_int b ≡ true
 is_int_of b e = ap is_int e
 
--- cells that the test finds plain are plain
+-- cells that pass the test are plain
 pub plain_cells_are : (cs : List Cell) → list_all is_plain_cell cs ≡ true → All HasPlainCell cs
 plain_cells_are cs e = all_of HasPlainCell cs (λ n c f. int_is c.basic.base (each_passes is_plain_cell cs e n c f))
 
--- and the other way round
+-- conversely, plain cells pass the test
 pub are_plain_cells : (cs : List Cell) → All HasPlainCell cs → list_all is_plain_cell cs ≡ true
 are_plain_cells cs h = all_pass is_plain_cell cs (λ n c f. is_int_of c.basic.base (all_there HasPlainCell cs n c h f))
 
--- code types whose rows the test finds plain have plain rows
+-- code types that pass the test have plain rows
 pub plain_rows_are : (ts : List CodeType) → list_all has_plain_rows ts ≡ true → All HasPlainRows ts
 plain_rows_are ts e = all_of HasPlainRows ts (λ n t f.
     all_of HasPlainRow t.regs (λ m r g. int_is r.basic.base
     (each_passes is_plain_row t.regs (each_passes has_plain_rows ts e n t f) m r g)))
 
--- and the other way round
+-- conversely, code types with plain rows pass the test
 pub are_plain_rows : (ts : List CodeType) → All HasPlainRows ts → list_all has_plain_rows ts ≡ true
 are_plain_rows ts h = all_pass has_plain_rows ts (λ n t f.
     all_pass is_plain_row t.regs (λ m r g. is_int_of r.basic.base
@@ -187,19 +187,19 @@ are_plain_rows ts h = all_pass has_plain_rows ts (λ n t f.
 
 -- OPTIONS
 
--- and the other way round
+-- `option_or` of `None` and `None` is `None`
 pub or_none : {X : Type 0} (a b : Option X) → a ≡ None → b ≡ None → option_or a b ≡ None
 or_none None b e f = f
 or_none (Some x) b e f = cc
 
--- what is nothing after a map was nothing before it
+-- if the image of an option is `None`, so is the option
 pub map_parts : {X Y : Type 0} (f : X → Y) (a : Option X) → option_map f a ≡ None → a ≡ None
 map_parts f None e = refl
 map_parts f (Some x) e = cc
 
 -- WALKS
 
--- if no walk is found to fail, none fails
+-- if no fault is found, no block's walk fails
 pub no_walk_fault : (o : Object) (b : ℕ) (ys : List Block) → first_walk_fault o b ys ≡ None → (n : ℕ) → n < length ys →
     code_walk o finite.empty 0 (block_instrs o (b + n)) ≡ None
 no_walk_fault o b [] e n lt = absurd (omega (arith, lt))
@@ -213,7 +213,7 @@ no_walk_fault o b (y ∷ ys) e (suc n) lt =
     subst (λ k. code_walk o finite.empty 0 (block_instrs o k)
     ≡ None) here (no_walk_fault o (suc b) ys p.1 n (omega (arith, lt)))
 
--- and the other way round
+-- conversely, if no block's walk fails, no fault is found
 pub walk_without_fault : (o : Object) (b : ℕ) (ys : List Block) →
     ((n : ℕ) → n < length ys → code_walk o finite.empty 0 (block_instrs o (b + n)) ≡ None) → first_walk_fault o b ys
     ≡ None
@@ -227,7 +227,7 @@ walk_without_fault o b (y ∷ ys) h =
 
 -- TOTALS
 
--- totals that the test finds within their limits are within them
+-- totals that pass the test are within their limits
 pub few_are : (ms : List Object) → are_few ms ≡ true → AreFew ms
 unfolding are_few
 few_are ms e =
@@ -247,7 +247,7 @@ few_are ms e =
       substs = leb-true _ _ a.1;
     }
 
--- and the other way round
+-- conversely, totals within their limits pass the test
 pub are_few_of : (ms : List Object) → AreFew ms → are_few ms ≡ true
 unfolding are_few
 are_few_of ms h =
@@ -257,12 +257,12 @@ are_few_of ms h =
 
 -- STUBS
 
--- an instruction that the test finds to be `halt` is it
+-- an instruction that passes the test is `halt`
 halt_is : (i : Instr) → is_halt i ≡ true → i ≡ Halt
 halt_is Halt e = refl
 halt_is i e = cc
 
--- a block that the test finds to be a stub is one `halt`
+-- a block that passes the test is a single `halt`
 pub stub_is : (is : List Instr) → is_stub is ≡ true → is ≡ Halt ∷ []
 stub_is [] e = cc
 stub_is (i ∷ []) e = ap (λ (z : Instr). z ∷ []) (halt_is i e)

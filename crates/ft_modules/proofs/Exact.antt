@@ -1,4 +1,4 @@
--- Modules and a map are refused for nothing exactly if they are linkable.
+-- No refusal applies to modules and a map exactly if the modules are linkable.
 use Rattle.std.proofs.Common.{◌≡◌, ℕ, zero, suc, ◌+◌, ◌<◌, Bool, true, false, cond, not, nat_lt, List, [], ◌∷◌, ◌++◌}
 use Rattle.std.proofs.Common.{length, slice_get, Option, Some, None, refl, sym, ap, ◌∙◌, subst, arith}
 use Rattle.std.specs.Prelude.{All, find, filter_map, ◌↔◌}
@@ -33,16 +33,16 @@ use Rattle.ft_modules.proofs.Deciding.{walk_without_fault, few_are, are_few_of, 
 
 -- TESTS
 
--- what is not refused passed the test
+-- without a refusal, the test passed
 pub unless_true : (b : Bool) (r : LinkRefusal) → unless b r ≡ None → b ≡ true
 unless_true true r e = refl
 unless_true false r e = cc
 
--- what passes the test is not refused
+-- if the test passes, there is no refusal
 true_unless : (b : Bool) (r : LinkRefusal) → b ≡ true → unless b r ≡ None
 true_unless b r e = ap (λ z. unless z r) e
 
--- the first element, if nothing is found
+-- if a search finds nothing, each element fails the test: by cases of the first one, given this for the rest
 pub none_first : {X : Type 0} (b : Bool) (p : X → Bool) (y : X) (ys : List X) (n : ℕ) (x : X) → p y ≡ b →
     cond b (Some y) (find p ys) ≡ None → slice_get (y ∷ ys) n ≡ Some x →
     (find p ys ≡ None → (m : ℕ) (z : X) → slice_get ys m ≡ Some z → p z ≡ false) → p x ≡ false
@@ -50,7 +50,7 @@ none_first true p y ys n x g e f h = cc
 none_first false p y ys zero x g e f h = let same : y ≡ x = cc in subst (λ z. p z ≡ false) same g
 none_first false p y ys (suc n) x g e f h = h e n x f
 
--- nothing that a test looks for is there
+-- if a search finds nothing, each element fails the test
 pub none_found : {X : Type 0} (p : X → Bool) (xs : List X) → find p xs ≡ None → (n : ℕ) (x : X) → slice_get xs n
     ≡ Some x → p x ≡ false
 none_found p [] e n x f = cc
@@ -58,14 +58,14 @@ none_found p (y ∷ ys) e n x f = none_first (p y) p y ys n x refl e f (none_fou
 
 -- MODULES
 
--- what refusals 3, 4 and 5 ask of a module
+-- what a module needs, so that refusals 3, 4 and 5 do not apply
 record Passes (cells : List Cell) (o : Object) : Type 0 where
   pub same : o.cells ≡ cells
   pub plain_cells : All HasPlainCell o.cells
   pub plain_rows : All HasPlainRows o.types
   pub walked : (b : ℕ) → b < length o.blocks → code_walk o finite.empty 0 (block_instrs o b) ≡ None
 
--- a module that is not refused passes, and the totals are within their limits
+-- a module that is not refused has what it needs, and the totals are within their limits
 module_passes : (earlier : List Object) (m : ℕ) (cells : List Cell) (o : Object) → module_refusal earlier m cells o
     ≡ None → Passes cells o × (are_few (earlier ++ o ∷ []) ≡ true)
 module_passes earlier m cells o e =
@@ -84,7 +84,7 @@ module_passes earlier m cells o e =
       unless_true _ _ c.1,
     )
 
--- and the other way round
+-- conversely, such a module is not refused
 passes_module : (earlier : List Object) (m : ℕ) (cells : List Cell) (o : Object) → Passes cells o →
     are_few (earlier ++ o ∷ []) ≡ true → module_refusal earlier m cells o ≡ None
 passes_module earlier m cells o p few =
@@ -95,7 +95,7 @@ passes_module earlier m cells o p few =
     ≡ 0 + n = omega arith in subst (λ k. code_walk o finite.empty 0 (block_instrs o k) ≡ None) here (p.walked n lt))))
     (true_unless _ _ few)))
 
--- each of the modules that are not refused passes
+-- if no module is refused, each has what it needs
 modules_pass : (earlier : List Object) (m : ℕ) (cells : List Cell) (os : List Object) →
     modules_refusal earlier m cells os ≡ None → (n : ℕ) (o : Object) → slice_get os n ≡ Some o → Passes cells o
 unfolding modules_refusal
@@ -116,7 +116,7 @@ modules_few earlier m cells o [] e = let a = or_parts _ _ e in
 modules_few earlier m cells o (y ∷ ys) e = let a = or_parts _ _ e in
     subst AreFew (append_assoc earlier (o ∷ []) (y ∷ ys)) (modules_few (earlier ++ o ∷ []) (suc m) cells y ys a.1)
 
--- fewer modules have fewer of each
+-- the totals of the first modules are within the limits if those of all are
 front_few : (xs ys : List Object) → AreFew (xs ++ ys) → AreFew xs
 front_few xs ys h = record {
   nodes = (let s = sum_by-append (λ (o : Object). length o.nodes) xs ys in let f = h.nodes in omega (arith, s, f));
@@ -130,7 +130,7 @@ front_few xs ys h = record {
   substs = (let s = sum_by-append (λ (o : Object). length o.substs) xs ys in let f = h.substs in omega (arith, s, f));
 }
 
--- modules that pass, with such totals, are not refused
+-- conversely, modules that have what they need, with totals within the limits, are not refused
 pass_modules : (earlier : List Object) (m : ℕ) (cells : List Cell) (os : List Object) →
     ((n : ℕ) (o : Object) → slice_get os n ≡ Some o → Passes cells o) → AreFew (earlier ++ os) →
     modules_refusal earlier m cells os ≡ None
@@ -144,43 +144,43 @@ pass_modules earlier m cells (o ∷ os) h few =
 
 -- LINES
 
--- a block that the test finds, by the module that is there
+-- a block that the test finds, by the module
 pub has_block_by : (modules : List Object) (m b : ℕ) (u : Option Object) → slice_get modules m ≡ u →
     nat_lt b (unwrap_or (option_map (λ (o : Object). length o.blocks) u) 0) ≡ true → HasBlock modules m b
 has_block_by modules m b None e t = absurd (omega (arith, ltb-true b 0 t))
 has_block_by modules m b (Some o) e t = record { object = o; there = e; below = ltb-true b (length o.blocks) t }
 
--- a block that the test finds is there
+-- a block that the test finds exists
 has_block_is : (modules : List Object) (m b : ℕ) → has_block modules m b ≡ true → HasBlock modules m b
 has_block_is modules m b t = has_block_by modules m b (slice_get modules m) refl t
 
--- and the other way round
+-- conversely, the test finds a block that exists
 is_has_block : (modules : List Object) (m b : ℕ) → HasBlock modules m b → has_block modules m b ≡ true
 is_has_block modules m b h = ap (λ (u : Option Object).
     nat_lt b (unwrap_or (option_map (λ (o : Object). length o.blocks) u) 0)) h.there
     ∙ lt-ltb b (length h.object.blocks) h.below
 
--- if the lower of two lines is nothing, both are
+-- if the lower of two lines is `None`, both are
 pub no_line : (a b : Option ℕ) → lower_line a b ≡ None → (a ≡ None) × (b ≡ None)
 no_line None b e = (refl, e)
 no_line (Some x) None e = cc
 no_line (Some x) (Some y) e = cc
 
--- if no line is found without its block, each line has it
+-- if no line without its block is found, each line's block exists
 all_have : (modules : List Object) (asks : List Ask) → first_without modules asks ≡ None → (n : ℕ) (a : Ask) →
     slice_get asks n ≡ Some a → HasBlock modules a.module a.block
 all_have modules asks e n a f = has_block_is modules a.module a.block
     (not-false _ (none_found (λ (z : Ask). not (has_block modules z.module z.block)) asks (map_parts line_of _ e) n a
     f))
 
--- and the other way round
+-- conversely, if each line's block exists, no line is found
 have_all : (modules : List Object) (asks : List Ask) →
     ((n : ℕ) (a : Ask) → slice_get asks n ≡ Some a → HasBlock modules a.module a.block) → first_without modules asks
     ≡ None
 have_all modules asks h = ap (option_map line_of) (none_pass (λ (z : Ask). not (has_block modules z.module z.block))
     asks (λ n a f. ap not (is_has_block modules a.module a.block (h n a f))))
 
--- if no import is refused, each is not
+-- if there is no refusal of the imports, no import is refused
 each_import : (modules : List Object) (exports imports : List Ask) → imports_refusal modules exports imports ≡ None →
     (n : ℕ) (i : Ask) → slice_get imports n ≡ Some i → import_refusal modules exports i ≡ None
 unfolding imports_refusal
@@ -189,7 +189,7 @@ each_import modules exports (y ∷ ys) e zero i f = let a = or_parts _ _ e in le
     subst (λ (z : Ask). import_refusal modules exports z ≡ None) same a.0
 each_import modules exports (y ∷ ys) e (suc n) i f = let a = or_parts _ _ e in each_import modules exports ys a.1 n i f
 
--- and the other way round
+-- conversely, if no import is refused, there is no refusal of the imports
 import_each : (modules : List Object) (exports imports : List Ask) →
     ((n : ℕ) (i : Ask) → slice_get imports n ≡ Some i → import_refusal modules exports i ≡ None) →
     imports_refusal modules exports imports ≡ None
@@ -198,20 +198,20 @@ import_each modules exports [] h = refl
 import_each modules exports (i ∷ is) h = or_none _ _ (h 0 i refl) (import_each modules exports is (λ n z e.
     h (suc n) z e))
 
--- an import whose name is exported, with code types that say the same
+-- the export of an import's name, where the code types of the two blocks agree
 record Exported (modules : List Object) (exports : List Ask) (i : Ask) : Type 0 where
   pub ask : Ask
   pub found : export_of exports i.name ≡ Some ask
   pub like : like_in (slice_get modules i.module) (type_in modules i.module i.block) (slice_get modules ask.module)
       (type_in modules ask.module ask.block) ≡ true
 
--- an import that is not refused is exported, by the export of its name
+-- it exists if the import is not refused, by the search for the export
 exported_by : (modules : List Object) (exports : List Ask) (i : Ask) (u : Option Ask) → export_of exports i.name ≡ u →
     for_export modules i u ≡ None → Exported modules exports i
 exported_by modules exports i None g e = cc
 exported_by modules exports i (Some a) g e = record { ask = a; found = g; like = unless_true _ _ e }
 
--- by what the first element gives
+-- by the image of the first element
 filter_first : {X Y : Type 0} (f : X → Option Y) (x : X) (xs : List X) (n : ℕ) (y : Y) (u : Option Y) → f x ≡ u →
     slice_get (cons_option u (filter_map f xs)) n ≡ Some y →
     ((m : ℕ) (z : Y) → slice_get (filter_map f xs) m ≡ Some z → (k : ℕ) × (w : X) × (slice_get xs k ≡ Some w)
@@ -220,19 +220,19 @@ filter_first f x xs n y None g e h = let r = h n y e in (suc r.0, r.1, r.2, r.3)
 filter_first f x xs zero y (Some z) g e h = (0, x, refl, g ∙ e)
 filter_first f x xs (suc n) y (Some z) g e h = let r = h n y e in (suc r.0, r.1, r.2, r.3)
 
--- an element at a later place
+-- an element stays in the list behind an optional first one
 filter_later : {Y : Type 0} (u : Option Y) (ys : List Y) (y : Y) → (n : ℕ) × (slice_get ys n ≡ Some y) → (n : ℕ)
     × (slice_get (cons_option u ys) n ≡ Some y)
 filter_later None ys y h = h
 filter_later (Some z) ys y h = (suc h.0, h.1)
 
--- the elements of a list that gives something
+-- an element of a filtered list is the image of an element
 from_filter : {X Y : Type 0} (f : X → Option Y) (xs : List X) (n : ℕ) (y : Y) → slice_get (filter_map f xs) n ≡ Some y →
     (k : ℕ) × (x : X) × (slice_get xs k ≡ Some x) × (f x ≡ Some y)
 from_filter f [] n y e = cc
 from_filter f (x ∷ xs) n y e = filter_first f x xs n y (f x) refl e (from_filter f xs)
 
--- what an element gives is in the list of all that is given
+-- the image of an element is in the filtered list
 to_filter : {X Y : Type 0} (f : X → Option Y) (xs : List X) (k : ℕ) (x : X) (y : Y) → slice_get xs k ≡ Some x → f x
     ≡ Some y → (n : ℕ) × (slice_get (filter_map f xs) n ≡ Some y)
 to_filter f [] k x y e g = cc
@@ -240,20 +240,20 @@ to_filter f (z ∷ zs) zero x y e g = let same : z ≡ x = cc in
     (0, ap (λ (u : Option _). slice_get (cons_option u (filter_map f zs)) 0) (ap f same ∙ g))
 to_filter f (z ∷ zs) (suc k) x y e g = filter_later (f z) (filter_map f zs) y (to_filter f zs k x y e g)
 
--- the two code types, of objects that are there
+-- the code types are compared in the modules' objects
 like_there : (modules : List Object) (m n t u : ℕ) (o x : Object) → slice_get modules m ≡ Some o → slice_get modules n
     ≡ Some x → like_in (slice_get modules m) t (slice_get modules n) u ≡ like_types o t x u
 like_there modules m n t u o x e f = λ i. like_in (e i) t (f i) u
 
--- the test of a stub, of an object that is there
+-- the test of a stub looks at the module's object
 stub_there : (modules : List Object) (m b : ℕ) (o : Object) → slice_get modules m ≡ Some o →
     is_stub (instrs_in modules m b) ≡ is_stub (block_instrs o b)
 stub_there modules m b o e = ap (λ (u : Option Object).
     is_stub (unwrap_or (option_map (λ (z : Object). block_instrs z b) u) [])) e
 
--- THE WHOLE
+-- ALL REFUSALS
 
--- a link that is this one
+-- a fact about a link, rewritten by an equation
 joined_as : {modules : List Object} (k l : Link) → Some k ≡ Some l → IsJoined modules k → IsJoined modules l
 joined_as {modules} k l e h = let same : k ≡ l = cc in subst (IsJoined modules) same h
 
@@ -273,7 +273,7 @@ link_joined modules exports i l x from to stub e =
           from.there to.there) ∙ x.like);
     })
 
--- an import with the export of its name, joined
+-- an import, the export of its name, and their link
 record Joined (modules : List Object) (exports : List Ask) (i : Ask) : Type 0 where
   pub ask : Ask
   pub found : export_of exports i.name ≡ Some ask
@@ -359,7 +359,7 @@ module _ (linkage : LinkMap) (first : Object) (others : List Object) where
       (like_there modules i.module j.ask.module _ _ from.object to.object from.there to.there
       ∙ is_like from.object _ to.object _ j.joined.types)))))
 
--- accepted modules are refused for nothing exactly if they are linkable
+-- modules that are spellable and accepted are linkable exactly if no refusal applies
 pub linkable_exactly : (linkage : LinkMap) (first : Object) (others : List Object) →
     ((m : ℕ) (o : Object) → slice_get (first ∷ others) m ≡ Some o → IsSpellable o × IsAccepted o) →
     AreLinkable linkage first others ↔ link_refusal linkage first others ≡ None

@@ -1,4 +1,4 @@
--- A permitted exchange keeps the walk that traces code addresses, so it keeps a module.
+-- The walk that traces code addresses still passes after a permitted exchange, so a module stays a module.
 use Rattle.std.proofs.Common.{◌≡◌, ℕ, zero, suc, Bool, true, false, cond, not, ◌&&◌, ◌==◌, if◌then◌else◌, List, []}
 use Rattle.std.proofs.Common.{◌∷◌, Option, Some, None, is_some, slice_get, refl, sym, ap, ◌∙◌, subst, arith}
 use Rattle.std.proofs.Common.{inl, inr, eqb-true, eq-eqb}
@@ -30,7 +30,7 @@ use Rattle.ft_modules.proofs.LinkedContexts.{entered_get}
 
 -- TESTS
 
--- unequal numbers are unequal the other way round
+-- the test that two numbers are different is symmetric
 turned : (a b : ℕ) → (a == b) ≡ false → (b == a) ≡ false
 turned a b h = by_test (b == a) refl
   where
@@ -38,11 +38,11 @@ turned a b h = by_test (b == a) refl
     by_test false e = e
     by_test true e = (let f : (a == b) ≡ true = eq-eqb a b (sym (eqb-true b a e)) in cc)
 
--- after an instruction that writes a register, only this one may have changed
+-- an instruction that writes a register enters or removes only this one
 enters : (e : Entered) (i : Instr) (r : ℕ) → written i ≡ Some r → entered_after i e ≡ entered_with r (claimed i) e
 enters e i r h = ap (λ w. entered_past w (claimed i) e) h
 
--- whether registers are free depends on them alone
+-- whether registers are free depends on these registers alone
 free_same : (e f : Entered) (p q : Option ℕ) →
     ((r : ℕ) → is_one_of p q r ≡ true → finite.get e r ≡ finite.get f r) → both_free e p q ≡ both_free f p q
 free_same e f (Some p) (Some q) same = λ j.
@@ -52,7 +52,7 @@ free_same e f (Some p) None same = λ j. not (is_some (same p (eq-eqb p p refl) 
 free_same e f None (Some q) same = λ j. not (is_some (same q (eq-eqb q q refl) j))
 free_same e f None None same = refl
 
--- whether an instruction is passed depends on the registers that it reads
+-- whether an instruction passes depends only on the registers that it reads
 traced_same : (o : Object) (e f : Entered) (i : Instr) → is_fixed i ≡ false →
     ((r : ℕ) → reads i r ≡ true → finite.get e r ≡ finite.get f r) → is_traced o e i ≡ is_traced o f i
 traced_same o e f (JmpG rd) h same = cc
@@ -61,12 +61,12 @@ traced_same o e f (BzG rz rd) h same = cc
 traced_same o e f (BzB rz rd u) h same = cc
 traced_same o e f i h same = free_same e f (first_read i) (second_read i) same
 
--- another register stays as it was
+-- any other register is unchanged
 entered_other : (e : Entered) (r : ℕ) (v : Option ℕ) (q : ℕ) → (q == r) ≡ false → finite.get (entered_with r v e) q
     ≡ finite.get e q
 entered_other e r v q h = entered_get e r v q ∙ ap (λ b. cond b v (finite.get e q)) h
 
--- two registers may be entered in either order
+-- two registers may be entered or removed in either order
 entered_twice : (e : Entered) (p q : ℕ) (v w : Option ℕ) → (q == p) ≡ false → entered_with q w (entered_with p v e)
     ≡ entered_with p v (entered_with q w e)
 entered_twice e p q v w other = finite.same_map nat_cmp_total nat_cmp-IsAntisymmetric _ _ (λ k.
@@ -88,7 +88,7 @@ entered_twice e p q v w other = finite.same_map nat_cmp_total nat_cmp-IsAntisymm
 
 -- TWO NEIGHBOURS
 
--- an instruction that does not use a written register is passed after the write as before it
+-- whether an instruction passes is the same before and after a write that it does not depend on
 pass_over : (o : Object) (e : Entered) (i w : Instr) (r : ℕ) → is_fixed i ≡ false → written w ≡ Some r →
     leaves_alone i (written w) ≡ true → is_traced o (entered_after w e) i ≡ is_traced o e i
 pass_over o e i w r free wr alone =
@@ -96,13 +96,13 @@ pass_over o e i w r free wr alone =
     ap (λ f. is_traced o f i) (enters e w r wr) ∙ traced_same o (entered_with r (claimed w) e) e i free (λ q h.
     entered_other e r (claimed w) q (read_other i r q no_read h))
 
--- what the walk says of two neighbours that may be exchanged
+-- two neighbours also pass in the other order, and then enter the same registers
 record Crossed (o : Object) (e : Entered) (a b : Instr) : Type 0 where
   pub second_passes : is_traced o e b ≡ true
   pub first_passes : is_traced o (entered_after b e) a ≡ true
   pub same : entered_after b (entered_after a e) ≡ entered_after a (entered_after b e)
 
--- by what each of them does: it writes a register, or is a store
+-- this holds by what each of them does: it writes a register, or is a store
 crossed_by : (o : Object) (e : Entered) (n : ℕ) (a b : Instr) → Trailing a → Leading b → Permits n a b → is_traced o e a
     ≡ true → is_traced o (entered_after a e) b ≡ true → Crossed o e a b
 crossed_by o e n a b (trailing_write p wa la) (leading_write q wb lb) h ta tb =
@@ -132,14 +132,14 @@ crossed_by o e n _ _ (trailing_store rd rs) (leading_store rx ry) h ta tb = reco
   same = refl;
 }
 
--- two neighbours that are passed and may be exchanged
+-- two neighbours that pass and may be exchanged also pass in the other order
 crossed : (o : Object) (e : Entered) (n : ℕ) (a b : Instr) → may_exchange n a b ≡ true → is_traced o e a ≡ true →
     is_traced o (entered_after a e) b ≡ true → Crossed o e a b
 crossed o e n a b m ta tb = let h = permits n a b m in crossed_by o e n a b h.trails h.leads h ta tb
 
 -- THE WALK
 
--- a walk that doesn't fail passes its first instruction and goes on
+-- a walk that does not fail passes its first instruction, and then the others
 pub walk_parts : (o : Object) (e : Entered) (k : ℕ) (i : Instr) (is : List Instr) → code_walk o e k (i ∷ is) ≡ None →
     (is_traced o e i ≡ true) × (code_walk o (entered_after i e) (suc k) is ≡ None)
 unfolding code_walk
@@ -149,13 +149,13 @@ walk_parts o e k i is h = by_test (is_traced o e i) (code_walk o (entered_after 
     by_test true rest g = (refl, g)
     by_test false rest g = cc
 
--- and the other way round
+-- conversely, a walk that passes the first instruction and then the others does not fail
 pub walk_on : (o : Object) (e : Entered) (k : ℕ) (i : Instr) (is : List Instr) → is_traced o e i ≡ true →
     code_walk o (entered_after i e) (suc k) is ≡ None → code_walk o e k (i ∷ is) ≡ None
 unfolding code_walk
 walk_on o e k i is t h = (λ j. if t j then code_walk o (entered_after i e) (suc k) is else Some k) ∙ h
 
--- a walk that doesn't fail doesn't after an exchange
+-- a walk that does not fail does not fail after an exchange
 walk_exchanged : (o : Object) (e : Entered) (k : ℕ) (is : List Instr) (n q : ℕ) (a b : Instr) → slice_get is n
     ≡ Some a → slice_get is (suc n) ≡ Some b → may_exchange q a b ≡ true → code_walk o e k is ≡ None →
     code_walk o e k (exchanged is n) ≡ None
@@ -177,20 +177,20 @@ walk_exchanged o e k (i ∷ j ∷ is) zero q a b ea eb m h =
 
 -- TABLES
 
--- the walk looks only at the rows of code types
+-- the walk looks only at the object's code types
 target_same : (o : Object) (xs : List Instr) (e : Entered) (u : Option ℕ) → is_free_target (with_instrs o xs) e u
     ≡ is_free_target o e u
 target_same o xs e None = refl
 target_same o xs e (Some t) = refl
 
--- so whether an instruction is passed does not depend on the code
+-- so whether an instruction passes does not depend on the object's code
 traced_there : (o : Object) (xs : List Instr) (e : Entered) (i : Instr) → is_traced (with_instrs o xs) e i
     ≡ is_traced o e i
 traced_there o xs e (JmpB rd u) = target_same o xs e (finite.get e rd.number)
 traced_there o xs e (BzB rz rd u) = ap (λ b. is_free e rz && b) (target_same o xs e (finite.get e rd.number))
 traced_there o xs e i = refl
 
--- nor does the walk of a block
+-- nor does the walk of given instructions
 walk_there : (o : Object) (xs : List Instr) (e : Entered) (k : ℕ) (is : List Instr) →
     code_walk (with_instrs o xs) e k is ≡ code_walk o e k is
 unfolding code_walk
@@ -200,7 +200,7 @@ walk_there o xs e k (i ∷ is) = λ j. if traced_there o xs e i j then walk_ther
 
 -- MODULES
 
--- the walk of each block after an exchange
+-- the walk of each block passes after an exchange
 block_walked : (o : Object) (b k : ℕ) → IsSpellable o → IsPermitted o b k → (j : ℕ) (y : Block) → slice_get o.blocks j
     ≡ Some y → code_walk o finite.empty 0 (block_instrs o j) ≡ None →
     code_walk (after_exchange o b k) finite.empty 0 (block_instrs (after_exchange o b k) j) ≡ None
@@ -235,7 +235,7 @@ module_exchanged cells o b k h p = record {
   ];
 }
 
--- and after exchanges one after the other
+-- a module stays one after exchanges
 pub modules_exchanged : (cells : List Cell) (o s : Object) → IsModule cells o → ComesFrom o s → IsModule cells s
 modules_exchanged cells o _ h itself = h
 modules_exchanged cells o _ h (exchange {s = s} b k comes p) =

@@ -1,4 +1,5 @@
--- The modules' run and the linked object's run go on in their blocks, or leave them for a target.
+-- A step of the modules' run and one of the linked object's run: both continue in their blocks, or both leave for a
+-- target.
 use Rattle.std.proofs.Common.{◌≡◌, inl, ℕ, suc, ◌+◌, Bool, true, ◌==◌, List, [], drop, slice_get, Some, None, is_some}
 use Rattle.std.proofs.Common.{refl, sym, ap, ◌∙◌, subst, arith, true≢false}
 use Rattle.std.specs.FinMap as finite
@@ -75,7 +76,7 @@ module _ (modules : List Object) (joins : List Link) (x : Object) (spelled : IsS
   abbrev here_x : Here x h.other h.other_at.number
   here_x = here x h.other accepted h.other_at
 
-  -- the instructions of the two places
+  -- the second instruction is the linked object's version of the first
   pub related : IsInstrOf o x home.to here_o.instr here_x.instr
   related =
       let k = before_of modules a.number in
@@ -85,18 +86,18 @@ module _ (modules : List Object) (joins : List Link) (x : Object) (spelled : IsS
       h.place.index here_o.instr here_x.instr (home.blocks h.at.number h.place.block h.at.block).code here_o.in_block
       there
 
-  -- what the walk says of the instruction
+  -- the walk passes the instruction and the rest of its block
   pub walked : Walked o h.entered h.place.index here_o.instr (drop (suc h.place.index) (block_instrs o h.at.number))
   walked = walked_first o h.entered h.place.index here_o.instr (drop (suc h.place.index) (block_instrs o h.at.number))
       (subst (λ (is : List Instr). code_walk o h.entered h.place.index is
       ≡ None) (drop_there (block_instrs o h.at.number) h.place.index here_o.instr here_o.in_block) h.rest)
 
-  -- the rows of both instructions
+  -- the outcomes of the typing rules for both instructions correspond
   pub rows : Both (Beside o home.to (entered_after here_o.instr h.entered)) (row o c here_o.instr)
       (row x b here_x.instr)
   rows = row_beside o x home.to home.are_sent h.entered c b h.contexts here_o.instr here_x.instr walked.first related
 
-  -- both go on to the next instruction
+  -- both continue with the next instruction
   pub further : (p q : Stepping) (d e : Context) → row o c here_o.instr ≡ Goes d → row x b here_x.instr ≡ Goes e →
       Beside o home.to (entered_after here_o.instr h.entered) d e → GoesOn o v s [] p d → GoesOn x u t [] q e →
       AreTogether modules joins x world (record { number = a.number; state = p.state }) q.state
@@ -150,14 +151,14 @@ module _ (modules : List Object) (joins : List Link) (x : Object) (spelled : IsS
         fetched = none_fetched go.fetched gx.fetched;
       }))
 
-  -- a register that is not entered holds the same word on both sides
+  -- a register that is not entered holds the same word in both states
   same_word : (r : Reg) (k : Typed) → is_free h.entered r ≡ true → typed c r.number ≡ Some k → word s r ≡ word t r
   same_word r k f e =
       let known : typed b r.number ≡ Some k = sym (free_same o home.to h.entered c b r h.contexts f) ∙ e in
       (h.fits.context.registers r.number k e).word ∙ ap (value_polynomial k.form) h.values
       ∙ sym (h.other_fits.context.registers r.number k known).word
 
-  -- the words that a blue store shows
+  -- a blue store has the same output in both states
   pub stored_words : (rd rs : Reg) → here_o.instr ≡ St Blue rd rs → is_traced o h.entered (St Blue rd rs) ≡ true →
       (word s rd ≡ word t rd) × (word s rs ≡ word t rs)
   stored_words rd rs e f =
@@ -169,7 +170,7 @@ module _ (modules : List Object) (joins : List Link) (x : Object) (spelled : IsS
       anyhow C _ (same_word rd k p.0 ik, same_word rs l p.1 il))))
       (subst (Passes o c) e here_o.passes)
 
-  -- the word of a test
+  -- the tested word of a branch is the same in both states
   tested_word : (rz rd : Reg) (w : Subst) → here_o.instr ≡ BzB rz rd w → is_free h.entered rz ≡ true → word s rz
       ≡ word t rz
   tested_word rz rd w e f =
@@ -178,7 +179,7 @@ module _ (modules : List Object) (joins : List Link) (x : Object) (spelled : IsS
       (after_typed (λ _. C) C (typed c rz.number) _ (λ k ik. anyhow C _ (same_word rz k f ik)))
       (subst (Passes o c) e here_o.passes)
 
-  -- the words of an entered target
+  -- the words of an entered target register, in both states
   target_words : (k : Colour) (n w : ℕ) → (rd : Reg) → code_type_at o w ≡ Some n → typed c rd.number
       ≡ Some (addressed k n w) → typed b rd.number ≡ Some (addressed k (home.to w).1 (home.to w).0) → (word s rd ≡ w)
       × (word t rd ≡ (home.to w).0)
@@ -207,7 +208,7 @@ module _ (modules : List Object) (joins : List Link) (x : Object) (spelled : IsS
       az.block found_x az.fits (az.pc_green ∙ words.1 ∙ begins) (az.pc_blue ∙ words.1 ∙ begins) az.fetched (az.status
       ∙ h.other_going))
 
-  -- a row never goes on for a blue jump
+  -- both execute a blue jump
   pub jumps : (rd : Reg) (w q : Subst) → here_o.instr ≡ JmpB rd w → here_x.instr ≡ JmpB rd q → SameSubst o x w q →
       is_traced o h.entered (JmpB rd w) ≡ true → Steps modules joins x world a.number (execute (JmpB rd w) s [])
       (execute (JmpB rd q) t [])
@@ -225,7 +226,7 @@ module _ (modules : List Object) (joins : List Link) (x : Object) (spelled : IsS
         after = leave rd w q _ _ entered same y.1 z;
       }
 
-  -- a blue branch that both take or both pass
+  -- both take a blue branch, or neither does
   branched : (rz rd : Reg) (w q : Subst) (d e : Context) (y z : Stepping) (p r : Bool) → p ≡ r →
       is_some (finite.get h.entered rd.number) ≡ true → SameSubst o x w q → row o c here_o.instr ≡ Goes d →
       row x b here_x.instr ≡ Goes e → Beside o home.to (entered_after here_o.instr h.entered) d e →
@@ -237,7 +238,7 @@ module _ (modules : List Object) (joins : List Link) (x : Object) (spelled : IsS
       absurd (true≢false (sym j ∙ sym pr ∙ i))
   branched rz rd w q d e y z p r pr f same eo ex beside (passed i m) (passed j n) = further y z d e eo ex beside m n
 
-  -- a blue branch
+  -- both execute a blue branch
   pub branches : (rz rd : Reg) (w q : Subst) → here_o.instr ≡ BzB rz rd w → here_x.instr ≡ BzB rz rd q →
       SameSubst o x w q →
       is_traced o h.entered (BzB rz rd w) ≡ true → Steps modules joins x world a.number (execute (BzB rz rd w) s [])

@@ -1,4 +1,4 @@
--- Modules that are added in turn are refused in turn.
+-- Modules are tested in the order in which they are added.
 use Rattle.std.proofs.Common.{◌≡◌, ℕ, suc, ◌+◌, List, [], ◌∷◌, ◌++◌, length, Option, Some, None, refl, sym, ap, ◌∙◌}
 use Rattle.std.proofs.Common.{arith}
 use Rattle.std.specs.Option.{option_or}
@@ -7,17 +7,17 @@ use Rattle.ft_types.specs.declared.object.Object.{Object}
 use Rattle.ft_types.specs.declared.object.Cell.{Cell}
 use Rattle.ft_modules.specs.LinkRefusals.{module_refusal, modules_refusal}
 
--- the first of something and nothing
+-- an option, or else `None`
 or_nothing : {X : Type 0} (a : Option X) → option_or a None ≡ a
 or_nothing None = refl
 or_nothing (Some x) = refl
 
--- the first of three
+-- the first of three options
 or_grouped : {X : Type 0} (a b c : Option X) → option_or a (option_or b c) ≡ option_or (option_or a b) c
 or_grouped None b c = refl
 or_grouped (Some x) b c = refl
 
--- one more module after these: what refuses them, or what refuses it
+-- the refusal of modules with one more at the end: theirs, or else that of the last
 one_more : (earlier : List Object) (m : ℕ) (cells : List Cell) (os : List Object) (o : Object) →
     modules_refusal earlier m cells (os ++ o ∷ [])
     ≡ option_or (modules_refusal earlier m cells os) (module_refusal (earlier ++ os) (m + length os) cells o)
@@ -33,7 +33,7 @@ one_more earlier m cells (y ∷ ys) o =
     ∙ or_grouped (module_refusal earlier m cells y) (modules_refusal (earlier ++ y ∷ []) (suc m) cells ys)
     (module_refusal (earlier ++ y ∷ ys) (m + suc (length ys)) cells o)
 
--- one more module after all those before it
+-- likewise if no modules come before them
 pub in_turn : (cells : List Cell) (os : List Object) (o : Object) → modules_refusal [] 0 cells (os ++ o ∷ [])
     ≡ option_or (modules_refusal [] 0 cells os) (module_refusal os (length os) cells o)
 in_turn cells os o =

@@ -1,4 +1,4 @@
--- The nodes of modules, laid one after the other, obey the rules and stand for the same trees.
+-- The nodes of modules, laid one after another, obey the rules and stand for the same trees.
 use Rattle.std.proofs.Common.{◌≡◌, ℕ, ◌+◌, ◌≤◌, List, length, slice_get, Some, refl, sym, subst, arith}
 use Rattle.std.specs.Prelude.{sum_by}
 use Rattle.std.proofs.lemmas.List.{length-map}
@@ -21,7 +21,7 @@ module _ (modules : List Object) (spelled : (m : ℕ) (o : Object) → slice_get
   abbrev all_nodes : List Node
   all_nodes = laid nodes_part nothing_before modules
 
-  -- a module's nodes are among them
+  -- a module's nodes are among them, raised
   laid_stand : (m : ℕ) (o : Object) → slice_get modules m ≡ Some o →
       StandIn o.nodes all_nodes (before_of modules m).nodes
   laid_stand m o e n y f = get_among _ _ (before_of modules m).nodes n _
@@ -45,7 +45,7 @@ module _ (modules : List Object) (spelled : (m : ℕ) (o : Object) → slice_get
         is);
   }
 
-  -- a module's node stands for the same tree there
+  -- a module's node, raised, stands for the same tree
   pub laid_tree : (m n : ℕ) (o : Object) (y : Node) → slice_get modules m ≡ Some o → slice_get o.nodes n ≡ Some y →
       tree_at all_nodes ((before_of modules m).nodes + n) ≡ tree_at o.nodes n
   laid_tree m n o y e f = tree_raised o.nodes all_nodes (before_of modules m).nodes n y (spelled m o e).nodes laid_nodes

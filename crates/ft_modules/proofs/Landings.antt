@@ -1,4 +1,4 @@
--- Where the blocks of modules that are linked without a refusal are sent.
+-- Where the blocks of linkable modules are sent.
 use Rattle.std.proofs.Common.{◌≡◌, ⊎_elim, ℕ, ◌+◌, ◌<◌, ◌≤◌, ◌&&◌, ◌==◌, List, ◌∷◌, length, map, slice_get, Option}
 use Rattle.std.proofs.Common.{Some, None, refl, sym, ap, ◌∙◌, subst, arith, eqb-true, eq-eqb}
 use Rattle.std.specs.Option.{option_map, unwrap_or}
@@ -26,13 +26,13 @@ use Rattle.ft_modules.proofs.World.{before_of, at_address, Lands}
 use Rattle.ft_modules.proofs.SentOn.{like_itself, rises_before, sent_at, stay_at}
 use Rattle.ft_modules.proofs.ModuleInstrs.{sent_by_change, sent_to}
 
--- what is found at a place of a list's options
+-- the start of a block that exists
 pub start_there : (modules : List Object) (m b : ℕ) (o : Object) (y : Block) → slice_get modules m ≡ Some o →
     slice_get o.blocks b ≡ Some y → start_in modules m b ≡ y.start
 start_there modules m b o y e f = ap (λ (u : Option Object). unwrap_or (option_map (λ z. block_start z b) u) 0) e
     ∙ ap (λ (u : Option Block). unwrap_or (option_map start_of u) 0) f
 
--- the code type of a block that is there
+-- the code type of a block that exists
 pub type_there : (modules : List Object) (m b : ℕ) (o : Object) (y : Block) → slice_get modules m ≡ Some o →
     slice_get o.blocks b ≡ Some y → type_in modules m b ≡ y.code_type
 type_there modules m b o y e f = ap (λ (u : Option Object). unwrap_or (option_map (λ z. block_type z b) u) 0) e
@@ -42,7 +42,7 @@ type_there modules m b o y e f = ap (λ (u : Option Object). unwrap_or (option_m
 abbrev in_module : ℕ → ℕ → State → InModule
 in_module m a s = record { number = m; state = at_address a s }
 
--- where block y of a module is sent: where a machine lands there, and the code type of the block at that place
+-- where block y of a module is sent: the block at which a machine lands, and its code type
 pub record Landing (modules : List Object) (joins : List Link) (x : Object) (m : ℕ) (o : Object) (to : ℕ
     × ℕ) (w : ℕ) (y : Block) : Type 0 where
   pub lands : Lands modules joins x m o to.0 w y
@@ -67,11 +67,11 @@ module _ (linkage : LinkMap) (first : Object) (others : List Object) (h : AreLin
   pub is_module : (m : ℕ) (o : Object) → slice_get modules m ≡ Some o → IsModule first.cells o
   is_module m o e = all_there (IsModule first.cells) modules m o h.modules e
 
-  -- where its parts are
+  -- where a module's parts are in the linked object
   pub sits_in : (m : ℕ) (o : Object) → slice_get modules m ≡ Some o → Sits o x (before_of modules m) cs
   sits_in m o e = sits linkage first others m o e (λ j z f. (is_module j z f).spelled)
 
-  -- the numbers behind a link's address
+  -- if instructions of two modules have the same place in the linked object, the modules are the same
   from_here : (m : ℕ) (o : Object) → slice_get modules m ≡ Some o → (a : ℕ) → a < length o.instrs →
       (n : ℕ) (z : Object) → slice_get modules n ≡ Some z → (c : ℕ) → c < length z.instrs →
       (before_of modules m).instrs + a ≡ (before_of modules n).instrs + c → n ≡ m
@@ -84,7 +84,7 @@ module _ (linkage : LinkMap) (first : Object) (others : List Object) (h : AreLin
       (cases_lt n m))
       (cases_lt m n)
 
-  -- the change of a raised address is that of the link at the module's address
+  -- a link changes a block's raised address exactly if it is a link from this block
   test_same : (m : ℕ) (o : Object) (e : slice_get modules m ≡ Some o) (n : ℕ) (y : Block) → slice_get o.blocks n
       ≡ Some y → (l : Link) → IsJoined modules l → ((before_of modules m).instrs + code_address y.start ==
       (change_of modules l).from) ≡ ((l.module_of == m)
@@ -112,7 +112,7 @@ module _ (linkage : LinkMap) (first : Object) (others : List Object) (h : AreLin
       let same = eqb-true _ _ p.1 in
       eq-eqb _ _ (omega (arith, same, offset)))
 
-  -- the change of an address, by its link
+  -- the change of a block's raised address, by its link
   pub change_is : (m : ℕ) (o : Object) (e : slice_get modules m ≡ Some o) (n : ℕ) (y : Block) → slice_get o.blocks n
       ≡ Some y → change_at cs ((before_of modules m).instrs + code_address y.start)
       ≡ option_map (change_of modules) (link_at modules joins m (code_address y.start))

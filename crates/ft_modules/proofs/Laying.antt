@@ -1,4 +1,4 @@
--- Tables laid one after the other: each module's part is in its place, and nothing else is there.
+-- Tables laid one after another: each module's part is in its place, and there is nothing else.
 use Rattle.std.proofs.Common.{◌≡◌, ◌⊎◌, inl, inr, ⊎_elim, ℕ, zero, suc, ◌+◌, ◌-◌, ◌≤◌, List, [], ◌∷◌, ◌++◌, length}
 use Rattle.std.proofs.Common.{take, drop, slice_get, Some, None, refl, sym, ap, ◌∙◌, arith}
 use Rattle.std.specs.Prelude.{slice_range, sum_by}
@@ -10,15 +10,15 @@ use Rattle.ft_types.specs.declared.object.Object.{Object}
 use Rattle.ft_modules.specs.declared.before.Before.{Before}
 use Rattle.ft_modules.specs.Linked.{after_module, before_module, laid}
 
--- ELEMENTS OF JOINED LISTS
+-- ELEMENTS OF APPENDED LISTS
 
--- an element of the second
+-- an element of the second list
 pub get_right : {X : Type 0} (xs ys : List X) (n k : ℕ) → n ≡ length xs + k → slice_get (xs ++ ys) n ≡ slice_get ys k
 get_right [] ys n k e = (let same : n ≡ k = omega arith in ap (slice_get ys) same)
 get_right (x ∷ xs) ys zero k e = absurd (omega (arith, e))
 get_right (x ∷ xs) ys (suc n) k e = get_right xs ys n k (omega (arith, e))
 
--- an element of joined lists is one of the first or of the second
+-- an element of two appended lists is in the first or in the second
 get_joined : {X : Type 0} (xs ys : List X) (n : ℕ) (x : X) → slice_get (xs ++ ys) n ≡ Some x →
     (slice_get xs n ≡ Some x) ⊎ ((k : ℕ) × (n ≡ length xs + k) × (slice_get ys k ≡ Some x))
 get_joined [] ys n x e = inr (n, omega arith, e)
@@ -28,7 +28,7 @@ get_joined (y ∷ xs) ys (suc n) x e = ⊎_elim (λ h. inl h) (λ h. inr (h.0, o
 
 -- PARTS
 
--- a whole with a part in it that begins after n elements
+-- the part is in the whole, after n elements
 pub record Among {X : Type 0} (whole part : List X) (n : ℕ) : Type 0 where
   pub front : List X
   pub back : List X
@@ -44,7 +44,7 @@ get_among whole part n k x a e =
     ap (λ (z : List _). slice_get z (n + k)) a.is ∙ get_right a.front (part ++ a.back) (n + k) k place
     ∙ there_front part a.back k x e
 
--- a stretch of the part
+-- a slice of the part
 pub range_among : {X : Type 0} (whole part : List X) (n a b : ℕ) → Among whole part n → a ≤ b → b ≤ length part →
     slice_range whole (n + a) (n + b) ≡ slice_range part a b
 range_among whole part n a b m le few =
@@ -59,7 +59,7 @@ range_among whole part n a b m le few =
 
 -- TABLES
 
--- a module's part of a table, among the whole table
+-- a module's part of a table is in the whole table, at the module's offset
 pub record Placed {X : Type 0} (part : Before → Object → List X) (offset : Before →
     ℕ) (k : Before) (modules : List Object) (m : ℕ) (o : Object) : Type 0 where
   pub front : List X
@@ -95,7 +95,7 @@ placed part offset grows k (y ∷ ys) (suc m) o e =
       long = omega arith;
     }
 
--- an element of a table is of one module's part
+-- element n of a table is an element of some module's part
 pub record Whence {X : Type 0} (part : Before → Object → List X) (offset : Before →
     ℕ) (k : Before) (modules : List Object) (n : ℕ) (x : X) : Type 0 where
   pub number : ℕ
@@ -105,7 +105,7 @@ pub record Whence {X : Type 0} (part : Before → Object → List X) (offset : B
   pub found : slice_get (part (before_module k modules number) object) place ≡ Some x
   pub counted : offset k + n ≡ offset (before_module k modules number) + place
 
--- each element of a table comes from a module's part
+-- each element of a table is an element of some module's part
 pub whence : {X : Type 0} (part : Before → Object → List X) (offset : Before → ℕ) →
     ((k : Before) (o : Object) → offset (after_module k o) ≡ offset k + length (part k o)) →
     (k : Before) (modules : List Object) (n : ℕ) (x : X) → slice_get (laid part k modules) n ≡ Some x →
@@ -148,7 +148,7 @@ before_next k (y ∷ []) zero o e = let same : y ≡ o = cc in ap (after_module 
 before_next k (y ∷ z ∷ zs) zero o e = let same : y ≡ o = cc in ap (after_module k) same
 before_next k (y ∷ ys) (suc m) o e = before_next (after_module k y) ys m o e
 
--- the length of a table, from the last module
+-- the length of a table is the offset after the last module
 pub laid_to_end : {X : Type 0} (part : Before → Object → List X) (offset : Before → ℕ) →
     ((k : Before) (o : Object) → offset (after_module k o) ≡ offset k + length (part k o)) →
     (k : Before) (modules : List Object) (m : ℕ) (o : Object) → slice_get modules m ≡ Some o → slice_get modules (suc m)

@@ -1,4 +1,4 @@
--- Whole blocks: starting contexts, and that the rows of a block of the linked object apply.
+-- Starting contexts, and why the typing rules of a whole block of the linked object apply.
 use Rattle.std.proofs.Common.{◌≡◌, ℕ, suc, Bool, true, false, List, [], ◌∷◌, map, Option, Some, None, refl, sym, ap}
 use Rattle.std.proofs.Common.{◌∙◌, subst, if◌then◌else◌}
 use Rattle.std.specs.List.{AllZip}
@@ -31,11 +31,11 @@ pub memory_form_same : (o x : Object) (n m : ℕ) → SameMemory o x n m → mem
 unfolding memory_form_of
 memory_form_same o x n m h = ap norm_memory h
 
--- rows that say the same make the same known of a register
+-- register rows that agree give a register the same type
 row_same : (o x : Object) (r q : RegType) → SameRow o x r q → typed_row o r ≡ typed_row x q
 row_same o x r q h = λ i. record { colour = h.colour i; basic = h.basic i; form = form_same o x r.expr q.expr h.tree i }
 
--- rows that say the same make the same known
+-- lists of register rows that agree give all registers the same types
 registers_same : (o x : Object) (m : TypedRegisters) (rs qs : List RegType) → AllZip (SameRow o x) rs qs →
     registers_after o m rs ≡ registers_after x m qs
 unfolding registers_after
@@ -47,7 +47,7 @@ registers_same o x m (r ∷ rs) (q ∷ qs) l =
     ap (λ (z : TypedRegisters). registers_after o z rs) (λ i. finite.insert m (a.reg i) (row_same o x r q a i))
     ∙ registers_same o x (finite.insert m q.reg.number (typed_row x q)) rs qs l.1
 
--- queue rows that say the same make the same static queue
+-- queue rows that agree give the same static queue
 pairs_same : (o x : Object) (rs qs : List (ℕ × ℕ)) → AllZip (SamePair o x) rs qs → map (queue_pair o) rs
     ≡ map (queue_pair x) qs
 pairs_same o x [] [] l = refl
@@ -57,7 +57,7 @@ pairs_same o x (r ∷ rs) (q ∷ qs) l =
     let a = l.0 in
     λ i. (form_same o x r.0 q.0 a.address i, form_same o x r.1 q.1 a.value i) ∷ pairs_same o x rs qs l.1 i
 
--- blocks of code types that say the same begin with the same context
+-- code types that agree have the same starting context
 pub starts_same : (o x : Object) (t u : ℕ) → LikeTypes o t x u → start_context o t ≡ start_context x u
 starts_same o x t u l = λ i. record {
   ints = l.ints i;
@@ -67,7 +67,7 @@ starts_same o x t u l = λ i. record {
   memory = memory_form_same o x (memory_of o t) (memory_of x u) l.memory i;
 }
 
--- the starting contexts of like code types correspond, with no register entered
+-- the starting contexts of code types that agree correspond, with no register entered
 pub start_beside : (o x : Object) (to : ℕ → ℕ × ℕ) (t u : ℕ) → LikeTypes o t x u →
     Beside o to finite.empty (start_context o t) (start_context x u)
 start_beside o x to t u l = record {
@@ -82,7 +82,7 @@ start_beside o x to t u l = record {
 
 -- BLOCKS
 
--- the second outcome if the first ends the block
+-- if the first rule ends the block, so does the second
 pub both_ends : (R : Context → Context → Type 0) (y z : Outcome) → Both R y z → y ≡ Ends → z ≡ Ends
 unfolding Both
 both_ends R (Goes c) z h e = cc
@@ -91,13 +91,13 @@ both_ends R Ends Ends h e = refl
 both_ends R Ends (Fails p) h e = absurd h
 both_ends R (Fails p) z h e = cc
 
--- the second outcome if the first goes on
+-- the second rule leads on, to a context that R relates to the first
 pub record GoesBeside (R : Context → Context → Type 0) (c : Context) (z : Outcome) : Type 0 where
   pub context : Context
   pub goes : z ≡ Goes context
   pub beside : R c context
 
--- the second outcome if the first goes on
+-- it does if the first rule leads on
 pub both_go : (R : Context → Context → Type 0) (y z : Outcome) (c : Context) → Both R y z → y ≡ Goes c →
     GoesBeside R c z
 unfolding Both
@@ -108,12 +108,12 @@ both_go R (Goes b) (Fails p) c h e = absurd h
 both_go R Ends z c h e = cc
 both_go R (Fails p) z c h e = cc
 
--- what the walk says of its first instruction, and of the rest
+-- the walk passes this instruction, and then the rest
 pub record Walked (o : Object) (e : Entered) (k : ℕ) (i : Instr) (is : List Instr) : Type 0 where
   pub first : is_traced o e i ≡ true
   pub rest : code_walk o (entered_after i e) (suc k) is ≡ None
 
--- the walk's first instruction, by its test
+-- a walk that does not fail does both, by the test of the instruction
 walked_by : (o : Object) (e : Entered) (k : ℕ) (i : Instr) (is : List Instr) (b : Bool) → is_traced o e i ≡ b →
     (if b then code_walk o (entered_after i e) (suc k) is else Some k) ≡ None → Walked o e k i is
 walked_by o e k i is true f h = record { first = f; rest = h }
@@ -125,7 +125,7 @@ pub walked_first : (o : Object) (e : Entered) (k : ℕ) (i : Instr) (is : List I
 unfolding code_walk
 walked_first o e k i is h = walked_by o e k i is (is_traced o e i) refl h
 
--- if the rows of a module's instructions apply and the walk passes them, those of the linked object's apply
+-- if the typing rules of a module's instructions apply and the walk passes them, so do those in the linked object
 pub applies_beside : (o x : Object) (to : ℕ → ℕ × ℕ) → AreSent o x to →
     (e : Entered) (c b : Context) (k : ℕ) (is js : List Instr) → Beside o to e c b → code_walk o e k is ≡ None →
     AllZip (IsInstrOf o x to) is js → Applies o c is → Applies x b js

@@ -1,5 +1,5 @@
--- A module's contexts and those of the linked object: equal except for the entered registers and the state of d, where
--- the code address and its code type are what the module's address is sent to.
+-- A module's contexts correspond to those of the linked object: they are equal except for entered registers and the
+-- state of d, in which the code address and its code type are what the module's address is sent to.
 use Rattle.std.proofs.Common.{◌≡◌, ℕ, Bool, true, false, cond, not, length, nat_le, ◌==◌, Option, Some, None, is_some}
 use Rattle.std.proofs.Common.{refl, subst}
 use Rattle.std.specs.List.{list_all}
@@ -31,19 +31,19 @@ use Rattle.ft_modules.specs.Linked.{moves_to}
 use Rattle.ft_modules.proofs.Elements.{get-remove}
 use Rattle.ft_modules.proofs.Both.{Both}
 
--- what holds of a code address of the module: it is a word, and it is sent to where a block of such a code type begins
+-- a code address of the module is a word, and is sent to a block of the linked object whose code type agrees
 pub record Sends (o x : Object) (to : ℕ → ℕ × ℕ) (w t : ℕ) : Type 0 where
   pub is_word : IsWord w
   pub sent_word : IsWord (to w).0
   pub there : code_type_at x (to w).0 ≡ Some (to w).1
   pub alike : LikeTypes o t x (to w).1
 
--- two objects with the same cells; one's code addresses are sent to the other's
+-- two objects with the same cells, where each code address of the first is sent to one of the second
 pub record AreSent (o x : Object) (to : ℕ → ℕ × ℕ) : Type 0 where
   pub cells : x.cells ≡ o.cells
   pub sends : (w t : ℕ) → code_type_at o w ≡ Some t → Sends o x to w t
 
--- substitutions that put the same
+-- two substitutions that do the same
 pub record SameSubst (o x : Object) (u q : Subst) : Type 0 where
   pub forms : replacement o u ≡ replacement x q
   pub count : length (rows_of o u) ≡ length (rows_of x q)
@@ -52,23 +52,23 @@ pub record SameSubst (o x : Object) (u q : Subst) : Type 0 where
   pub memory_scope : scope_of o u.memory ≡ scope_of x q.memory
   pub values : (v : Valuation) → valuation_by o u v ≡ valuation_by x q v
 
--- a `mov`, by the code type that it claims
+-- the linked object's version of a `mov`, by the code type that it claims
 abbrev pub IsMovOf : (ℕ → ℕ × ℕ) → Reg → Coloured → Basic → Instr → Option ℕ → Type 0
 IsMovOf to rd x b j None = j ≡ Mov rd x b
 IsMovOf to rd x b j (Some t) = j ≡ moves_to rd x (to x.word).0 (to x.word).1
 
--- an instruction of the linked object, of a module's one
+-- the linked object's version of a module's instruction
 abbrev pub IsInstrOf : Object → Object → (ℕ → ℕ × ℕ) → Instr → Instr → Type 0
 IsInstrOf o x to (Mov rd value basic) j = IsMovOf to rd value basic j (code_claimed basic)
 IsInstrOf o x to (JmpB rd u) j = (q : Subst) × (j ≡ JmpB rd q) × SameSubst o x u q
 IsInstrOf o x to (BzB rz rd u) j = (q : Subst) × (j ≡ BzB rz rd q) × SameSubst o x u q
 IsInstrOf o x to i j = j ≡ i
 
--- what is known of an entered register
+-- the type of an entered register
 abbrev pub addressed : Colour → ℕ → ℕ → Typed
 addressed k t w = record { colour = k; basic = code t; form = constant w }
 
--- a register that is entered with code type t: what is known of it on either side
+-- the types of a register that is entered with code type t, in both contexts
 pub record IsEntered (o : Object) (to : ℕ → ℕ × ℕ) (t : ℕ) (y z : Option Typed) : Type 0 where
   pub colour : Colour
   pub word : ℕ
@@ -76,12 +76,12 @@ pub record IsEntered (o : Object) (to : ℕ → ℕ × ℕ) (t : ℕ) (y z : Opt
   pub known : y ≡ Some (addressed colour t word)
   pub beside : z ≡ Some (addressed colour (to word).1 (to word).0)
 
--- what is known of a register on either side, by the code type with which it is entered
+-- the types of a register in both contexts, by the code type with which it is entered, if it is
 abbrev pub RegistersBeside : Object → (ℕ → ℕ × ℕ) → Option ℕ → Option Typed → Option Typed → Type 0
 RegistersBeside o to None y z = y ≡ z
 RegistersBeside o to (Some t) y z = IsEntered o to t y z
 
--- the state of d on either side
+-- the states of d in both contexts, if d holds a target
 pub record IsTarget (o : Object) (to : ℕ → ℕ × ℕ) (t : ℕ) (f : Polynomial) (d : StateOfD) (make : ℕ → Polynomial →
     StateOfD) : Type 0 where
   pub word : ℕ
@@ -89,13 +89,13 @@ pub record IsTarget (o : Object) (to : ℕ → ℕ × ℕ) (t : ℕ) (f : Polyno
   pub form : f ≡ constant word
   pub beside : d ≡ make (to word).1 (constant (to word).0)
 
--- what is known of d on either side
+-- the states of d in both contexts
 abbrev pub DBeside : Object → (ℕ → ℕ × ℕ) → StateOfD → StateOfD → Type 0
 DBeside o to d_zero d = d ≡ d_zero
 DBeside o to (d_code t f) d = IsTarget o to t f d d_code
 DBeside o to (d_conditional z t f) d = IsTarget o to t f d (d_conditional z)
 
--- contexts on either side, with these registers entered
+-- the two contexts correspond, with these registers entered
 pub record Beside (o : Object) (to : ℕ → ℕ × ℕ) (e : Entered) (c b : Context) : Type 0 where
   pub ints : c.ints ≡ b.ints
   pub registers : (r : ℕ) → RegistersBeside o to (finite.get e r) (typed c r) (typed b r)
@@ -105,12 +105,12 @@ pub record Beside (o : Object) (to : ℕ → ℕ × ℕ) (e : Entered) (c b : Co
 
 -- REGISTERS
 
--- the test of an option
+-- an option that is not `Some` is `None`
 some_free : (u : Option ℕ) → not (is_some u) ≡ true → u ≡ None
 some_free None e = refl
 some_free (Some t) e = cc
 
--- a register that is not entered is known alike
+-- a register that is not entered has the same type in both contexts
 pub free_at : (o : Object) (to : ℕ → ℕ × ℕ) (e : Entered) (c b : Context) (r : ℕ) → Beside o to e c b →
     not (is_some (finite.get e r)) ≡ true → typed c r ≡ typed b r
 free_at o to e c b r h f = subst (λ (u : Option ℕ). RegistersBeside o to u (typed c r) (typed b r))
@@ -120,35 +120,35 @@ pub free_same : (o : Object) (to : ℕ → ℕ × ℕ) (e : Entered) (c b : Cont
     ≡ true → typed c r.number ≡ typed b r.number
 free_same o to e c b r h f = free_at o to e c b r.number h f
 
--- a register that is entered
+-- a target register that is entered
 pub record Target (o : Object) (to : ℕ → ℕ × ℕ) (e : Entered) (c b : Context) (r : Reg) : Type 0 where
   pub code_type : ℕ
   pub entered : finite.get e r.number ≡ Some code_type
   pub is : IsEntered o to code_type (typed c r.number) (typed b r.number)
 
--- a register that is entered, by its code type
+-- a register is one, by the code type with which it is entered
 target_by : (o : Object) (to : ℕ → ℕ × ℕ) (e : Entered) (c b : Context) (r : Reg) (u : Option ℕ) → finite.get e r.number
     ≡ u → RegistersBeside o to u (typed c r.number) (typed b r.number) → is_some u ≡ true → Target o to e c b r
 target_by o to e c b r None g h t = cc
 target_by o to e c b r (Some u) g h t = record { code_type = u; entered = g; is = h }
 
--- a register that the walk takes as a target
+-- a register is one if the walk takes it as a target
 pub target_there : (o : Object) (to : ℕ → ℕ × ℕ) (e : Entered) (c b : Context) (r : Reg) → Beside o to e c b →
     is_entered e r ≡ true → Target o to e c b r
 target_there o to e c b r h t = target_by o to e c b r (finite.get e r.number) refl (h.registers r.number) t
 
--- a target of a blue jump is entered
+-- the target register of a blue jump is entered
 pub free_target_entered : (o : Object) (e : Entered) (u : Option ℕ) → is_free_target o e u ≡ true → is_some u ≡ true
 free_target_entered o e None h = cc
 free_target_entered o e (Some t) h = refl
 
--- the target of a blue jump, with a code type that types no entered register
+-- the target of a blue jump: its code type has no row for an entered register
 pub record FreeTarget (o : Object) (to : ℕ → ℕ × ℕ) (e : Entered) (c b : Context) (r : Reg) : Type 0 where
   pub code_type : ℕ
   pub free : are_free e (reg_rows o code_type) ≡ true
   pub is : IsEntered o to code_type (typed c r.number) (typed b r.number)
 
--- the target of a blue jump that the walk passes
+-- the target of a blue jump that the walk passes is one
 pub free_target_there : (o : Object) (to : ℕ → ℕ × ℕ) (e : Entered) (c b : Context) (r : Reg) → Beside o to e c b →
     is_free_target o e (finite.get e r.number) ≡ true → FreeTarget o to e c b r
 free_target_there o to e c b r h t =
@@ -159,20 +159,20 @@ free_target_there o to e c b r h t =
       is = g.is;
     }
 
--- a register is written on both sides
+-- the types of a register in both contexts, after a write
 wrote_by : (o : Object) (to : ℕ → ℕ × ℕ) (a : Bool) (u v : Option ℕ) (t t' : Typed) (y z : Option Typed) →
     RegistersBeside o to v (Some t) (Some t') → RegistersBeside o to u y z →
     RegistersBeside o to (cond a v u) (cond a (Some t) y) (cond a (Some t') z)
 wrote_by o to true u v t t' y z h k = h
 wrote_by o to false u v t t' y z h k = k
 
--- what is entered after a write
+-- the entered registers after a write
 pub entered_get : (e : Entered) (r : ℕ) (v : Option ℕ) (q : ℕ) → finite.get (entered_with r v e) q
     ≡ cond (q == r) v (finite.get e q)
 entered_get e r None q = get-remove e r q
 entered_get e r (Some t) q = get-insert e r t q
 
--- contexts that correspond still do if a register is written on both sides
+-- contexts still correspond after a write to the same register in both
 pub written : (o : Object) (to : ℕ → ℕ × ℕ) (e : Entered) (c b : Context) (r : ℕ) (v : Option ℕ) (t t' : Typed) →
     Beside o to e c b → RegistersBeside o to v (Some t) (Some t') →
     Beside o to (entered_with r v e) (with_type r t c) (with_type r t' b)
@@ -187,7 +187,7 @@ written o to e c b r v t t' h k = record {
 
 -- THE STATE OF D
 
--- if Zero is required
+-- rules that require d to be Zero
 pub both_zero : (R : Context → Context → Type 0) (o : Object) (to : ℕ → ℕ × ℕ) (d d' : StateOfD) (x x' : Outcome) →
     DBeside o to d d' → (d ≡ d_zero → d' ≡ d_zero → Both R x x') → Both R (for_zero d x) (for_zero d' x')
 unfolding Both for_zero
@@ -195,7 +195,7 @@ both_zero R o to d_zero d' x x' h k = rw h (k refl h)
 both_zero R o to (d_code t f) d' x x' h k = tt
 both_zero R o to (d_conditional z t f) d' x x' h k = tt
 
--- if Code is required
+-- rules that require d to be Code
 pub both_target : (R : Context → Context → Type 0) (o : Object) (to : ℕ → ℕ × ℕ) (d d' : StateOfD) (f f' : ℕ →
     Polynomial → Outcome) → DBeside o to d d' → ((w t : ℕ) → code_type_at o w ≡ Some t →
     Both R (f t (constant w)) (f' (to w).1 (constant (to w).0))) → Both R (for_target d f) (for_target d' f')
@@ -204,7 +204,7 @@ both_target R o to d_zero d' f f' h k = tt
 both_target R o to (d_code t p) d' f f' h k = rw (h.form, h.beside) (k h.word t h.address)
 both_target R o to (d_conditional z t p) d' f f' h k = tt
 
--- if Conditional is required
+-- rules that require d to be Conditional
 pub both_conditional : (R : Context → Context → Type 0) (o : Object) (to : ℕ → ℕ
     × ℕ) (d d' : StateOfD) (f f' : Polynomial → ℕ → Polynomial → Outcome) → DBeside o to d d' →
     ((z : Polynomial) (w t : ℕ) → code_type_at o w ≡ Some t →

@@ -1,4 +1,4 @@
--- The typing rows of a module's instructions compared with those of the linked object's.
+-- The typing rules of a module's instructions, compared with those of the linked object's.
 use Rattle.std.proofs.Common.{◌≡◌, ℕ, zero, suc, Bool, true, false, not, ◌&&◌, ◌||◌, ◌+◌, List, [], ◌∷◌, ◌++◌, length}
 use Rattle.std.proofs.Common.{map, nat_le, nat_lt, ◌==◌, Option, Some, None, is_some, eqb-true, refl, sym, ap, ◌∙◌}
 use Rattle.std.proofs.Common.{subst, eq-eqb}
@@ -48,21 +48,21 @@ use Rattle.ft_modules.proofs.LinkedContexts.{AreSent, SameSubst, IsMovOf, IsInst
 use Rattle.ft_modules.proofs.LinkedContexts.{target_there, free_target_there, written, both_zero, both_target}
 use Rattle.ft_modules.proofs.LinkedContexts.{both_conditional}
 
--- WHAT LEADS TO A CODE TYPE
+-- TRANSFERS TO A CODE TYPE
 
--- the same tree has the same form after a replacement
+-- nodes with the same tree have the same form after a substitution
 after_same : (o x : Object) (p : Replacement) (n m : ℕ) → SameInteger o x n m → integer_form_after o p n
     ≡ integer_form_after x p m
 unfolding integer_form_after
 after_same o x p n m h = ap (λ (e : Integer). norm_under e p.integers p.memory) h
 
--- the same memory has the same form after a replacement
+-- nodes of memories with the same tree have the same form after a substitution
 memory_after_same : (o x : Object) (p : Replacement) (n m : ℕ) → SameMemory o x n m → memory_form_after o p n
     ≡ memory_form_after x p m
 unfolding memory_form_after
 memory_after_same o x p n m h = ap (λ (e : Memory). norm_memory_under e p.integers p.memory) h
 
--- registers about which the same is known are like rows that say the same
+-- a register is as one row requires exactly if it is as a row that agrees requires
 like_row : (o x : Object) (p : Replacement) (y : Option Typed) (r q : RegType) → SameRow o x r q → is_like o p y r
     ≡ is_like x p y q
 unfolding is_like
@@ -70,12 +70,12 @@ like_row o x p None r q h = refl
 like_row o x p (Some t) r q h = λ i. same_colour t.colour (h.colour i) && is_seen_as t.basic (h.basic i)
     && same_polynomial t.form (after_same o x p r.expr q.expr h.tree i)
 
--- and registers about which the same is known on both sides
+-- likewise for registers of the same type
 like_same : (o x : Object) (p : Replacement) (y z : Option Typed) (r q : RegType) → y ≡ z → SameRow o x r q →
     is_like o p y r ≡ is_like x p z q
 like_same o x p y z r q e h = ap (λ (u : Option Typed). is_like o p u r) e ∙ like_row o x p z r q h
 
--- all rows of a code type that types no entered register
+-- likewise for all rows of a code type without rows for entered registers
 rows_same : (o x : Object) (to : ℕ → ℕ × ℕ) (e : Entered) (c b : Context) (p : Replacement) (rs qs : List RegType) →
     Beside o to e c b → are_free e rs ≡ true → AllZip (SameRow o x) rs qs → are_like o p c rs ≡ are_like x p b qs
 rows_same o x to e c b p [] [] h f l = refl
@@ -88,7 +88,7 @@ rows_same o x to e c b p (r ∷ rs) (q ∷ qs) h f l =
     λ i. like_same o x p (typed c r.reg.number) (typed b q.reg.number) r q known row i
     && rows_same o x to e c b p rs qs h a.1 l.1 i
 
--- the static queue against queue rows that say the same
+-- likewise for the static queue and queue rows that agree
 queue_same : (o x : Object) (p : Replacement) (es : List FormPair) (rs qs : List (ℕ × ℕ)) →
     AllZip (SamePair o x) rs qs → is_queue_like o p es rs ≡ is_queue_like x p es qs
 unfolding is_queue_like
@@ -104,13 +104,13 @@ queue_same o x p (e ∷ es) (r ∷ rs) (q ∷ qs) l =
     λ i. same_polynomial e.0 (after_same o x p r.0 q.0 a.address i)
     && same_polynomial e.1 (after_same o x p r.1 q.1 a.value i) && queue_same o x p es rs qs l.1 i
 
--- substitutions that put the same fit code types that say the same
+-- substitutions that do the same fit code types that agree
 annotated_same : (o x : Object) (n : ℕ) (u q : Subst) (t k : ℕ) → SameSubst o x u q → ints_of o t ≡ ints_of x k →
     is_annotated o n u t ≡ is_annotated x n q k
 unfolding is_annotated
 annotated_same o x n u q t k s e = λ i. (s.count i == e i) && s.scopes n i && nat_le (s.memory_scope i) n
 
--- a transfer, to code types that say the same
+-- a transfer to code types that agree
 pub both_leads : (R : Context → Context → Type 0) (o x : Object) (to : ℕ → ℕ × ℕ) (e : Entered) (c b : Context)
     (u q : Subst) (t k : ℕ) (y z : Outcome) → Beside o to e c b → SameSubst o x u q → LikeTypes o t x k →
     are_free e (reg_rows o t) ≡ true → Both R y z → Both R (leads o u t c y) (leads x q k b z)
@@ -145,7 +145,7 @@ both_leads R o x to e c b u q t k y z h s l f both =
 
 -- MOVES AND TARGETS
 
--- no claim of a code type: the word has the type in both
+-- a word that has a type other than a code type in one object has it in the other too
 has_same : (o x : Object) (w n : ℕ) (base : Base) → x.cells ≡ o.cells → code_over n base ≡ None →
     has_type_over o w n base ≡ true → has_type_over x w n base ≡ true
 unfolding cell_of
@@ -153,19 +153,19 @@ has_same o x w zero Int e k h = refl
 has_same o x w zero (Code t) e k h = cc
 has_same o x w (suc n) base e k h = rw e h
 
--- a run of cells is of the same type in both
+-- a run of cells has the same type in both objects
 run_same : (o x : Object) (first n : ℕ) → x.cells ≡ o.cells → run_type o first n ≡ run_type x first n
 unfolding run_type
 run_same o x first n e = λ i. only_referable (common_type (map basic_of (slice_range (sym e i) first (first + n))))
 
--- constants are equal if their words are
+-- words with the same constant form are equal
 constant_word : (w v : ℕ) → IsWord w → IsWord v → constant w ≡ constant v → w ≡ v
 constant_word w v a b e =
     let s : Valuation = record { integers = []; memory = finite.empty } in
     sym (mod-eq_of_lt a) ∙ sym (value_constant w s) ∙ ap (λ (p : Polynomial). value_polynomial p s) e
     ∙ value_constant v s ∙ mod-eq_of_lt b
 
--- two targets that are the same in the module are sent to the same
+-- equal targets are sent to the same target
 targets_same : (o x : Object) (to : ℕ → ℕ × ℕ) (w t v u : ℕ) → AreSent o x to → code_type_at o w ≡ Some t →
     code_type_at o v ≡ Some u → ((t == u) && same_polynomial (constant w) (constant v)) ≡ true →
     (((to w).1 == (to v).1) && same_polynomial (constant (to w).0) (constant (to v).0)) ≡ true
@@ -178,11 +178,11 @@ targets_same o x to w t v u a iw iv h =
 
 module _ (o x : Object) (to : ℕ → ℕ × ℕ) (a : AreSent o x to) (e : Entered) (c b : Context) (h : Beside o to e c b)
   where
-    -- contexts that correspond after an instruction
+    -- the contexts correspond after an instruction
     abbrev R : Instr → Context → Context → Type 0
     R i = Beside o to (entered_after i e)
 
-    -- rows that correspond
+    -- the outcomes of the rules correspond
     abbrev B : Instr → Instr → Type 0
     B i j = Both (R i) (row o c i) (row x b j)
 
@@ -222,7 +222,7 @@ module _ (o x : Object) (to : ℕ → ℕ × ℕ) (a : AreSent o x to) (e : Ente
               })),
         )))
 
-    -- the test of a target's colour, of its type and of d, on both sides
+    -- a green jump
     jump_green_row : (rd : Reg) → is_entered e rd ≡ true → Both (R (JmpG rd)) (row o c (JmpG rd)) (row x b (JmpG rd))
     jump_green_row rd f =
         let g = target_there o to e c b rd h f in
@@ -304,11 +304,11 @@ module _ (o x : Object) (to : ℕ → ℕ × ℕ) (a : AreSent o x to) (e : Ente
     seen_same Green = λ i. pending_memory (h.memory i) (h.queue i)
     seen_same Blue = h.memory
 
-    -- a register that is read and not entered is known alike
+    -- a register that is read and not entered has the same type in both contexts
     read_same : (p r : ℕ) → not (is_some (finite.get e p)) ≡ true → (p == r) ≡ true → typed b r ≡ typed c r
     read_same p r f k = subst (λ n. typed b n ≡ typed c n) (eqb-true p r k) (sym (free_at o to e c b p h f))
 
-    -- all registers that are read are known alike
+    -- all registers that an instruction reads have the same types in both contexts
     reads_same : (p q : Option ℕ) → both_free e p q ≡ true → (r : ℕ) → is_one_of p q r ≡ true → typed b r ≡ typed c r
     reads_same (Some p) (Some q) f r k = by_test (p == r) refl
       where
@@ -319,7 +319,7 @@ module _ (o x : Object) (to : ℕ → ℕ × ℕ) (a : AreSent o x to) (e : Ente
     reads_same None (Some q) f r k = read_same q r f k
     reads_same None None f r k = cc
 
-    -- a write of what is known on both sides
+    -- a write of the same type in both contexts
     wrote_beside : (i : Instr) (r : ℕ) → writes i ≡ Some r → claimed i ≡ None → (u v : Option Typed) (p q : Premise) → v
         ≡ u → Both (R i) (write_row r c u p) (write_row r b v q)
     unfolding write_row Both
@@ -328,7 +328,7 @@ module _ (o x : Object) (to : ℕ → ℕ × ℕ) (a : AreSent o x to) (e : Ente
         (λ k. entered_past (sym w k) (sym n k) e) (written o to e c b r None t t h refl))
     wrote_beside i r w n None v p q s = tt
 
-    -- an instruction that writes a register and is no `mov`
+    -- an instruction that writes a register and is not a `mov`
     write_beside : (i : Instr) (r : ℕ) → writes i ≡ Some r → claimed i ≡ None →
         ((rd : Reg) (v : Coloured) (y : Basic) → i ≡ Mov rd v y → ⊥) →
         both_free e (first_read i) (second_read i) ≡ true → Both (R i) (row o c i) (row x b i)
@@ -342,7 +342,7 @@ module _ (o x : Object) (to : ℕ → ℕ × ℕ) (a : AreSent o x to) (e : Ente
         (subst (λ k. Both (R i) (write_row r c (gives o c i) y.failing) k) (sym z.row_is)
         (wrote_beside i r w n (gives o c i) (gives x b i) y.failing z.failing same))
 
-    -- a row of a module's instruction that the walk passes, compared with that of the linked object's
+    -- the outcomes of the rules correspond, if the walk passes the module's instruction
     pub row_beside : (i j : Instr) → is_traced o e i ≡ true → IsInstrOf o x to i j →
         Both (Beside o to (entered_after i e)) (row o c i) (row x b j)
     row_beside (Mov rd v basic) j f is = mov_by rd v basic.refs basic.base j (code_claimed basic) refl is

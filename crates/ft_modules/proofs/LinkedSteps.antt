@@ -1,4 +1,4 @@
--- The modules' run and the linked object's run: one step from states that correspond.
+-- One step of the modules' run and of the linked object's run, from states that correspond.
 use Rattle.std.proofs.Common.{◌≡◌, ◌≢◌, ◌⊎◌, inl, inr, ℕ, true, false, List, [], length, slice_get, Option, Some}
 use Rattle.std.proofs.Common.{None, refl, sym, ap, ◌∙◌, subst}
 use Rattle.ft_isa.specs.Words.{IsWord}
@@ -69,7 +69,7 @@ module _ (modules : List Object) (joins : List Link) (x : Object) (spelled : IsS
   abbrev here_x : Here x h.other h.other_at.number
   here_x = here x h.other accepted h.other_at
 
-  -- instructions that stay in their block
+  -- both execute an instruction that stays in its block
   stays : After (GoesOn o v s [] (execute here_o.instr s [])) ⊥ (row o c here_o.instr) →
       After (GoesOn x u t [] (execute here_x.instr t [])) ⊥ (row x b here_x.instr) →
       ((execute here_o.instr s []).state.status ≡ Running → (execute here_x.instr t []).state.status ≡ Running →
@@ -86,7 +86,7 @@ module _ (modules : List Object) (joins : List Link) (x : Object) (spelled : IsS
             go gx;
       }
 
-  -- instructions about which this is known
+  -- likewise for given instructions
   stays_as : (i j : Instr) → here_o.instr ≡ i → here_x.instr ≡ j →
       After (GoesOn o v s [] (execute i s [])) ⊥ (row o c i) → After (GoesOn x u t [] (execute j t [])) ⊥ (row x b j) →
       ((execute i s []).state.status ≡ Running → (execute j t []).state.status ≡ Running → (execute i s []).output
@@ -102,7 +102,7 @@ module _ (modules : List Object) (joins : List Link) (x : Object) (spelled : IsS
       (subst (λ (z : Instr). (execute i s []).state.status ≡ Running → (execute z t []).state.status ≡ Running →
       (execute i s []).output ≡ (execute z t []).output) (sym ej) out))))
 
-  -- a `mov`
+  -- both execute a `mov`
   moves : (rd : Reg) (y : Coloured) (basic : Basic) (j : Instr) (n : Option ℕ) → here_o.instr ≡ Mov rd y basic →
       here_x.instr ≡ j → IsMovOf home.to rd y basic j n → IsWord y.word → IsInstr (length x.types) (length x.cells) j →
       Steps modules joins x world a.number (execute (Mov rd y basic) s []) (execute j t [])
@@ -120,7 +120,7 @@ module _ (modules : List Object) (joins : List Link) (x : Object) (spelled : IsS
       ∙ is) (mov_row o v c s [] ⊥ rd y basic below h.fits.context)
       (mov_row x u b t [] ⊥ rd _ _ k'.0 h.other_fits.context) (λ _ _. refl))
 
-  -- an instruction that stays in its block and has no output
+  -- both execute an instruction that stays in its block and has no output
   stays_silent : (i j : Instr) → here_o.instr ≡ i → here_x.instr ≡ j → j ≡ i → subst_of i ≡ None → i ≢ Halt →
       is_blue_store i ≡ false → IsInstr (length o.types) (length o.cells) i →
       IsInstr (length x.types) (length x.cells) j →
@@ -131,7 +131,7 @@ module _ (modules : List Object) (joins : List Link) (x : Object) (spelled : IsS
       (staying_row x u b t [] ⊥ i plain going spelled.few_cells (subst (IsInstr (length x.types) (length x.cells)) is l)
       h.other_fits.context) (λ _ _. silent i s still ∙ sym (silent i t still)))
 
-  -- an instruction that both execute
+  -- both execute given instructions
   executed_by : (i j : Instr) → here_o.instr ≡ i → here_x.instr ≡ j → IsInstrOf o x home.to i j →
       is_traced o h.entered i ≡ true → IsInstr (length o.types) (length o.cells) i →
       IsInstr (length x.types) (length x.cells) j →
@@ -157,7 +157,7 @@ module _ (modules : List Object) (joins : List Link) (x : Object) (spelled : IsS
       (record { output = refl; after = both_ended refl refl })
   executed_by i j eo ex is f k l = stays_silent i j eo ex is refl (λ e. cc) refl k l
 
-  -- the instructions at both places, executed
+  -- both execute the instructions at their places
   executed : Steps modules joins x world a.number (execute here_o.instr s []) (execute here_x.instr t [])
   executed = executed_by here_o.instr here_x.instr refl refl (related modules joins x spelled accepted world a t h)
       (walked modules joins x spelled accepted world a t h).first
@@ -166,7 +166,7 @@ module _ (modules : List Object) (joins : List Link) (x : Object) (spelled : IsS
       (all_there (IsInstr (length x.types) (length x.cells)) x.instrs (instr_number h.other) here_x.instr spelled.instrs
       here_x.there)
 
-  -- both fetch
+  -- both fetch the instructions at their places
   fetched_both : SameFetched (Some here_o.instr) (Some here_x.instr) →
       Steps modules joins x world a.number (quiet (record s { fetched = Some here_o.instr }) [])
       (quiet (record t { fetched = Some here_x.instr }) [])
@@ -215,13 +215,13 @@ module _ (modules : List Object) (joins : List Link) (x : Object) (spelled : IsS
     });
   }
 
-  -- what is fetched is the instruction at the place
+  -- a fetched instruction is the one at the place
   fetched_is : (o' : Object) (i k : Instr) (f : Option Instr) (g : Option Instr) → g ≡ Some k → f ≡ Some i →
       (f ≡ None) ⊎ (f ≡ g) → k ≡ i
   fetched_is o' i k f g e fi (inl n) = cc
   fetched_is o' i k f g e fi (inr m) = cc
 
-  -- steps that are equal to these
+  -- a fact about two steps, rewritten by equations
   steps_as : (p q y z : Stepping) → p ≡ y → q ≡ z → Steps modules joins x world a.number y z →
       Steps modules joins x world a.number p q
   steps_as p q y z e f g = subst (λ (k : Stepping). Steps modules joins x world a.number k q) (sym e)

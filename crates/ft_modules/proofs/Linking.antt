@@ -1,4 +1,4 @@
--- The laws of linked objects.
+-- The laws of linked objects, proved.
 use Rattle.std.proofs.Common.{ℕ, List, [], ◌∷◌, Option, None, refl, sym, ap, ◌∙◌, subst}
 use Rattle.ft_isa.specs.declared.output.Output.{Output}
 use Rattle.ft_isa.specs.declared.plan.Strike.{Strike}
@@ -19,7 +19,7 @@ use Rattle.ft_modules.proofs.AcceptedLinked.{accepted_linked, linked_world, firs
 use Rattle.ft_modules.proofs.Runs.{SameRuns, same_runs, begin_together}
 use Rattle.ft_modules.proofs.SpelledWhole.{spelled_linked}
 
--- the linked object's run and the modules' run
+-- the linked object's run is the modules' run
 pub linked_runs : (linkage : LinkMap) (first : Object) (others : List Object) → AreLinkable linkage first others →
     (n : ℕ) → SameRuns linkage first others (linked linkage first others) n
 linked_runs linkage first others h n =
@@ -31,7 +31,7 @@ linked_runs linkage first others h n =
     (begin_together (first ∷ others) (links linkage) x spelled accepted w first refl
     (first_found linkage first others h) (first_sent linkage first others h)) n
 
--- a struck run of the linked object against the modules' run, whatever the answers to wild loads
+-- one fault in the linked object's run is masked or detected, whatever the answers to wild loads
 pub linked_tolerant : (linkage : LinkMap) (first : Object) (others : List Object) (strike : Option Strike)
     (w : List Wild) (n : ℕ) → AreLinkable linkage first others →
     Agrees (outputs_after (linked linkage first others) strike w n)

@@ -1,4 +1,4 @@
--- The moves, substitutions and instructions of a module, in the linked object.
+-- A module's moves, substitutions and instructions in the linked object.
 use Rattle.std.proofs.Common.{◌≡◌, ℕ, zero, suc, ◌+◌, Bool, true, false, List, [], ◌∷◌, map, slice_get, Option, Some}
 use Rattle.std.proofs.Common.{None, refl, sym, ap, ◌∙◌, subst}
 use Rattle.std.specs.List.{AllZip}
@@ -29,19 +29,19 @@ use Rattle.ft_modules.proofs.ModuleParts.{linked_instr}
 
 -- MOVES AND SUBSTITUTIONS OF A MODULE
 
--- a premise that does not fail holds
+-- if a rule does not fail, the test of its premise passes
 need_passes : (p : Premise) (b : Bool) (x y : Outcome) → need p b x ≡ y → ((n : Premise) → y ≡ Fails n → ⊥) → b ≡ true
 unfolding need
 need_passes p true x y e f = refl
 need_passes p false x y e f = absurd (f p (sym e))
 
--- the word of a first `mov` has the type that it claims
+-- the first instruction, if it is a `mov`, has a word of the type that it claims
 first_passes : (o : Object) (c : Context) (rd : Reg) (v : Coloured) (b : Basic) (is : List Instr) →
     Applies o c (Mov rd v b ∷ is) → has_type o v.word b ≡ true
 first_passes o c rd v b _ (last_row f) = need_passes _ _ _ Ends f (λ n z. cc)
 first_passes o c rd v b is (next_row d f a) = need_passes _ _ _ (Goes d) f (λ n z. cc)
 
--- the words of moves have the types that they claim
+-- each `mov` has a word of the type that it claims
 moves_typed : (o : Object) (c : Context) (is : List Instr) (n : ℕ) (rd : Reg) (v : Coloured) (b : Basic) →
     Applies o c is → slice_get is n ≡ Some (Mov rd v b) → HasType o v.word b
 moves_typed o c [] n rd v b a e = cc
@@ -50,12 +50,12 @@ moves_typed o c (i ∷ is) zero rd v b a e = let same : i ≡ Mov rd v b = cc in
 moves_typed o c (i ∷ is) (suc n) rd v b (last_row f) e = cc
 moves_typed o c (i ∷ is) (suc n) rd v b (next_row d f a) e = moves_typed o d is n rd v b a e
 
--- the same, of an instruction that is a `mov`
+-- likewise for an instruction that is a `mov`
 pub typed_moves : (o : Object) (c : Context) (is : List Instr) (n : ℕ) (i : Instr) → Applies o c is → slice_get is n
     ≡ Some i → (rd : Reg) (v : Coloured) (b : Basic) → i ≡ Mov rd v b → HasType o v.word b
 typed_moves o c is n i a e rd v b f = moves_typed o c is n rd v b a (e ∙ ap Some f)
 
--- the substitution of an instruction
+-- the substitution of an instruction, after a first one or none
 covered_by : (nodes : List Node) (rows first n : ℕ) (i j : Instr) (is : List Instr) (u : Subst) →
     ((f : ℕ) → Cover nodes rows f (substs_of is) → slice_get is n ≡ Some i → IsSubst nodes rows u.first u) →
     (s : Option Subst) → Cover nodes rows first (before s (substs_of is)) → slice_get is n ≡ Some i →
@@ -63,7 +63,7 @@ covered_by : (nodes : List Node) (rows first n : ℕ) (i j : Instr) (is : List I
 covered_by nodes rows first n i j is u h None c e = h first c e
 covered_by nodes rows first n i j is u h (Some s) c e = h s.past c.1 e
 
--- the substitution of the first instruction takes rows of the table
+-- the substitution of the first instruction obeys the rules
 covered_first : (nodes : List Node) (rows first : ℕ) (i : Instr) (is : List Instr) (u : Subst) → subst_of i ≡ Some u →
     Cover nodes rows first (before (subst_of i) (substs_of is)) → IsSubst nodes rows u.first u
 covered_first nodes rows first i is u e c =
@@ -71,7 +71,7 @@ covered_first nodes rows first i is u e c =
     subst (λ (s : Option Subst). Cover nodes rows first (before s (substs_of is))) e c in
     subst (λ n. IsSubst nodes rows n u) (sym d.0.first_is) d.0
 
--- the substitution of each instruction takes rows of the table
+-- the substitution of each instruction obeys the rules
 pub covered_subst : (nodes : List Node) (rows first n : ℕ) (is : List Instr) (i : Instr) (u : Subst) → subst_of i
     ≡ Some u →
     Cover nodes rows first (substs_of is) → slice_get is n ≡ Some i → IsSubst nodes rows u.first u
@@ -84,12 +84,12 @@ covered_subst nodes rows first (suc n) (j ∷ is) i u s c e = covered_by nodes r
 
 -- INSTRUCTIONS
 
--- where a module's code address is sent, by the change of its raised one
+-- where a module's code address is sent, by the change of the raised address
 abbrev pub sent_by_change : Before → Object → ℕ → Option Change → ℕ × ℕ
 sent_by_change k o w None = (k.instrs + w, k.types + unwrap_or (code_type_at o w) 0)
 sent_by_change k o w (Some c) = (c.to, c.code_type)
 
--- where it is sent, by all changes
+-- where it is sent, by these changes
 abbrev pub sent_to : List Change → Before → Object → ℕ → ℕ × ℕ
 sent_to cs k o w = sent_by_change k o w (change_at cs (k.instrs + w))
 
@@ -110,7 +110,7 @@ mov_is cs k o rd v zero Int h = refl
 mov_is cs k o rd v zero (Code t) h = changed_is k o rd v t (change_at cs (k.instrs + v.word)) h
 mov_is cs k o rd v (suc n) base h = refl
 
--- an instruction of the linked object is of the module's
+-- a module's instruction, raised and changed, is the linked object's version of it
 pub instr_is : (o x : Object) (cs : List Change) (k : Before) (i : Instr) →
     ((rd : Reg) (v : Coloured) (b : Basic) → i ≡ Mov rd v b → HasType o v.word b) →
     ((u : Subst) → subst_of i ≡ Some u → SameSubst o x u (raised_subst k u)) →

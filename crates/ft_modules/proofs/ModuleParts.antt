@@ -1,4 +1,4 @@
--- A module in the linked object: its parts are there with their numbers raised.
+-- A module's parts in the linked object, with their numbers raised.
 use Rattle.std.proofs.Common.{◌≡◌, ℕ, zero, suc, ◌+◌, ◌-◌, ◌≤◌, List, [], ◌∷◌, length, map, take, drop, slice_get}
 use Rattle.std.proofs.Common.{Option, Some, None, refl, sym, ap, ◌∙◌, arith}
 use Rattle.std.specs.Prelude.{slice_range}
@@ -22,47 +22,47 @@ use Rattle.ft_modules.specs.Links.{links}
 use Rattle.ft_modules.proofs.World.{before_of}
 use Rattle.ft_modules.proofs.Laying.{Among, get_among, range_among, placed, before_next, laid_to_end}
 
--- the offsets of each kind
+-- the offset of a module's nodes
 abbrev pub of_nodes : Before → ℕ
 of_nodes k = k.nodes
 
--- of code types
+-- the offset of its code types
 abbrev pub of_types : Before → ℕ
 of_types k = k.types
 
--- of blocks
+-- the offset of its blocks
 abbrev pub of_blocks : Before → ℕ
 of_blocks k = k.blocks
 
--- of instructions
+-- the offset of its instructions
 abbrev pub of_instrs : Before → ℕ
 of_instrs k = k.instrs
 
--- of substitution rows
+-- the offset of its substitution rows
 abbrev pub of_substs : Before → ℕ
 of_substs k = k.substs
 
--- each offset grows by the length of the part
+-- the offset of nodes grows by the length of the module's part
 pub nodes_grow : (k : Before) (o : Object) → of_nodes (after_module k o) ≡ of_nodes k + length (nodes_part k o)
 nodes_grow k o = ap (λ n. k.nodes + n) (sym (length-map o.nodes (raised_node k.nodes)))
 
--- of code types
+-- likewise for code types
 pub types_grow : (k : Before) (o : Object) → of_types (after_module k o) ≡ of_types k + length (types_part k o)
 types_grow k o = ap (λ n. k.types + n) (sym (length-map o.types (raised_type k.nodes)))
 
--- of blocks
+-- likewise for blocks
 pub blocks_grow : (k : Before) (o : Object) → of_blocks (after_module k o) ≡ of_blocks k + length (blocks_part k o)
 blocks_grow k o = ap (λ n. k.blocks + n) (sym (length-map o.blocks (raised_block k)))
 
--- of instructions
+-- likewise for instructions
 pub instrs_grow : (k : Before) (o : Object) → of_instrs (after_module k o) ≡ of_instrs k + length (instrs_part k o)
 instrs_grow k o = ap (λ n. k.instrs + n) (sym (length-map o.instrs (raised_instr k)))
 
--- of substitution rows
+-- likewise for substitution rows
 pub substs_grow : (k : Before) (o : Object) → of_substs (after_module k o) ≡ of_substs k + length (substs_part k o)
 substs_grow k o = ap (λ n. k.substs + n) (sym (length-map o.substs (λ n. k.nodes + n)))
 
--- a module's part, among the table of all modules
+-- a module's part is in the table of all modules
 pub among_all : {X : Type 0} (part : Before → Object → List X) (offset : Before → ℕ) → offset nothing_before ≡ 0 →
     ((k : Before) (o : Object) → offset (after_module k o) ≡ offset k + length (part k o)) →
     (modules : List Object) (m : ℕ) (o : Object) → slice_get modules m ≡ Some o →
@@ -72,11 +72,11 @@ among_all part offset z grows modules m o e =
     let long = p.long in
     record { front = p.front; back = p.back; is = p.is; long = omega arith }
 
--- the instruction that stands for a module's one
+-- a module's instruction, raised and changed
 abbrev pub linked_instr : List Change → Before → Instr → Instr
 linked_instr cs k i = changed_instr cs (raised_instr k i)
 
--- where the parts of a module are
+-- where a module's parts are in the linked object
 pub record Sits (o x : Object) (k : Before) (cs : List Change) : Type 0 where
   pub nodes : (n : ℕ) (y : Node) → slice_get o.nodes n ≡ Some y → slice_get x.nodes (k.nodes + n)
       ≡ Some (raised_node k.nodes y)
@@ -90,24 +90,24 @@ pub record Sits (o x : Object) (k : Before) (cs : List Change) : Type 0 where
       ≡ map (linked_instr cs k) (slice_range o.instrs a b)
   pub ends : (n : ℕ) (y : Block) → slice_get o.blocks n ≡ Some y → block_end x (k.blocks + n) ≡ k.instrs + block_end o n
 
--- a place without an element is past the end
+-- an index without an element is past the end
 pub past_end : {X : Type 0} (xs : List X) (n : ℕ) → slice_get xs n ≡ None → length xs ≤ n
 past_end [] n e = omega arith
 past_end (y ∷ xs) zero e = cc
 past_end (y ∷ xs) (suc n) e = omega (arith, past_end xs n e)
 
--- a stretch of a mapped list
+-- a slice of a mapped list
 pub mapped_range : {X Y : Type 0} (f : X → Y) (xs : List X) (a b : ℕ) → slice_range (map f xs) a b
     ≡ map f (slice_range xs a b)
 mapped_range f xs a b = ap (take (b - a)) (drop-map f a xs) ∙ take-map f (b - a) (drop a xs)
 
--- instructions that are raised and then changed
+-- raising and then changing instructions
 map_twice : (cs : List Change) (k : Before) (is : List Instr) → map (changed_instr cs) (map (raised_instr k) is)
     ≡ map (linked_instr cs k) is
 map_twice cs k [] = refl
 map_twice cs k (i ∷ is) = ap (λ (z : List Instr). linked_instr cs k i ∷ z) (map_twice cs k is)
 
--- the first block of an object that is spelled
+-- the first block of a spellable object
 pub first_block : (bs : List Block) → BeginAtZero bs → (y : Block) × (slice_get bs 0 ≡ Some y) × (y.start ≡ 0)
 first_block [] h = absurd h
 first_block (y ∷ ys) h = (y, refl, h)
@@ -123,7 +123,7 @@ module _ (linkage : LinkMap) (first : Object) (others : List Object) where
   abbrev cs : List Change
   cs = map (change_of (first ∷ others)) (links linkage)
 
-  -- a module's block
+  -- a module's block is in the linked object, raised
   block_sits : (m : ℕ) (o : Object) → slice_get modules m ≡ Some o → (n : ℕ) (y : Block) → slice_get o.blocks n
       ≡ Some y → slice_get x.blocks ((before_of modules m).blocks + n) ≡ Some (raised_block (before_of modules m) y)
   block_sits m o e n y f = get_among _ _ (before_of modules m).blocks n _

@@ -1,4 +1,4 @@
--- Modules that are linked without a refusal, as the run needs them.
+-- Linkable modules are as the run needs them.
 use Rattle.std.proofs.Common.{◌≡◌, ℕ, suc, ◌+◌, ◌≤◌, Bool, true, false, ◌&&◌, ◌==◌, List, ◌∷◌, length, map, slice_get}
 use Rattle.std.proofs.Common.{Option, Some, None, refl, sym, ap, ◌∙◌, subst, arith, eqb-true}
 use Rattle.std.specs.Prelude.{slice_range}
@@ -33,7 +33,7 @@ use Rattle.ft_modules.proofs.SentOn.{like_through, sent_at}
 use Rattle.ft_modules.proofs.ModuleInstrs.{covered_subst, typed_moves, sent_to, instr_is, instrs_are}
 use Rattle.ft_modules.proofs.Landings.{start_there, is_module, sits_in, landing}
 
--- neither of two tests passes
+-- two tests that do not both pass
 not_here : (a b : Bool) → (a ≡ true → b ≡ true → ⊥) → (a && b) ≡ false
 not_here true true h = absurd (h refl refl)
 not_here true false h = refl
@@ -63,13 +63,13 @@ module _ (linkage : LinkMap) (first : Object) (others : List Object) (h : AreLin
       let few = s.few_instrs in
       omega (arith, begins, inside, few)
 
-  -- a code type is there
+  -- the code type of a block exists
   type_of_block : (o : Object) (n : ℕ) (y : Block) → IsSpellable o → slice_get o.blocks n ≡ Some y → (t : CodeType)
       × (slice_get o.types y.code_type ≡ Some t)
   type_of_block o n y s f = there_below o.types y.code_type
       (all_there (HasCodeType (length o.types)) o.blocks n y s.block_types f)
 
-  -- a module's block type and the raised one say the same
+  -- the code type of a module's block agrees with the raised one
   pub block_alike : (m : ℕ) (o : Object) → slice_get modules m ≡ Some o → (n : ℕ) (y : Block) → slice_get o.blocks n
       ≡ Some y → LikeTypes o y.code_type x ((before_of modules m).types + y.code_type)
   block_alike m o e n y f =
@@ -78,7 +78,7 @@ module _ (linkage : LinkMap) (first : Object) (others : List Object) (h : AreLin
       like_raised o x (before_of modules m) cs mine.spelled spelled.nodes (sits_in linkage first others h spelled m o e)
       y.code_type t.0 t.1
 
-  -- each code address is sent to a block of a code type that says the same
+  -- a code address is sent to a block whose code type agrees, by the block at the address
   sends_by : (m : ℕ) (o : Object) (e : slice_get modules m ≡ Some o) (w t : ℕ) (u : Option Block) → block_at o w ≡ u →
       option_map code_type_of u ≡ Some t → Sends o x (sent_to cs (before_of modules m) o) w t
   sends_by m o e w t None f g = cc
@@ -97,7 +97,7 @@ module _ (linkage : LinkMap) (first : Object) (others : List Object) (h : AreLin
             (like_through o a.object x _ _ _ a.like alike));
       }
 
-  -- its code addresses are sent to blocks of the linked object
+  -- all code addresses of a module are sent to blocks of the linked object
   pub sent_in : (m : ℕ) (o : Object) (e : slice_get modules m ≡ Some o) →
       AreSent o x (sent_to cs (before_of modules m) o)
   sent_in m o e = record {
@@ -105,7 +105,7 @@ module _ (linkage : LinkMap) (first : Object) (others : List Object) (h : AreLin
     sends = λ w t f. sends_by m o e w t (block_at o w) refl f;
   }
 
-  -- where a block ends
+  -- a block ends at or after its start, and within the instructions
   block_bounds : (o : Object) (n : ℕ) (y : Block) → IsSpellable o → slice_get o.blocks n ≡ Some y →
       (block_start o n ≤ block_end o n) × (block_end o n ≤ length o.instrs)
   block_bounds o n y s f =
@@ -150,7 +150,7 @@ module _ (linkage : LinkMap) (first : Object) (others : List Object) (h : AreLin
             subst_raised o x k cs mine.spelled spelled.nodes s u c.rising c.there c.memory)));
       }
 
-  -- no import's block begins inside a block
+  -- a machine inside a block is not sent
   inside_in : (m : ℕ) (o : Object) (e : slice_get modules m ≡ Some o) (p : Place) (j : ℕ) (s : State) → IsPlace o p →
       p.index ≡ suc j → s.fetched ≡ None → s.pc_green ≡ code_address (instr_number p) → s.pc_blue
       ≡ code_address (instr_number p) → ◌≡◌ {A = InModule} (sent modules joins (record { number = m; state = s }))
@@ -188,7 +188,7 @@ module _ (linkage : LinkMap) (first : Object) (others : List Object) (h : AreLin
         inside = inside_in m o e;
       }
 
-  -- where its code addresses are sent
+  -- where a module's code addresses are sent
   pub to_is : (m : ℕ) (o : Object) (e : slice_get modules m ≡ Some o) → (world m o e).to
       ≡ sent_to cs (before_of modules m) o
   unfolding world

@@ -29,42 +29,42 @@ use Rattle.ft_modules.proofs.World.{World, AreTogether, both_ended, both_stand}
 use Rattle.ft_modules.proofs.LinkedSteps.{steps_together}
 use Rattle.ft_modules.proofs.Arrivals.{arrives}
 
--- a machine that is sent on has the status that it had
+-- a machine keeps its status when a link sends it
 sent_to_status : (modules : List Object) (a : InModule) (l : Option Link) → (sent_by modules a l).state.status
     ≡ a.state.status
 sent_to_status modules a None = refl
 sent_to_status modules a (Some l) = refl
 
--- the status of either of two
+-- a choice between two machines with the same status has this status
 if_status : (b : Bool) (x y : InModule) (z : Status) → x.state.status ≡ z → y.state.status ≡ z →
     (if b then x else y).state.status ≡ z
 if_status true x y z h k = h
 if_status false x y z h k = k
 
--- so it has, whatever is fetched
+-- it keeps its status, whatever is fetched
 sent_by_fetched : (modules : List Object) (joins : List Link) (a : InModule) (f : Option Instr) →
     (sent_unfetched modules joins a f).state.status ≡ a.state.status
 sent_by_fetched modules joins a (Some i) = refl
 sent_by_fetched modules joins a None = if_status (a.state.pc_green == a.state.pc_blue) _ _ _
     (sent_to_status modules a (link_at modules joins a.number a.state.pc_green)) refl
 
--- so it has in every case
+-- it keeps its status in every case
 sent_status : (modules : List Object) (joins : List Link) (a : InModule) → (sent modules joins a).state.status
     ≡ a.state.status
 sent_status modules joins a = sent_by_fetched modules joins a a.state.fetched
 
--- a stopped machine stays in a module
+-- a machine that is done does not move
 stays_in : (u : Option Object) (s : State) → s.status ≡ Done → step_in u s ≡ quiet s []
 stays_in None s d = refl
 stays_in (Some o) s d = stays_at o s.status s [] (subst HasStopped (sym d) tt)
 
--- both runs so far
+-- the two runs so far: equal outputs, and states that correspond
 pub record RunsBeside (modules : List Object) (joins : List Link) (x : Object) (world : World modules joins x)
     (r : ModulesRan) (outputs : List Output) (t : State) : Type 0 where
   pub outputs_same : r.outputs ≡ outputs
   pub together : AreTogether modules joins x world r.at t
 
--- one step more of both runs
+-- one more step of both runs
 step_runs : (modules : List Object) (joins : List Link) (x : Object) (world : World modules joins x) → IsSpellable x →
     IsAccepted x → (r : ModulesRan) (outputs : List Output) (t : State) → r.outputs ≡ outputs →
     AreTogether modules joins x world r.at t → RunsBeside modules joins x world
@@ -103,18 +103,18 @@ runs_beside linkage first others x world spelled acc begin (suc n) =
     (modules_ran linkage first others (suc n)) (outputs_after x None [] n ++ option_to_list (step x t w).output)
     (step x t w).state) (sym left) g
 
--- states together have the same status
+-- states that correspond have the same status
 stands_status : (modules : List Object) (joins : List Link) (x : Object) (world : World modules joins x) (a : InModule)
     (t : State) → AreTogether modules joins x world a t → a.state.status ≡ t.status
 stands_status modules joins x world a t (both_ended d e) = d ∙ sym e
 stands_status modules joins x world a t (both_stand h) = sym (sent_status modules joins a) ∙ h.going ∙ sym h.other_going
 
--- so outputs and status are the same after each number of steps
+-- outputs and status are the same after n steps
 pub record SameRuns (linkage : LinkMap) (first : Object) (others : List Object) (x : Object) (n : ℕ) : Type 0 where
   pub outputs : modules_outputs linkage first others n ≡ outputs_after x None [] n
   pub status : modules_status linkage first others n ≡ status_after x None [] n
 
--- both runs give the same
+-- they are, if the first states correspond
 pub same_runs : (linkage : LinkMap) (first : Object) (others : List Object) (x : Object)
     (world : World (first ∷ others) (links linkage) x) → IsSpellable x → IsAccepted x →
     AreTogether (first ∷ others) (links linkage) x world (record { number = 0; state = start first }) (start x) →
@@ -129,11 +129,11 @@ same_runs linkage first others x world spelled acc begin n =
 abbrev cells_of : List Cell → Cells
 cells_of cs = tabulate (length cs) cell_address (λ k. init_or_zero (option_map cell_head_of (slice_get cs k)))
 
--- the same cells begin with the same words
+-- objects with the same cells start with the same words
 starts_valuation : (o x : Object) → x.cells ≡ o.cells → (start_place o).valuation ≡ (start_place x).valuation
 starts_valuation o x e = λ i. record { integers = []; memory = cells_of (sym e i) }
 
--- the first states are together, if the first module's entry block is sent to the linked object's
+-- the first states correspond, if the first module's entry block is sent to the linked object's
 pub begin_together : (modules : List Object) (joins : List Link) (x : Object) → IsSpellable x → IsAccepted x →
     (world : World modules joins x) (first : Object) (there : slice_get modules 0 ≡ Some first) →
     block_at first (entry_address first) ≡ Some (entry_block first) →

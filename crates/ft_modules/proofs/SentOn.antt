@@ -1,4 +1,4 @@
--- What stands for a module's code types, offsets and addresses in the linked object.
+-- Code types that agree, the offsets of modules, and where machines are sent.
 use Rattle.std.proofs.Common.{◌≡◌, ℕ, zero, suc, ◌+◌, ◌<◌, ◌≤◌, true, ◌==◌, if◌then◌else◌, List, [], ◌∷◌, length}
 use Rattle.std.proofs.Common.{slice_get, Some, None, refl, sym, ap, ◌∙◌, subst, arith, eq-eqb}
 use Rattle.std.specs.List.{AllZip}
@@ -13,19 +13,19 @@ use Rattle.ft_modules.specs.Links.{Link}
 use Rattle.ft_modules.specs.ModulesRun.{InModule, link_at, sent_by, sent_unfetched, sent}
 use Rattle.ft_modules.proofs.World.{at_address}
 
--- CODE TYPES THAT SAY THE SAME
+-- CODE TYPES THAT AGREE
 
--- register rows say the same as themselves
+-- register rows agree with themselves
 rows_itself : (o : Object) (rs : List RegType) → AllZip (SameRow o o) rs rs
 rows_itself o [] = tt
 rows_itself o (r ∷ rs) = (record { reg = refl; colour = refl; basic = refl; tree = refl }, rows_itself o rs)
 
--- queue rows say the same as themselves
+-- queue rows agree with themselves
 pairs_itself : (o : Object) (rs : List (ℕ × ℕ)) → AllZip (SamePair o o) rs rs
 pairs_itself o [] = tt
 pairs_itself o (r ∷ rs) = (record { address = refl; value = refl }, pairs_itself o rs)
 
--- a code type says the same as itself
+-- a code type agrees with itself
 pub like_itself : (o : Object) (t : ℕ) → LikeTypes o t o t
 like_itself o t = record {
   ints = refl;
@@ -34,7 +34,7 @@ like_itself o t = record {
   memory = refl;
 }
 
--- rows that say the same through others
+-- agreement of register rows is transitive
 rows_through : (a b c : Object) (rs qs ps : List RegType) → AllZip (SameRow a b) rs qs → AllZip (SameRow b c) qs ps →
     AllZip (SameRow a c) rs ps
 rows_through a b c [] [] [] h k = tt
@@ -49,7 +49,7 @@ rows_through a b c (r ∷ rs) (q ∷ qs) (p ∷ ps) h k =
       rows_through a b c rs qs ps h.1 k.1,
     )
 
--- queue rows that do
+-- so is that of queue rows
 pairs_through : (a b c : Object) (rs qs ps : List (ℕ × ℕ)) → AllZip (SamePair a b) rs qs → AllZip (SamePair b c) qs ps →
     AllZip (SamePair a c) rs ps
 pairs_through a b c [] [] [] h k = tt
@@ -62,7 +62,7 @@ pairs_through a b c (r ∷ rs) (q ∷ qs) (p ∷ ps) h k =
     let y = k.0 in
     (record { address = x.address ∙ y.address; value = x.value ∙ y.value }, pairs_through a b c rs qs ps h.1 k.1)
 
--- code types that do
+-- so is that of code types
 pub like_through : (a b c : Object) (t u v : ℕ) → LikeTypes a t b u → LikeTypes b u c v → LikeTypes a t c v
 like_through a b c t u v h k = record {
   ints = h.ints ∙ k.ints;
@@ -73,14 +73,14 @@ like_through a b c t u v h k = record {
 
 -- OFFSETS
 
--- a later module's instructions come after those before it
+-- no module's instructions begin before the initial offset
 least_before : (k : Before) (modules : List Object) (m : ℕ) → k.instrs ≤ (before_module k modules m).instrs
 unfolding before_module
 least_before k [] m = omega arith
 least_before k (y ∷ ys) zero = omega arith
 least_before k (y ∷ ys) (suc m) = let h = least_before (after_module k y) ys m in omega (arith, h)
 
--- a later module's instructions come after a module's
+-- a later module's instructions come after those of an earlier one
 pub rises_before : (k : Before) (modules : List Object) (m n : ℕ) (o : Object) → slice_get modules m ≡ Some o → m < n →
     (before_module k modules m).instrs + length o.instrs ≤ (before_module k modules n).instrs
 unfolding before_module
@@ -91,7 +91,7 @@ rises_before k (y ∷ ys) zero (suc n) o e lt = let same : y ≡ o = cc in
     (least_before (after_module k y) ys n)
 rises_before k (y ∷ ys) (suc m) (suc n) o e lt = rises_before (after_module k y) ys m n o e (omega (arith, lt))
 
--- SENDING ON
+-- SENDING
 
 -- where a machine with nothing fetched and both counters at an address is sent
 pub sent_at : (modules : List Object) (joins : List Link) (m w : ℕ) (s : State) → s.fetched ≡ None → s.pc_green ≡ w →
@@ -104,7 +104,7 @@ sent_at modules joins m w s f g b =
     ∙ ap (λ t. if t then sent_by modules a (link_at modules joins m s.pc_green) else a) test
     ∙ ap (λ n. sent_by modules a (link_at modules joins m n)) g
 
--- both counters are there already
+-- a machine whose counters are already at the address
 pub stay_at : (m w : ℕ) (s : State) → s.pc_green ≡ w → s.pc_blue ≡ w →
     ◌≡◌ {A = InModule} (record { number = m; state = s }) (record { number = m; state = at_address w s })
 stay_at m w s g b = λ i. record { number = m; state = record s { pc_green = g i; pc_blue = b i } }

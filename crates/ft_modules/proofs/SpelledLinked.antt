@@ -40,12 +40,12 @@ use Rattle.ft_modules.proofs.Trees.{StandIn, get-drop}
 
 -- NODES
 
--- a raised node is of the same sort
+-- a raised node has the same sort
 raised_sort : (k : ℕ) (y : Shape) → is_memory (raised_shape k y) ≡ is_memory y
 raised_sort k (shape.Word w) = refl
 raised_sort k y = refl
 
--- a node that may be named, raised
+-- a node that may be named still may be when raised
 pub raised_name : (ns ms : List Node) (k n j scope : ℕ) (b : Bool) (m : ℕ) → StandIn ns ms k → k + n ≤ j →
     MayName ns n scope b m → MayName ms j scope b (k + m)
 raised_name ns ms k n j scope b m s le h = record {
@@ -62,35 +62,35 @@ raised_parts : (ns ms : List Node) (k n scope : ℕ) (y : Shape) → StandIn ns 
 raised_parts ns ms k n scope y s h = shape_renamed ns ms n (k + n) scope (λ m. k + m) y h (each_part _ _
     (λ b m. raised_name ns ms k n (k + n) scope b m s (omega arith)) y (parts_named ns n scope y h))
 
--- a raised node obeys the rules
+-- a raised node obeys the rules of nodes
 pub raised_is_node : (ns ms : List Node) (k n : ℕ) (y : Node) → StandIn ns ms k → IsNode ns n y →
     IsNode ms (k + n) (raised_node k y)
 raised_is_node ns ms k n y s h = record { scope = h.scope; shape = raised_parts ns ms k n y.scope y.shape s h.shape }
 
 -- TYPES
 
--- a base among more code types
+-- a base stays valid among more code types
 base_more : (t u : ℕ) (b : Base) → t ≤ u → IsBase t b → IsBase u b
 base_more t u Int le h = tt
 base_more t u (Code n) le h = omega (arith, le, h)
 
--- a basic type among more code types
+-- a basic type stays valid among more code types
 pub basic_more : (t u : ℕ) (b : Basic) → t ≤ u → IsBasic t b → IsBasic u b
 basic_more t u b le h = record { refs = h.refs; base = base_more t u b.base le h.base }
 
--- raised rows increase as before
+-- raised register rows are still in increasing order
 rows_rise : (k least : ℕ) (rs : List RegType) → AreRising least rs → AreRising least (map (raised_row k) rs)
 rows_rise k least [] h = tt
 rows_rise k least (r ∷ rs) h = (h.0, rows_rise k (suc r.reg.number) rs h.1)
 
--- an element of a mapped list is one of the list's, mapped
+-- an element of a mapped list is the image of an element
 pub from_map : {X Y : Type 0} (f : X → Y) (xs : List X) (n : ℕ) (y : Y) → slice_get (map f xs) n ≡ Some y → (x : X)
     × (slice_get xs n ≡ Some x) × (y ≡ f x)
 from_map f [] n y e = cc
 from_map f (x ∷ xs) zero y e = (x, refl, same_Some y (f x) (sym e))
 from_map f (x ∷ xs) (suc n) y e = from_map f xs n y e
 
--- a raised code type obeys its rules
+-- a raised code type obeys the rules of code types
 pub raised_code_type : (t u k : ℕ) (ns ms : List Node) (y : CodeType) → t ≤ u → k + length ns ≤ length ms →
     StandIn ns ms k → IsCodeType t ns y → IsCodeType u ms (raised_type k y)
 raised_code_type t u k ns ms y le few s h = record {
@@ -115,14 +115,14 @@ raised_code_type t u k ns ms y le few s h = record {
   memory = raised_name ns ms k (length ns) (length ms) y.ints true y.memory s few h.memory;
 }
 
--- the rows of raised types are as many
+-- raised code types have as many rows
 pub raised_count : (f : CodeType → ℕ) (k : ℕ) (ts : List CodeType) → ((t : CodeType) → f (raised_type k t) ≡ f t) →
     sum_by f (map (raised_type k) ts) ≡ sum_by f ts
 raised_count f k [] h = refl
 raised_count f k (t ∷ ts) h = sum_by-cons f (raised_type k t) (map (raised_type k) ts)
     ∙ (λ i. h t i + raised_count f k ts h i) ∙ sym (sum_by-cons f t ts)
 
--- a sum over a table
+-- a sum over a table is a sum over the modules
 pub laid_sum : {X : Type 0} (part : Before → Object → List X) (f : X → ℕ) (size : Object → ℕ) →
     ((k : Before) (o : Object) → sum_by f (part k o) ≡ size o) → (k : Before) (modules : List Object) →
     sum_by f (laid part k modules) ≡ sum_by size modules
@@ -133,12 +133,12 @@ laid_sum part f size h k (o ∷ os) = sum_by-append f (part k o) (laid part (aft
 
 -- BLOCKS
 
--- blocks that begin at a place or later begin at an earlier one or later
+-- blocks are in order from a lower least place too
 blocks_lower : (end least l : ℕ) (bs : List Block) → l ≤ least → AreBlocks end least bs → AreBlocks end l bs
 blocks_lower end least l [] le h = tt
 blocks_lower end least l (b ∷ bs) le h = (omega (arith, le, h.0), h.1, h.2)
 
--- a module's blocks, raised, before others
+-- a module's blocks, raised, followed by the blocks of later modules
 blocks_join : (end least e l : ℕ) (k : Before) (bs cs : List Block) → AreBlocks e l bs → l ≤ e → least ≤ k.instrs + l →
     k.instrs + e ≤ end → AreBlocks end (k.instrs + e) cs → AreBlocks end least (map (raised_block k) bs ++ cs)
 blocks_join end least e l k [] cs h few le fit rest = blocks_lower end (k.instrs + e) least cs (omega (arith, few, le))
@@ -150,7 +150,7 @@ blocks_join end least e l k (b ∷ bs) cs h few le fit rest = (
       rest,
 )
 
--- the blocks of all modules begin one after the other
+-- the blocks of all modules are in order
 pub blocks_laid : (end : ℕ) (k : Before) (modules : List Object) →
     ((m : ℕ) (o : Object) → slice_get modules m ≡ Some o → IsSpellable o) →
     k.instrs + sum_by (λ (o : Object). length o.instrs) modules ≤ end →
@@ -163,7 +163,7 @@ blocks_laid end k (o ∷ os) s fit =
     (omega arith) (omega arith) (omega (arith, sum, fit))
     (blocks_laid end (after_module k o) os (λ m z e. s (suc m) z e) (omega (arith, sum, fit)))
 
--- blocks the first of which begins at instruction 0
+-- blocks whose first begins at instruction 0
 pub begin_at_zero : (bs : List Block) (y : Block) → slice_get bs 0 ≡ Some y → y.start ≡ 0 → BeginAtZero bs
 begin_at_zero [] y e z = cc
 begin_at_zero (b ∷ bs) y e z = let same : b ≡ y = cc in ap (λ (k : Block). k.start) same ∙ z
@@ -175,18 +175,18 @@ changed_subst_by : (rd : Reg) (v : Coloured) (b : Basic) (c : Option Change) →
 changed_subst_by rd v b None = refl
 changed_subst_by rd v b (Some c) = refl
 
--- a `mov` that stays carries no substitution
+-- nor does a `mov` that may be changed
 changed_mov_subst : (cs : List Change) (rd : Reg) (v : Coloured) (b : Basic) (t : Option ℕ) →
     subst_of (changed_mov cs rd v b t) ≡ None
 changed_mov_subst cs rd v b None = refl
 changed_mov_subst cs rd v b (Some t) = changed_subst_by rd v b (change_at cs v.word)
 
--- a changed instruction carries its substitution
+-- changing an instruction keeps its substitution
 changed_subst : (cs : List Change) (i : Instr) → subst_of (changed_instr cs i) ≡ subst_of i
 changed_subst cs (Mov rd v b) = changed_mov_subst cs rd v b (code_claimed b)
 changed_subst cs i = refl
 
--- changed instructions carry their substitutions
+-- changing instructions keeps their substitutions
 pub changed_substs : (cs : List Change) (is : List Instr) → substs_of (map (changed_instr cs) is) ≡ substs_of is
 changed_substs cs [] = refl
 changed_substs cs (i ∷ is) = λ j. before (changed_subst cs i j) (changed_substs cs is j)
@@ -197,7 +197,7 @@ raised_mov_subst : (k : Before) (rd : Reg) (v : Coloured) (b : Basic) (t : Optio
 raised_mov_subst k rd v b None = refl
 raised_mov_subst k rd v b (Some t) = refl
 
--- a raised instruction carries its substitution raised
+-- a raised instruction carries its substitution, raised
 raised_subst_is : (k : Before) (i : Instr) → subst_of (raised_instr k i) ≡ option_map (raised_subst k) (subst_of i)
 raised_subst_is k (Mov rd v b) = raised_mov_subst k rd v b (code_claimed b)
 raised_subst_is k i = refl
@@ -214,7 +214,7 @@ raised_is_subst ns ms k rows all first u s few fit h = record {
   memory = raised_name ns ms k.nodes (length ns) (length ms) 128 true u.memory s few h.memory;
 }
 
--- one more substitution, or none
+-- a first substitution, if there is one, and those after it
 cover_by : (ns ms : List Node) (k : Before) (rows all first : ℕ) (us vs : List Subst) → StandIn ns ms k.nodes →
     k.nodes + length ns ≤ length ms → k.substs + rows ≤ all →
     ((f : ℕ) → Cover ns rows f us → Cover ms all (k.substs + f) vs) → (u : Option Subst) →
@@ -225,7 +225,7 @@ cover_by ns ms k rows all first us vs s few fit h (Some u) c = (
   h u.past c.1,
 )
 
--- the substitutions of a module's instructions, raised, and then those of the modules after it
+-- the substitutions of a module's instructions, raised, followed by those of the modules after it
 cover_join : (ns ms : List Node) (k : Before) (rows all first : ℕ) (is : List Instr) (rest : List Instr) →
     StandIn ns ms k.nodes → k.nodes + length ns ≤ length ms → k.substs + rows ≤ all →
     Cover ns rows first (substs_of is) → Cover ms all (k.substs + rows) (substs_of rest) →
@@ -238,7 +238,7 @@ cover_join ns ms k rows all first (i ∷ is) rest s few fit h after =
     (cover_by ns ms k rows all first (substs_of is) (substs_of (map (raised_instr k) is ++ rest)) s few fit (λ f c.
     cover_join ns ms k rows all f is rest s few fit c after) (subst_of i) h)
 
--- the substitutions of all modules take all rows in turn
+-- the substitutions of all modules cover all rows in order
 pub cover_laid : (ms : List Node) (all : ℕ) (k : Before) (modules : List Object) →
     ((m : ℕ) (o : Object) → slice_get modules m ≡ Some o → IsSpellable o) →
     ((m : ℕ) (o : Object) → slice_get modules m ≡ Some o → StandIn o.nodes ms (before_module k modules m).nodes
@@ -278,7 +278,7 @@ block_of end least (c ∷ d ∷ ds) n h b e le lt =
     (suc r.0, r.1, r.2, r.3, r.4))
     (cases_lt n d.start)
 
--- an element below k is among the first k
+-- an element with an index below k is among the first k
 take_get : {X : Type 0} (xs : List X) (k n : ℕ) (x : X) → slice_get xs n ≡ Some x → n < k → slice_get (take k xs) n
     ≡ Some x
 take_get [] k n x e lt = cc
@@ -291,7 +291,7 @@ in_range : (is : List Instr) (a b n : ℕ) (i : Instr) → slice_get is n ≡ So
 in_range is a b n i e le lt = take_get (drop a is) (b - a) (n - a) i (get-drop is a (n - a)
     ∙ ap (slice_get is) (omega (arith, le)) ∙ e) (omega (arith, le, lt))
 
--- so it is one of the instructions of that block
+-- so each instruction is one of a block's
 pub instr_in_block : (o : Object) (n : ℕ) (i : Instr) → IsSpellable o → slice_get o.instrs n ≡ Some i → (j : ℕ)
     × (y : Block) × (m : ℕ) × (slice_get o.blocks j ≡ Some y) × (slice_get (block_instrs o j) m ≡ Some i)
 instr_in_block o n i spelled e =

@@ -44,7 +44,7 @@ use Rattle.ft_modules.proofs.SpelledLinked.{raised_name, basic_more, from_map, r
 use Rattle.ft_modules.proofs.SpelledLinked.{blocks_laid, begin_at_zero, changed_substs, cover_laid, instr_in_block}
 use Rattle.ft_modules.proofs.World.{before_of}
 
--- a plain cell has its type among any code types
+-- the base `int` is valid among any code types
 plain_cell_base : (t : ℕ) (b : Base) → b ≡ Int → IsBase t b
 plain_cell_base t Int e = tt
 plain_cell_base t (Code n) e = cc
@@ -63,7 +63,7 @@ table_within part offset z grows modules m o e n f =
     let l2 = length-append (part (before_of modules m) o) a.back in
     omega (arith, long, whole, l1, l2, f)
 
--- before the first module, all totals are 0
+-- the totals before the first module: all 0
 pub none_before_first : (first : Object) (others : List Object) → before_of (first ∷ others) 0 ≡ nothing_before
 unfolding before_module
 none_before_first first others = refl
@@ -83,54 +83,54 @@ module _ (linkage : LinkMap) (first : Object) (others : List Object) (h : AreLin
   is_module : (m : ℕ) (o : Object) → slice_get modules m ≡ Some o → IsModule first.cells o
   is_module m o e = all_there (IsModule first.cells) modules m o h.modules e
 
-  -- a module is spelled
+  -- each module is spellable
   spelled_module : (m : ℕ) (o : Object) → slice_get modules m ≡ Some o → IsSpellable o
   spelled_module m o e = (is_module m o e).spelled
 
-  -- where its parts are
+  -- where a module's parts are in the linked object
   place_of : (m : ℕ) (o : Object) → slice_get modules m ≡ Some o → Sits o x (before_of modules m) cs
   place_of m o e = sits linkage first others m o e spelled_module
 
-  -- the lengths of the tables
+  -- the length of the table of nodes
   nodes_long : length x.nodes ≡ sum_by (λ (o : Object). length o.nodes) modules
   nodes_long = laid_length nodes_part _ (λ k o. length-map o.nodes (raised_node k.nodes)) nothing_before modules
 
-  -- of code types
+  -- that of code types
   types_long : length x.types ≡ sum_by (λ (o : Object). length o.types) modules
   types_long = laid_length types_part _ (λ k o. length-map o.types (raised_type k.nodes)) nothing_before modules
 
-  -- of blocks
+  -- that of blocks
   blocks_long : length x.blocks ≡ sum_by (λ (o : Object). length o.blocks) modules
   blocks_long = laid_length blocks_part _ (λ k o. length-map o.blocks (raised_block k)) nothing_before modules
 
-  -- of instructions
+  -- that of instructions
   instrs_long : length x.instrs ≡ sum_by (λ (o : Object). length o.instrs) modules
   instrs_long = length-map (laid instrs_part nothing_before modules) (changed_instr cs)
       ∙ laid_length instrs_part _ (λ k o. length-map o.instrs (raised_instr k)) nothing_before modules
 
-  -- of substitution rows
+  -- that of substitution rows
   substs_long : length x.substs ≡ sum_by (λ (o : Object). length o.substs) modules
   substs_long = laid_length substs_part _ (λ k o. length-map o.substs (λ n. k.nodes + n)) nothing_before modules
 
-  -- a module's tables are within
+  -- a module's nodes are within the table
   nodes_within : (m : ℕ) (o : Object) → slice_get modules m ≡ Some o →
       (before_of modules m).nodes + length o.nodes ≤ length x.nodes
   nodes_within m o e = table_within nodes_part of_nodes refl nodes_grow modules m o e (length o.nodes)
       (length-map o.nodes (raised_node (before_of modules m).nodes))
 
-  -- its code types
+  -- so are its code types
   types_within : (m : ℕ) (o : Object) → slice_get modules m ≡ Some o →
       (before_of modules m).types + length o.types ≤ length x.types
   types_within m o e = table_within types_part of_types refl types_grow modules m o e (length o.types)
       (length-map o.types (raised_type (before_of modules m).nodes))
 
-  -- its blocks
+  -- so are its blocks
   blocks_within : (m : ℕ) (o : Object) → slice_get modules m ≡ Some o →
       (before_of modules m).blocks + length o.blocks ≤ length x.blocks
   blocks_within m o e = table_within blocks_part of_blocks refl blocks_grow modules m o e (length o.blocks)
       (length-map o.blocks (raised_block (before_of modules m)))
 
-  -- its instructions
+  -- so are its instructions
   instrs_within : (m : ℕ) (o : Object) → slice_get modules m ≡ Some o →
       (before_of modules m).instrs + length o.instrs ≤ length x.instrs
   instrs_within m o e =
@@ -147,7 +147,7 @@ module _ (linkage : LinkMap) (first : Object) (others : List Object) (h : AreLin
 
   -- TYPES
 
-  -- all code types do
+  -- all code types obey the rules
   types_are : All (IsCodeType (length x.types) x.nodes) x.types
   types_are = all_of _ _ (λ n y e.
       let w = whence types_part of_types types_grow nothing_before modules n y e in
@@ -178,7 +178,7 @@ module _ (linkage : LinkMap) (first : Object) (others : List Object) (h : AreLin
 
   -- INSTRUCTIONS
 
-  -- what a link's change gives is a word and a code type
+  -- a link's change has a valid word and code type
   change_is_lawful : (l : Link) → IsJoined modules l → IsWord (change_of modules l).to
       × ((change_of modules l).code_type < length x.types)
   change_is_lawful l j =
@@ -195,7 +195,7 @@ module _ (linkage : LinkMap) (first : Object) (others : List Object) (h : AreLin
       let few = h.few.instrs in
       (omega (arith, start, inside, room, instrs_long, few), omega (arith, kind, is, many))
 
-  -- a changed or raised `mov` of a code address
+  -- a `mov` of a code address, raised and perhaps changed, is valid
   moved_lawful : (m : ℕ) (o : Object) → slice_get modules m ≡ Some o → (rd : Reg) (v : Coloured) (t : ℕ) →
       t < length o.types → code_type_at o v.word ≡ Some t → (c : Option Change) →
       ((d : Change) → c ≡ Some d → IsWord d.to × (d.code_type < length x.types)) →
@@ -218,7 +218,7 @@ module _ (linkage : LinkMap) (first : Object) (others : List Object) (h : AreLin
         record { refs = omega arith; base = omega (arith, lt, many) },
       )
 
-  -- so is what a change that is found gives
+  -- a change that is found has a valid word and code type
   found_change : (w : ℕ) (d : Change) → change_at cs w ≡ Some d → IsWord d.to × (d.code_type < length x.types)
   found_change w d e =
       let f = found_there (λ (c : Change). w == c.from) cs d e in
@@ -226,7 +226,7 @@ module _ (linkage : LinkMap) (first : Object) (others : List Object) (h : AreLin
       subst (λ (c : Change). IsWord c.to × (c.code_type < length x.types)) (sym l.2)
       (change_is_lawful l.0 (all_there (IsJoined modules) (links linkage) f.place l.0 h.joined l.1))
 
-  -- a `mov` of a module, raised and changed
+  -- a `mov` of a module, raised and changed, is valid
   mov_lawful : (m : ℕ) (o : Object) → slice_get modules m ≡ Some o → (rd : Reg) (v : Coloured) (n : ℕ) (base : Base) →
       IsWord v.word → IsBasic (length o.types) (record { refs = n; base = base }) →
       HasType o v.word (record { refs = n; base = base }) →
@@ -279,7 +279,7 @@ module _ (linkage : LinkMap) (first : Object) (others : List Object) (h : AreLin
       (raised_name o.nodes x.nodes k.nodes (length o.nodes) (length x.nodes) 128 false z.0 s.nodes
       (nodes_within w.number o w.there) is))
 
-  -- the substitutions take all rows in turn
+  -- the substitutions cover all rows in order
   covered : Cover x.nodes (length x.substs) 0 (substs_of x.instrs)
   covered = subst (Cover x.nodes (length x.substs) 0)
       (sym (changed_substs cs (laid instrs_part nothing_before modules)))
@@ -288,7 +288,7 @@ module _ (linkage : LinkMap) (first : Object) (others : List Object) (h : AreLin
 
   -- THE ENTRY
 
-  -- the entry block is there
+  -- the entry block exists
   entry_below : (u : Option Link) → find (λ (l : Link). (l.module_of == 0) && (l.block == first.entry)) (links linkage)
       ≡ u → entry_by modules first.entry u < length x.blocks
   entry_below None e = (let w = blocks_within 0 first refl in let b = (spelled_module 0 first refl).entry in

@@ -1,4 +1,4 @@
--- Raised nodes stand for the same trees, and raised code types say the same.
+-- Raised nodes stand for the same trees, and raised code types agree.
 use Rattle.std.proofs.Common.{◌≡◌, ℕ, zero, suc, ◌+◌, ◌-◌, ◌<◌, ◌≤◌, Bool, true, false, ◌&&◌, nat_le, List, [], ◌∷◌}
 use Rattle.std.proofs.Common.{length, map, take, drop, slice_get, Option, Some, refl, sym, ap, ◌∙◌, subst, arith}
 use Rattle.std.specs.Prelude.{slice_range}
@@ -29,18 +29,18 @@ use Rattle.ft_modules.proofs.ModuleParts.{Sits}
 
 -- TREES
 
--- nodes that are among others, k places further
+-- these nodes are among others, raised and k places further
 abbrev pub StandIn : List Node → List Node → ℕ → Type 0
 StandIn ns ms k = (n : ℕ) (y : Node) → slice_get ns n ≡ Some y → slice_get ms (k + n) ≡ Some (raised_node k y)
 
--- the tree of a raised shape, from the trees of its parts
+-- a raised shape has the same tree if its parts do
 raised_tree : (ns ms : List Node) (k n scope : ℕ) (y : Shape) → IsShape ns n scope y →
     ((m : ℕ) (z : Node) → m < n → slice_get ns m ≡ Some z → tree_at ms (k + m) ≡ tree_at ns m) →
     tree_of (trees ms) (raised_shape k y) ≡ tree_of (trees ns) y
 raised_tree ns ms k n scope y p lower = tree_of-renamed (trees ms) (trees ns) (λ m. k + m) y
     (each_part (MayName ns n scope) _ (λ b m h. lower m h.node h.lower h.found) y (parts_named ns n scope y p))
 
--- the tree of a raised node below a bound
+-- a raised node has the same tree, by induction below a bound
 tree_below : (ns ms : List Node) (k bound n : ℕ) (y : Node) → AreNodes ns → AreNodes ms → StandIn ns ms k → n < bound →
     slice_get ns n ≡ Some y → tree_at ms (k + n) ≡ tree_at ns n
 tree_below ns ms k zero n y a b s lt e = absurd (omega (arith, lt))
@@ -57,13 +57,13 @@ tree_raised ns ms k n y a b s e = tree_below ns ms k (suc n) n y a b s (omega ar
 
 -- CODE TYPES
 
--- a relation between each element and its image holds of a list and the list of images
+-- a relation of each element to its image holds of a list and its images
 zip_map : {X : Type 0} (R : X → X → Type 0) (f : X → X) (xs : List X) →
     ((n : ℕ) (y : X) → slice_get xs n ≡ Some y → R y (f y)) → AllZip R xs (map f xs)
 zip_map R f [] h = tt
 zip_map R f (y ∷ xs) h = (h 0 y refl, zip_map R f xs (λ n z e. h (suc n) z e))
 
--- an element of a stretch
+-- an element of a list's beginning
 get-take : {X : Type 0} (xs : List X) (n k : ℕ) (y : X) → slice_get (take n xs) k ≡ Some y → slice_get xs k ≡ Some y
 get-take [] zero k y e = cc
 get-take [] (suc n) k y e = cc
@@ -71,40 +71,40 @@ get-take (z ∷ xs) zero k y e = cc
 get-take (z ∷ xs) (suc n) zero y e = e
 get-take (z ∷ xs) (suc n) (suc k) y e = get-take xs n k y e
 
--- an element of what is left
+-- an element of a list's rest
 pub get-drop : {X : Type 0} (xs : List X) (a k : ℕ) → slice_get (drop a xs) k ≡ slice_get xs (a + k)
 get-drop xs zero k = ap (slice_get xs) (omega arith)
 get-drop [] (suc a) k = refl
 get-drop (y ∷ xs) (suc a) k = get-drop xs a k ∙ (let e : suc (a + k) ≡ suc a + k = omega arith in
     ap (slice_get (y ∷ xs)) e)
 
--- an element of a part
+-- an element of a slice
 pub range_get : {X : Type 0} (xs : List X) (a b j : ℕ) (y : X) → slice_get (slice_range xs a b) j ≡ Some y →
     slice_get xs (a + j) ≡ Some y
 range_get xs a b j y e = sym (get-drop xs a j) ∙ get-take (drop a xs) (b - a) j y e
 
 module _ (o x : Object) (k : Before) (cs : List Change) (spelled : IsSpellable o) (nodes : AreNodes x.nodes)
     (s : Sits o x k cs) where
-  -- a node that is referred to stands for the same
+  -- a node that may be named, raised, has the same tree
   pub named_tree : (scope : ℕ) (b : Bool) (bound n : ℕ) → MayName o.nodes bound scope b n →
       tree_at x.nodes (k.nodes + n) ≡ tree_at o.nodes n
   named_tree scope b bound n h = tree_raised o.nodes x.nodes k.nodes n h.node spelled.nodes nodes s.nodes h.found
 
-  -- a named node of an integer stands for the same
+  -- the node of an integer, raised, stands for the same integer
   pub same_integer : (scope bound n : ℕ) → MayName o.nodes bound scope false n → SameInteger o x n (k.nodes + n)
   same_integer scope bound n h = ap integer_part (sym (named_tree scope false bound n h))
 
-  -- a named node of a memory stands for the same
+  -- the node of a memory, raised, stands for the same memory
   pub same_memory : (scope bound n : ℕ) → MayName o.nodes bound scope true n → SameMemory o x n (k.nodes + n)
   same_memory scope bound n h = ap memory_part (sym (named_tree scope true bound n h))
 
-  -- a named node has the same scope
+  -- a node that may be named, raised, has the same scope
   pub same_scope : (scope : ℕ) (b : Bool) (bound n : ℕ) → MayName o.nodes bound scope b n → scope_of o n
       ≡ scope_of x (k.nodes + n)
   same_scope scope b bound n h = ap (λ (y : Option Node). unwrap_or (option_map scope_of_node y) 0) h.found
       ∙ ap (λ (y : Option Node). unwrap_or (option_map scope_of_node y) 0) (sym (s.nodes n h.node h.found))
 
-  -- a code type and its raised one say the same
+  -- a code type agrees with the raised one
   pub like_raised : (t : ℕ) (y : CodeType) → slice_get o.types t ≡ Some y → LikeTypes o t x (k.types + t)
   like_raised t y e =
       let f = s.types t y e in
@@ -140,35 +140,35 @@ module _ (o x : Object) (k : Before) (cs : List Change) (spelled : IsSpellable o
 
   -- SUBSTITUTIONS
 
-  -- a named node has the same form
+  -- the node of an integer, raised, has the same form
   form_raised : (n : ℕ) → IsNodeIn o.nodes 128 false n → integer_form_of o n ≡ integer_form_of x (k.nodes + n)
   form_raised n h = form_same o x n (k.nodes + n) (same_integer 128 (length o.nodes) n h)
 
-  -- the rows of a substitution of the module
+  -- the number of a node of the module, raised
   abbrev raise : ℕ → ℕ
   raise n = k.nodes + n
 
-  -- the forms of a substitution's rows
+  -- the rows of a substitution, raised, have the same forms
   forms_raised : (ns : List ℕ) → ((j n : ℕ) → slice_get ns j ≡ Some n → IsNodeIn o.nodes 128 false n) →
       map (integer_form_of o) ns ≡ map (integer_form_of x) (map raise ns)
   forms_raised [] h = refl
   forms_raised (n ∷ ns) h = λ i. form_raised n (h 0 n refl) i ∷ forms_raised ns (λ j m e. h (suc j) m e) i
 
-  -- their trees
+  -- they have the same trees
   trees_raised : (ns : List ℕ) → ((j n : ℕ) → slice_get ns j ≡ Some n → IsNodeIn o.nodes 128 false n) →
       map (integer_at (trees o.nodes)) ns ≡ map (integer_at (trees x.nodes)) (map raise ns)
   trees_raised [] h = refl
   trees_raised (n ∷ ns) h = λ i. same_integer 128 (length o.nodes) n (h 0 n refl) i ∷ trees_raised ns (λ j m e.
       h (suc j) m e) i
 
-  -- the tests of their scopes
+  -- their scopes pass the same tests
   scopes_raised : (b : ℕ) (ns : List ℕ) → ((j n : ℕ) → slice_get ns j ≡ Some n → IsNodeIn o.nodes 128 false n) →
       list_all (λ n. nat_le (scope_of o n) b) ns ≡ list_all (λ n. nat_le (scope_of x n) b) (map raise ns)
   scopes_raised b [] h = refl
   scopes_raised b (n ∷ ns) h = λ i. nat_le (same_scope 128 false (length o.nodes) n (h 0 n refl) i) b
       && scopes_raised b ns (λ j m e. h (suc j) m e) i
 
-  -- a substitution and its raised one put the same
+  -- a raised substitution does the same
   pub subst_raised : (u : Subst) → u.first ≤ u.past → u.past ≤ length o.substs → IsNodeIn o.nodes 128 true u.memory →
       SameSubst o x u (raised_subst k u)
   unfolding replacement valuation_by

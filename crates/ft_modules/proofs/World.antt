@@ -1,5 +1,5 @@
--- What the run needs of modules and of the object that they are linked into, and when a module's state corresponds to
--- one of the linked object's.
+-- What the run needs of modules and their linked object, and when a state of a module corresponds to one of the linked
+-- object.
 use Rattle.std.proofs.Common.{◌≡◌, inl, ℕ, zero, suc, ◌+◌, ◌-◌, Bool, true, false, cond, ◌==◌, List, [], ◌∷◌, drop}
 use Rattle.std.proofs.Common.{slice_get, Option, Some, None, refl, sym, ap, ◌∙◌, subst, arith}
 use Rattle.std.specs.Prelude.{All}
@@ -49,8 +49,8 @@ before_of modules m = before_module nothing_before modules m
 abbrev pub at_address : ℕ → State → State
 at_address a s = record s { pc_green = a; pc_blue = a }
 
--- where a machine that comes to block y of module m goes on: a block of a module, of a code type that says the same,
--- which is at address a of the linked object
+-- where a machine that comes to block y of module m goes on: at a block of some module, whose code type agrees with
+-- that of y and which is at address a of the linked object
 pub record Lands (modules : List Object) (joins : List Link) (x : Object) (m : ℕ) (o : Object) (a w : ℕ) (y : Block) :
     Type 0 where
   pub number : ℕ
@@ -67,13 +67,13 @@ pub record Lands (modules : List Object) (joins : List Link) (x : Object) (m : �
         state = at_address (code_address block.start) s;
       })
 
--- block n of a module, y, in the linked object
+-- block y, which is block n of a module, in the linked object
 pub record BlockOf (o x : Object) (k : Before) (to : ℕ → ℕ × ℕ) (n : ℕ) (y : Block) : Type 0 where
   pub there : slice_get x.blocks (k.blocks + n) ≡ Some (raised_block k y)
   pub alike : LikeTypes o y.code_type x (k.types + y.code_type)
   pub code : AllZip (IsInstrOf o x to) (block_instrs o n) (block_instrs x (k.blocks + n))
 
--- module m, o, in the linked object
+-- object o, which is module m, in the linked object
 pub record InWorld (modules : List Object) (joins : List Link) (x : Object) (m : ℕ) (o : Object) : Type 0 where
   pub spelled : IsSpellable o
   pub accepted : IsAccepted o
@@ -94,12 +94,12 @@ pub record InWorld (modules : List Object) (joins : List Link) (x : Object) (m :
 abbrev pub World : List Object → List Link → Object → Type 0
 World modules joins x = (m : ℕ) (o : Object) → slice_get modules m ≡ Some o → InWorld modules joins x m o
 
--- what is fetched, on both sides or on none
+-- both machines have fetched an instruction, or neither has
 pub data SameFetched (f g : Option Instr) : Type 0 where
   none_fetched : f ≡ None → g ≡ None → SameFetched f g
   both_fetched : (i j : Instr) → f ≡ Some i → g ≡ Some j → SameFetched f g
 
--- a running module's state corresponds to a running state of the linked object
+-- the state of a running machine in a module corresponds to that of a running machine in the linked object
 pub record Stands (modules : List Object) (joins : List Link) (x : Object) (world : World modules joins x)
     (a : InModule) (t : State) : Type 0 where
   pub object : Object
@@ -120,7 +120,7 @@ pub record Stands (modules : List Object) (joins : List Link) (x : Object) (worl
   pub values : place.valuation ≡ other.valuation
   pub fetched : SameFetched a.state.fetched t.fetched
 
--- a state of the modules' run before it is sent on, with the corresponding one of the linked object's run
+-- a state of the modules' run, before it is sent, and a state of the linked object's run correspond
 pub data AreTogether (modules : List Object) (joins : List Link) (x : Object) (world : World modules joins x)
     (a : InModule) (t : State) : Type 0 where
   both_ended : a.state.status ≡ Done → t.status ≡ Done → AreTogether modules joins x world a t
@@ -128,7 +128,7 @@ pub data AreTogether (modules : List Object) (joins : List Link) (x : Object) (w
 
 -- PLAIN TYPES
 
--- without code types, a word has the type in all objects with the same cells
+-- a word with base `int` has its type in all objects with the same cells
 plain_over : (o z : Object) (w n : ℕ) (base : Base) → z.cells ≡ o.cells → base ≡ Int → HasTypeOver o w n base →
     HasTypeOver z w n base
 unfolding cell_of
@@ -136,22 +136,22 @@ plain_over o z w zero Int e p h = tt
 plain_over o z w zero (Code t) e p h = cc
 plain_over o z w (suc n) base e p h = rw e h
 
--- so of a basic type
+-- likewise for a basic type
 pub plain_type : (o z : Object) (w : ℕ) (b : Basic) → z.cells ≡ o.cells → b.base ≡ Int → HasType o w b → HasType z w b
 plain_type o z w b e p h = plain_over o z w b.refs b.base e p h
 
--- objects with the same cells have the same types of cells
+-- objects with the same cells have the same cell types
 same_cell_type : (o z : Object) (a : ℕ) → z.cells ≡ o.cells → cell_type z a ≡ cell_type o a
 unfolding cell_of
 same_cell_type o z a e = rw e refl
 
--- a cell's type is plain
+-- the type of a cell is plain
 plain_cell_by : (o : Object) (u : Option Cell) (b : Basic) → ((c : Cell) → u ≡ Some c → c.basic.base ≡ Int) →
     option_map basic_of u ≡ Some b → b.base ≡ Int
 plain_cell_by o None b h e = cc
 plain_cell_by o (Some c) b h e = let same : c.basic ≡ b = cc in subst (λ (z : Basic). z.base ≡ Int) same (h c refl)
 
--- a cell at an address is one of the cells
+-- the cell at an address is one of the cells
 cell_among : (o : Object) (a : ℕ) (c : Cell) → cell_of o a ≡ Some c → (k : ℕ) × (slice_get o.cells k ≡ Some c)
 unfolding cell_of
 cell_among o a c e = by_test _ e
@@ -161,26 +161,26 @@ cell_among o a c e = by_test _ e
     by_test true e = (a - 1048576, e)
     by_test false e = cc
 
--- the type of a cell at an address is plain
+-- the type of the cell at an address is plain
 plain_cell : (o : Object) (a : ℕ) (b : Basic) → All HasPlainCell o.cells → cell_type o a ≡ Some b → b.base ≡ Int
 plain_cell o a b plain e = plain_cell_by o (cell_of o a) b (λ c f. let g = cell_among o a c f in
     all_there HasPlainCell o.cells g.0 c plain g.1) e
 
--- the registers of a starting context are plain
+-- the types of registers stay plain when one is set to a plain type
 plain_known : (b : Bool) (t y : Typed) (u : Option Typed) → t.basic.base ≡ Int → (u ≡ Some y → y.basic.base ≡ Int) →
     cond b (Some t) u ≡ Some y → y.basic.base ≡ Int
 plain_known true t y u h k e = let same : t ≡ y = cc in subst (λ (z : Typed). z.basic.base ≡ Int) same h
 plain_known false t y u h k e = k e
 
--- what holds of all rows holds of those after the first
+-- if all rows are plain, so are those after the first
 all_rest : (r : RegType) (rs : List RegType) → All HasPlainRow (r ∷ rs) → All HasPlainRow rs
 all_rest r rs h = λ k d lt. h (suc k) d (omega (arith, lt))
 
--- what holds of all rows holds of the first
+-- if all rows are plain, so is the first
 all_first : (r : RegType) (rs : List RegType) → All HasPlainRow (r ∷ rs) → HasPlainRow r
 all_first r rs h = h 0 r (omega arith)
 
--- registers without code types stay so after plain rows
+-- the types of registers stay plain after plain rows
 plain_registers : (o : Object) (m : TypedRegisters) (rows : List RegType) →
     ((r : ℕ) (y : Typed) → finite.get m r ≡ Some y → y.basic.base ≡ Int) → All HasPlainRow rows → (r : ℕ) (y : Typed) →
     finite.get (registers_after o m rows) r ≡ Some y → y.basic.base ≡ Int
@@ -192,17 +192,17 @@ plain_registers o m (row ∷ rows) h p r y e =
     (rw (get-insert m row.reg.number (typed_row o row) q) at i))
     (all_rest row rows p) r y e
 
--- the rows of a code type that is there are plain
+-- the register rows of a code type are plain, if it exists
 rows_plain_by : (u : Option CodeType) → ((t : CodeType) → u ≡ Some t → HasPlainRows t) →
     All HasPlainRow (unwrap_or (option_map regs_of u) [])
 rows_plain_by None h = λ k d lt. absurd (omega (arith, lt))
 rows_plain_by (Some t) h = h t refl
 
--- the rows of a code type are plain
+-- the register rows of each code type are plain
 rows_plain : (o : Object) (t : ℕ) → All HasPlainRows o.types → All HasPlainRow (reg_rows o t)
 rows_plain o t h = rows_plain_by (slice_get o.types t) (λ c e. all_there HasPlainRows o.types t c h e)
 
--- a queue that fits in one fits in the other
+-- a queue that fits in one object fits in another with the same cells
 plain_queue : (o z : Object) (v : Valuation) (ps : List FormPair) (q : Pending) → z.cells ≡ o.cells →
     All HasPlainCell o.cells → FitsQueue o v ps q → FitsQueue z v ps q
 plain_queue o z v [] [] e p f = tt
@@ -220,7 +220,7 @@ plain_queue o z v (r ∷ ps) (y ∷ q) e p f =
       plain_queue o z v ps q e p f.1,
     )
 
--- cells that fit in one fit in the other
+-- cells that fit in one object fit in another with the same cells
 plain_memory : (o z : Object) (v : Valuation) (m : Updates) (cells : Cells) → z.cells ≡ o.cells →
     All HasPlainCell o.cells → FitsCells o v m cells → FitsCells z v m cells
 unfolding FitsCells
@@ -229,7 +229,7 @@ plain_memory o z v m cells e p h = λ a b at.
     let f = h a b at' in
     record { word = f.word; typed = plain_type o z _ b e (plain_cell o a b p at') f.typed }
 
--- what fits a starting context fits that of a code type which says the same, in an object with the same cells
+-- a state that fits a starting context fits that of a code type that agrees, in an object with the same cells
 pub start_fits_like : (o z : Object) (v : Valuation) (t u : ℕ) (s : State) (a : ℕ) → z.cells ≡ o.cells →
     All HasPlainCell o.cells → All HasPlainRows o.types → LikeTypes o t z u → FitsContext o v (start_context o t) s →
     FitsContext z v (start_context z u) (at_address a s)
@@ -254,7 +254,7 @@ start_fits_like o z v t u s a e p r l f = subst (λ (c : Context). FitsContext z
 abbrev pub block_place : Object → Block → Valuation → Place
 block_place o y v = record { block = y; index = 0; context = start_context o y.code_type; valuation = v }
 
--- the context there is the starting one
+-- the context at the start of a block is the starting context
 pub block_begins : (o : Object) (n : ℕ) (y : Block) → slice_get o.blocks n ≡ Some y → context_at o n 0
     ≡ Some (start_context o y.code_type)
 unfolding context_at
@@ -262,7 +262,7 @@ block_begins o n y there =
     let kind : block_type o n ≡ y.code_type = ap (λ z. unwrap_or (option_map code_type_of z) 0) there in
     ap (λ t. Some (start_context o t)) kind
 
--- a state that fits the starting context fits there
+-- a state that fits the starting context fits the place
 pub block_start_fits : (o : Object) (y : Block) (v : Valuation) (s : State) →
     FitsContext o v (start_context o y.code_type) s → s.pc_green ≡ code_address y.start → s.pc_blue
     ≡ code_address y.start → s.fetched ≡ None → Fits o (block_place o y v) s

@@ -16,7 +16,7 @@ use Rattle.ft_types.specs.declared.object.Object.{Object}
 use Rattle.ft_types.specs.declared.object.RegType.{RegType}
 use Rattle.ft_types.specs.Objects.{reg_rows}
 
--- the registers that a `mov` which claims a code type wrote last, each with that code type
+-- the registers that were last written by a `mov` that claims a code type, each with that code type
 abbrev pub Entered : Type 0
 Entered = FinMap nat_cmp ℕ
 
@@ -30,22 +30,22 @@ code_over (suc k) base = None
 abbrev pub code_claimed : Basic → Option ℕ
 code_claimed b = code_over b.refs b.base
 
--- a register is entered with a code type, or taken out
+-- enters a register with a code type, or removes it
 abbrev pub entered_with : ℕ → Option ℕ → Entered → Entered
 entered_with r None e = finite.remove e r
 entered_with r (Some t) e = finite.insert e r t
 
--- the code type that an instruction claims of what it writes
+-- the code type that an instruction claims for the word that it writes
 abbrev pub claimed : Instr → Option ℕ
 claimed (Mov rd value basic) = code_claimed basic
 claimed i = None
 
--- a register, if one is given, is entered with a code type, or taken out
+-- enters a register with a code type, or removes it, if a register is given
 abbrev pub entered_past : Option ℕ → Option ℕ → Entered → Entered
 entered_past None t e = e
 entered_past (Some r) t e = entered_with r t e
 
--- the entered registers after an instruction: the one that it writes is entered or taken out
+-- the entered registers after an instruction: the one that it writes is entered or removed
 abbrev pub entered_after : Instr → Entered → Entered
 entered_after i e = entered_past (written i) (claimed i) e
 
@@ -68,7 +68,7 @@ is_entered e r = is_some (finite.get e r.number)
 abbrev pub are_free : Entered → List RegType → Bool
 are_free e rows = list_all (λ (r : RegType). is_free e r.reg) rows
 
--- whether a target is entered, with a code type without rows for entered registers
+-- whether a target is entered, and its code type has no row for an entered register
 abbrev pub is_free_target : Object → Entered → Option ℕ → Bool
 is_free_target o e None = false
 is_free_target o e (Some t) = are_free e (reg_rows o t)
@@ -82,7 +82,7 @@ is_traced o e (BzG rz rd) = is_free e rz && is_entered e rd
 is_traced o e (BzB rz rd subst) = is_free e rz && is_free_target o e (finite.get e rd.number)
 is_traced o e i = both_free e (first_read i) (second_read i)
 
--- the first of these instructions, counted from k, at which the walk fails
+-- the index, counted from k, of the first of these instructions at which the walk fails
 unfoldable pub code_walk : Object → Entered → ℕ → List Instr → Option ℕ
 code_walk o e k [] = None
 code_walk o e k (i ∷ is) = if is_traced o e i then code_walk o (entered_after i e) (suc k) is else Some k

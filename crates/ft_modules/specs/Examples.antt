@@ -1,4 +1,4 @@
--- Short words for the modules and maps of examples.
+-- Modules and maps for the examples.
 use Rattle.std.specs.Prelude.{ℕ, List, [], ◌∷◌, Option, codes}
 use Rattle.ft_isa.specs.declared.colour.Colour.TheVariants.{Green, Blue}
 use Rattle.ft_isa.specs.declared.instr.Instr.{Instr}
@@ -15,7 +15,7 @@ use Rattle.ft_semantics.specs.State.{start}
 use Rattle.ft_modules.specs.Links.{links}
 use Rattle.ft_modules.specs.ModulesRun.{InModule, sent}
 
--- the substitution without rows, before any other
+-- a substitution without rows, at the start of the table
 abbrev pub no_rows : Subst
 no_rows = record { first = 0; past = 0; memory = 0 }
 
@@ -61,21 +61,21 @@ stores_address =
     Mov r0 (green out) (ref int) ∷ Mov r1 (green 1) (code 0) ∷ Mov r32 (blue out) (ref int) ∷ Mov r33 (blue 1) (code 0)
     ∷ St Green r0 r1 ∷ St Blue r32 r33 ∷ Halt ∷ []
 
--- no names
+-- a map without exports and imports
 abbrev pub no_links : LinkMap
 no_links = record { files = codes "m" ∷ codes "a" ∷ []; exports = []; imports = [] }
 
--- a module with the remainder of a variable among its nodes, which takes the address of a cell of a run
+-- a module that takes the address of a cell of a run, with the remainder of a variable among its nodes
 abbrev pub names_cell : Object
 names_cell = record (one_block 0 (takes_address 0 1)) {
   nodes = record { scope = 0; shape = shape.Memory } ∷ record { scope = 1; shape = shape.Var 0 } ∷ record { scope = 1; shape = shape.Rem 1 1 } ∷ [];
 }
 
--- a code address is read as the number of a cell
+-- a code address is used as the number of a cell
 abbrev pub indexes_by_address : List Instr
 indexes_by_address = Mov r1 (green 1) (code 0) ∷ Idx r2 r1 0 1 ∷ Halt ∷ []
 
--- a module with a code type that says that a register holds a code address
+-- a module with a code type that states that a register holds a code address
 abbrev pub knows_address : Object
 knows_address = record storer { types = record nothing_known { regs = record { reg = r0; colour = Green; basic = code 0; expr = 0 } ∷ [] } ∷ [] }
 

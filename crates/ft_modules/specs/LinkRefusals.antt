@@ -1,4 +1,4 @@
--- Why modules are not linked: the refusals in their order.
+-- Why modules are not linked: the refusals, in order.
 use Rattle.std.specs.Prelude.{ℕ, suc, Bool, true, false, ◌&&◌, not, ◌==◌, nat_le, nat_lt, min, if◌then◌else◌, List, [], ◌∷◌, ◌++◌, length, find, slice_get, sum_by, Option, None, Some}
 use Rattle.std.specs.List.{list_all}
 use Rattle.std.specs.Option.{option_map, option_or, unwrap_or}
@@ -21,7 +21,7 @@ use Rattle.ft_modules.specs.CodeWalk.{code_walk}
 use Rattle.ft_modules.specs.Links.{same_name, export_of, type_in}
 use Rattle.ft_modules.specs.SameTrees.{like_types}
 
--- the refusals 3 to 10: of a module by its number, the fifth with a block and an index in it, and of a line of the map
+-- refusals 3 to 10: of a module, by its number (refusal 5 with a block and an index in it), or of a line of the map
 pub data LinkRefusal : Type 0 where
   Cells : ℕ → LinkRefusal
   Rows : ℕ → LinkRefusal
@@ -32,7 +32,7 @@ pub data LinkRefusal : Type 0 where
   Missing : ℕ → LinkRefusal
   Types : ℕ → LinkRefusal
 
--- OF MODULES
+-- REFUSALS OF MODULES
 
 -- whether a base is `int`
 abbrev pub is_int : Base → Bool
@@ -62,7 +62,7 @@ is_plain_row r = is_int r.basic.base
 abbrev pub has_plain_rows : CodeType → Bool
 has_plain_rows t = list_all is_plain_row t.regs
 
--- the first of these blocks, counted from b, and the index in it, at which the walk fails
+-- the first of these blocks, counted from b, at which the walk fails, and the index in it
 abbrev pub first_walk_fault : Object → ℕ → List Block → Option (ℕ × ℕ)
 first_walk_fault o b [] = None
 first_walk_fault o b (y ∷ ys) = option_or (option_map (λ i. (b, i)) (code_walk o finite.empty 0 (block_instrs o b))) (first_walk_fault o (suc b) ys)
@@ -82,7 +82,7 @@ are_few modules =
 abbrev pub unless : Bool → LinkRefusal → Option LinkRefusal
 unless b r = if b then None else Some r
 
--- why module m is refused if it is added to modules the first of which has these cells
+-- why module m is refused after these earlier modules, if it is; the first module has these cells
 abbrev pub module_refusal : List Object → ℕ → List Cell → Object → Option LinkRefusal
 module_refusal earlier m cells o =
     option_or (unless (same_cells o.cells cells && list_all is_plain_cell o.cells) (Cells m)) (
@@ -90,12 +90,12 @@ module_refusal earlier m cells o =
     option_or (option_map (λ f. CodeOf m f.0 f.1) (first_walk_fault o 0 o.blocks)) (
     unless (are_few (earlier ++ o ∷ [])) (TooBig m))))
 
--- modules that are added in turn
+-- why modules that are added in turn are refused: the first refusal
 unfoldable pub modules_refusal : List Object → ℕ → List Cell → List Object → Option LinkRefusal
 modules_refusal earlier m cells [] = None
 modules_refusal earlier m cells (o ∷ os) = option_or (module_refusal earlier m cells o) (modules_refusal (earlier ++ o ∷ []) (suc m) cells os)
 
--- OF LINES
+-- REFUSALS OF LINES
 
 -- whether module m has block b
 abbrev pub has_block : List Object → ℕ → ℕ → Bool
@@ -105,7 +105,7 @@ has_block modules m b = nat_lt b (unwrap_or (option_map (λ (o : Object). length
 abbrev pub line_of : Ask → ℕ
 line_of a = a.line
 
--- the first line whose block does not exist
+-- the line of the first of these whose block does not exist
 abbrev pub first_without : List Object → List Ask → Option ℕ
 first_without modules asks = option_map line_of (find (λ (a : Ask). not (has_block modules a.module a.block)) asks)
 
@@ -115,12 +115,12 @@ lower_line None y = y
 lower_line (Some a) None = Some a
 lower_line (Some a) (Some b) = Some (min a b)
 
--- whether these are the one instruction `halt`
+-- whether an instruction is `halt`
 abbrev pub is_halt : Instr → Bool
 is_halt Halt = true
 is_halt i = false
 
--- whether a block of these instructions is a stub: it is one `halt`
+-- whether a block of these instructions is a stub: the single instruction `halt`
 abbrev pub is_stub : List Instr → Bool
 is_stub [] = false
 is_stub (i ∷ []) = is_halt i
@@ -130,13 +130,13 @@ is_stub (i ∷ j ∷ js) = false
 abbrev pub instrs_in : List Object → ℕ → ℕ → List Instr
 instrs_in modules m b = unwrap_or (option_map (λ (o : Object). block_instrs o b) (slice_get modules m)) []
 
--- whether code types t and u of two modules exist and say the same
+-- whether two modules exist and their code types t and u agree
 abbrev pub like_in : Option Object → ℕ → Option Object → ℕ → Bool
 like_in (Some o) t (Some x) u = like_types o t x u
 like_in (Some o) t None u = false
 like_in None t x u = false
 
--- an import, by the export of its name
+-- why an import is refused, if it is, given the export of its name
 abbrev pub for_export : List Object → Ask → Option Ask → Option LinkRefusal
 for_export modules i None = Some (Missing i.line)
 for_export modules i (Some e) = unless (like_in (slice_get modules i.module) (type_in modules i.module i.block) (slice_get modules e.module) (type_in modules e.module e.block)) (Types i.line)
@@ -145,12 +145,12 @@ for_export modules i (Some e) = unless (like_in (slice_get modules i.module) (ty
 abbrev pub import_refusal : List Object → List Ask → Ask → Option LinkRefusal
 import_refusal modules exports i = option_or (unless (is_stub (instrs_in modules i.module i.block)) (Stub i.line)) (for_export modules i (export_of exports i.name))
 
--- the first import that is refused
+-- the refusal of the first import that is refused
 unfoldable pub imports_refusal : List Object → List Ask → List Ask → Option LinkRefusal
 imports_refusal modules exports [] = None
 imports_refusal modules exports (i ∷ is) = option_or (import_refusal modules exports i) (imports_refusal modules exports is)
 
--- why a map's modules are not linked, if they are not
+-- why a map's modules cannot be linked, if they cannot
 abbrev pub link_refusal : LinkMap → Object → List Object → Option LinkRefusal
 link_refusal linkage first others =
     let modules : List Object = first ∷ others in

@@ -1,4 +1,4 @@
--- Modules that are linked without a refusal.
+-- When no refusal applies to modules and their map.
 use Rattle.std.specs.Prelude.{◌≡◌, ℕ, ◌≤◌, ◌<◌, List, [], ◌∷◌, length, slice_get, Some, None}
 use Rattle.std.specs.FinMap as finite
 use Rattle.std.specs.Prelude.{All, sum_by}
@@ -17,11 +17,11 @@ use Rattle.ft_modules.specs.CodeWalk.{code_walk}
 use Rattle.ft_modules.specs.LikeTypes.{LikeTypes}
 use Rattle.ft_modules.specs.Links.{Link, links, export_of, type_in}
 
--- refusal 3: a cell's base is `int`
+-- not refusal 3: the cell's base is `int`
 abbrev pub HasPlainCell : Cell → Type 0
 HasPlainCell c = c.basic.base ≡ Int
 
--- refusal 4: the bases of register rows are `int`
+-- not refusal 4: the register row's base is `int`
 abbrev pub HasPlainRow : RegType → Type 0
 HasPlainRow r = r.basic.base ≡ Int
 
@@ -29,7 +29,7 @@ HasPlainRow r = r.basic.base ≡ Int
 abbrev pub HasPlainRows : CodeType → Type 0
 HasPlainRows t = All HasPlainRow t.regs
 
--- a module that is added to modules with these cells: refusals 3, 4 and 5 do not apply
+-- a module that can be added to modules with these cells: refusals 3, 4 and 5 do not apply
 pub record IsModule (cells : List Cell) (o : Object) : Type 0 where
   pub spelled : IsSpellable o
   pub accepted : IsAccepted o
@@ -38,7 +38,7 @@ pub record IsModule (cells : List Cell) (o : Object) : Type 0 where
   pub plain_rows : All HasPlainRows o.types
   pub walked : (b : ℕ) → b < length o.blocks → code_walk o finite.empty 0 (block_instrs o b) ≡ None
 
--- refusal 6: the totals are within their limits
+-- not refusal 6: the totals are within their limits
 pub record AreFew (modules : List Object) : Type 0 where
   pub nodes : sum_by (λ (o : Object). length o.nodes) modules ≤ 1048576
   pub types : sum_by (λ (o : Object). length o.types) modules ≤ 4096
@@ -48,25 +48,25 @@ pub record AreFew (modules : List Object) : Type 0 where
   pub instrs : sum_by (λ (o : Object). length o.instrs) modules ≤ 65536
   pub substs : sum_by (λ (o : Object). length o.substs) modules ≤ 1048576
 
--- refusal 7: the module has the block
+-- not refusal 7: the module has the block
 pub record HasBlock (modules : List Object) (m b : ℕ) : Type 0 where
   pub object : Object
   pub there : slice_get modules m ≡ Some object
   pub below : b < length object.blocks
 
--- refusals 7, 8 and 10 of an import and the export of its name: both blocks exist, the imported one is a stub, and
--- their code types say the same
+-- none of refusals 7, 8 and 10 for an import and the export of its name: both blocks exist, the imported one is a stub,
+-- and their code types agree
 pub record IsJoined (modules : List Object) (l : Link) : Type 0 where
   pub from : HasBlock modules l.module_of l.block
   pub to : HasBlock modules l.to_module l.to_block
   pub stub : block_instrs from.object l.block ≡ Halt ∷ []
   pub types : LikeTypes from.object (type_in modules l.module_of l.block) to.object (type_in modules l.to_module l.to_block)
 
--- refusal 9: an import's name is exported
+-- not refusal 9: the import's name is exported
 abbrev pub IsExported : List Ask → Ask → Type 0
 IsExported exports i = (e : Ask) × (export_of exports i.name ≡ Some e)
 
--- none of the refusals 3 to 10 applies
+-- none of refusals 3 to 10 applies
 pub record AreLinkable (linkage : LinkMap) (first : Object) (others : List Object) : Type 0 where
   pub modules : All (IsModule first.cells) (first ∷ others)
   pub few : AreFew (first ∷ others)

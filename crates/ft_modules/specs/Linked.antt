@@ -23,7 +23,7 @@ use Rattle.ft_modules.specs.Links.{Link, links, start_in, type_in}
 
 -- RAISED NUMBERS
 
--- before the first module, all totals are 0
+-- the totals before the first module: all 0
 abbrev pub nothing_before : Before
 nothing_before = record { nodes = 0; types = 0; blocks = 0; instrs = 0; substs = 0 }
 
@@ -43,44 +43,44 @@ before_module k [] m = k
 before_module k (o ∷ os) zero = k
 before_module k (o ∷ os) (suc m) = before_module (after_module k o) os m
 
--- a node whose parts are raised by this many nodes
+-- a shape whose parts are raised by this many nodes
 abbrev pub raised_shape : ℕ → Shape → Shape
 raised_shape n x = renamed (λ k. n + k) x
 
--- a node, with the same scope
+-- a node, raised; its scope stays
 abbrev pub raised_node : ℕ → Node → Node
 raised_node n x = record { scope = x.scope; shape = raised_shape n x.shape }
 
--- the rows of a code type; their basic types name no code type
+-- a register row, raised; its basic type names no code type
 abbrev pub raised_row : ℕ → RegType → RegType
 raised_row n r = record { reg = r.reg; colour = r.colour; basic = r.basic; expr = n + r.expr }
 
--- a queue row: the nodes of an address and of a value
+-- a queue row, raised: the nodes of its address and its value
 abbrev pub raised_pair : ℕ → ℕ × ℕ → ℕ × ℕ
 raised_pair n q = (n + q.0, n + q.1)
 
--- a code type, with as many variables
+-- a code type, raised; its number of variables stays
 abbrev pub raised_type : ℕ → CodeType → CodeType
 raised_type n t = record { ints = t.ints; regs = map (raised_row n) t.regs; queue = map (raised_pair n) t.queue; memory = n + t.memory }
 
--- a block: where it begins, and its code type
+-- a block, raised: where it begins, and its code type
 abbrev pub raised_block : Before → Block → Block
 raised_block k b = record { start = k.instrs + b.start; code_type = k.types + b.code_type }
 
--- a substitution: its rows, and the node of its memory
+-- a substitution, raised: its rows, and the node of its memory
 abbrev pub raised_subst : Before → Subst → Subst
 raised_subst k u = record { first = k.substs + u.first; past = k.substs + u.past; memory = k.nodes + u.memory }
 
--- a `mov` of another word and another code type
+-- a `mov` with another word and another code type
 abbrev pub moves_to : Reg → Coloured → ℕ → ℕ → Instr
 moves_to rd x w t = Mov rd (record { colour = x.colour; word = w }) (code t)
 
--- a `mov`, by the code type that it claims
+-- a `mov`, raised if it claims a code type
 abbrev pub raised_mov : Before → Reg → Coloured → Basic → Option ℕ → Instr
 raised_mov k rd x b None = Mov rd x b
 raised_mov k rd x b (Some t) = moves_to rd x (k.instrs + x.word) (k.types + t)
 
--- an instruction of a module; the cells that an `idx` selects from are the same in all modules
+-- an instruction, raised; the cells that an `idx` selects from are the same in all modules
 abbrev pub raised_instr : Before → Instr → Instr
 raised_instr k (Mov rd value basic) = raised_mov k rd value basic (code_claimed basic)
 raised_instr k (JmpB rd subst) = JmpB rd (raised_subst k subst)
@@ -89,13 +89,13 @@ raised_instr k i = i
 
 -- CHANGED MOVES
 
--- a code address that is redirected to another, where a block of this code type begins
+-- a code address that is redirected to another, at which a block of this code type begins
 pub record Change : Type 0 where
   pub from : ℕ
   pub to : ℕ
   pub code_type : ℕ
 
--- a link as a change of addresses in the linked object
+-- a link, as a change of addresses in the linked object
 abbrev pub change_of : List Object → Link → Change
 change_of modules l = record {
   from = code_address ((before_module nothing_before modules l.module_of).instrs + start_in modules l.module_of l.block);
@@ -107,17 +107,17 @@ change_of modules l = record {
 abbrev pub change_at : List Change → ℕ → Option Change
 change_at changes w = find (λ (c : Change). w == c.from) changes
 
--- a `mov`, by the change of its word
+-- a `mov`, changed if there is a change of its word
 abbrev pub changed_by : Reg → Coloured → Basic → Option Change → Instr
 changed_by rd x b None = Mov rd x b
 changed_by rd x b (Some c) = moves_to rd x c.to c.code_type
 
--- a `mov`, by the code type that it claims
+-- a `mov`, changed only if it claims a code type
 abbrev pub changed_mov : List Change → Reg → Coloured → Basic → Option ℕ → Instr
 changed_mov changes rd x b None = Mov rd x b
 changed_mov changes rd x b (Some t) = changed_by rd x b (change_at changes x.word)
 
--- an instruction, with the moves of imported addresses changed
+-- an instruction, changed if it is a move of an imported address
 abbrev pub changed_instr : List Change → Instr → Instr
 changed_instr changes (Mov rd value basic) = changed_mov changes rd value basic (code_claimed basic)
 changed_instr changes i = i

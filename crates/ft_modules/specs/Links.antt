@@ -6,7 +6,7 @@ use Rattle.ft_types.specs.Objects.{block_start, block_type}
 use Rattle.ft_link_map.specs.declared.link_map.Ask.{Ask}
 use Rattle.ft_link_map.specs.declared.link_map.LinkMap.{LinkMap}
 
--- an imported block, by module and number in it, and the exported block that replaces it
+-- an imported block, by its module and its number in it, and the exported block that replaces it
 pub record Link : Type 0 where
   pub module_of : ℕ
   pub block : ℕ
@@ -24,16 +24,16 @@ same_name (a ∷ xs) (b ∷ bs) = (a == b) && same_name xs bs
 abbrev pub export_of : List Ask → List ℕ → Option Ask
 export_of exports name = find (λ (e : Ask). same_name e.name name) exports
 
--- an import, with the export of its name if there is one
+-- an import, linked to the export of its name if there is one
 abbrev pub link_by : Ask → Option Ask → Option Link
 link_by i None = None
 link_by i (Some e) = Some (record { module_of = i.module; block = i.block; to_module = e.module; to_block = e.block })
 
--- the imports of a map, each with the export of its name
+-- the imports of a map that have an export of their name, each linked to it
 unfoldable pub links : LinkMap → List Link
 links map = filter_map (λ (i : Ask). link_by i (export_of map.exports i.name)) map.imports
 
--- the first instruction of block b of module m, 0 if it does not exist
+-- the index of the first instruction of block b of module m, 0 if it does not exist
 abbrev pub start_in : List Object → ℕ → ℕ → ℕ
 start_in modules m b = unwrap_or (option_map (λ o. block_start o b) (slice_get modules m)) 0
 

@@ -1,4 +1,4 @@
--- The modules' run: a machine in one module at a time; at an imported block's address it moves on to the exported
+-- The modules' run: a machine is in one module at a time, and moves on from an imported block's address to the exported
 -- block.
 use Rattle.std.specs.Prelude.{◌≡◌, ℕ, zero, suc, ◌+◌, ◌==◌, ◌&&◌, if◌then◌else◌, List, [], ◌∷◌, ◌++◌, find, slice_get, Option, Some, None}
 use Rattle.std.proofs.Common.{refl, add-one}
@@ -18,7 +18,7 @@ pub record InModule : Type 0 where
   pub number : ℕ
   pub state : State
 
--- the link of an import of module m whose block has this address
+-- the link from the imported block of module m that has this address
 abbrev pub link_at : List Object → List Link → ℕ → ℕ → Option Link
 link_at modules joins m a = find (λ (l : Link). (l.module_of == m) && (a == code_address (start_in modules l.module_of l.block))) joins
 
@@ -29,7 +29,7 @@ sent_by modules x (Some l) =
     let a = code_address (start_in modules l.to_module l.to_block) in
     record { number = l.to_module; state = record x.state { pc_green = a; pc_blue = a } }
 
--- where a machine is sent, by what is fetched
+-- where a machine is sent, by whether something is fetched
 abbrev pub sent_unfetched : List Object → List Link → InModule → Option Instr → InModule
 sent_unfetched modules joins x (Some i) = x
 sent_unfetched modules joins x None = if x.state.pc_green == x.state.pc_blue then sent_by modules x (link_at modules joins x.number x.state.pc_green) else x
@@ -39,7 +39,7 @@ sent_unfetched modules joins x None = if x.state.pc_green == x.state.pc_blue the
 abbrev pub sent : List Object → List Link → InModule → InModule
 sent modules joins x = sent_unfetched modules joins x x.state.fetched
 
--- one step on the module's object, with no answers to wild loads
+-- one step in the module's object, with no answers to wild loads
 abbrev pub step_in : Option Object → State → Stepping
 step_in None s = quiet s []
 step_in (Some o) s = step o s []
@@ -53,7 +53,7 @@ pub record ModulesRan : Type 0 where
 abbrev pub stepped : ℕ → List Output → Stepping → ModulesRan
 stepped m outputs t = record { at = record { number = m; state = t.state }; outputs = outputs ++ option_to_list t.output }
 
--- the step of a machine that was sent on
+-- the run after a step of a machine that was sent
 abbrev pub after_sent : List Object → List Output → InModule → ModulesRan
 after_sent modules outputs x = stepped x.number outputs (step_in (slice_get modules x.number) x.state)
 

@@ -1,5 +1,5 @@
--- Numbers of trees: nodes that stand for the same tree have the same number, so that trees are compared without being
--- walked.
+-- Numbers of trees: nodes have the same number exactly if they stand for the same tree, so trees are compared without
+-- walking them.
 use Rattle.std.specs.Prelude.{◌≡◌, ◌↔◌, ℕ, ◌<◌, List, slice_index_or}
 use Rattle.ft_static.specs.NodeParts.{renamed}
 use Rattle.ft_static.specs.NodeTree.{tree_at}
@@ -10,10 +10,10 @@ use Rattle.ft_static.specs.declared.node.Shape.{Shape}
 abbrev pub number_in : List ℕ → ℕ → ℕ
 number_in cs n = slice_index_or cs n 0
 
--- a shape with the numbers of its parts
+-- a shape with its parts replaced by their numbers
 abbrev pub key_of : List ℕ → Shape → Shape
 key_of cs x = renamed (number_in cs) x
 
--- these are numbers of the first n nodes: two are equal exactly if the trees are
+-- these are numbers of the first n nodes: two are equal exactly if the nodes' trees are
 abbrev pub AreTreeNumbers : List Node → List ℕ → ℕ → Type 0
 AreTreeNumbers nodes cs n = (i j : ℕ) → i < n → j < n → number_in cs i ≡ number_in cs j ↔ tree_at nodes i ≡ tree_at nodes j

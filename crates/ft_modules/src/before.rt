@@ -1,4 +1,4 @@
-//! The totals before a module.
+//! The totals of the modules before a module.
 
 /// How many rows of each kind come before a module.
 #[derive(Clone, Copy, Debug, PartialEq, Eq)]

@@ -1,5 +1,5 @@
-//! Examples of linked objects, of walks that fail and why they have to, and of where machines are sent.
-//! Each function does nothing: its clauses are computed from the definitions.
+//! Examples of linked objects, of walks that fail and why they must, and of where machines are sent. Each function does
+//! nothing: its clauses are computed from the definitions.
 ghost use Rattle.std.specs.Prelude.{◌≡◌, None, Some, [], ◌∷◌, ◌++◌};
 ghost use Rattle.std.specs.FinMap as finite;
 ghost use Rattle.ft_isa.specs.declared.colour.Colour.TheVariants.{Blue, Green};
@@ -16,9 +16,9 @@ ghost use Rattle.ft_modules.specs.Examples.{caller, go, hands_address_over, hold
 ghost use Rattle.ft_modules.specs.Linked.{linked};
 ghost use Rattle.ft_modules.specs.LinkRefusals.{Cells, CodeOf, Missing, NoBlock, Rows, Stub, Types, link_refusal};
 
-/// The object that two modules are linked into: the jump to the stub goes to the exported block, whose code type it
-/// claims; and if the entry block is imported, the exported block is the entry. The numbers of the second module's
-/// nodes, code types, blocks and substitution rows are raised, and those of cells are not.
+/// Two modules, linked: the jump to the stub goes to the exported block and claims its code type; if the entry block is
+/// imported, the exported block is the entry. The numbers of the second module's nodes, code types, blocks and
+/// substitution rows are raised; those of cells are not.
 pub fn examples_of_linking()
     ensures instrs { (linked (importing 1) caller (storer ∷ [])).instrs ≡ Mov r1 (green 6) (code 1) ∷ Mov r33 (blue 6) (code 1) ∷ JmpG r1 ∷ JmpB r33 no_rows ∷ Halt ∷ stores_five }
     ensures accepted { refusal (linked (importing 1) caller (storer ∷ [])) ≡ None }
@@ -32,7 +32,7 @@ pub fn examples_of_linking()
 {}
 
 /// Walks of blocks: a code address that is only jumped to, one that is passed on as a number, one that is stored, one
-/// that selects a cell of a run, and a jump to an address that no `mov` put there.
+/// that selects a cell of a run, and a jump to an address that no `mov` wrote.
 pub fn examples_of_walks()
     ensures jumped_to { code_walk caller finite.empty 0 (block_instrs caller 0) ≡ None }
     ensures handed_over { code_walk hands_address_over finite.empty 0 (block_instrs hands_address_over 0) ≡ Some 5 }
@@ -41,7 +41,7 @@ pub fn examples_of_walks()
     ensures unknown { code_walk caller finite.empty 0 (JmpG r1 ∷ Halt ∷ []) ≡ Some 0 }
 {}
 
-/// Where a machine is sent before a step: from the stub at address 5 to the storer's block; and nowhere from another
+/// Where a machine is sent before a step: from the stub at address 5 to the storer's block; but nowhere from another
 /// address, if something is fetched, if the counters differ, or in the storer.
 pub fn examples_of_sending()
     ensures stub { sent_from (machine_at 0 5 5 None) ≡ machine_at 1 1 1 None }
@@ -51,8 +51,10 @@ pub fn examples_of_sending()
     ensures storer { sent_from (machine_at 1 5 5 None) ≡ machine_at 1 5 5 None }
 {}
 
-/// Why the walk looks at the target's rows: a module that passes its code address on as a number is accepted, but an
-/// object linked with it in second place is not.
+/// Why the walk looks at the target's rows: a module that passes on its code address as a number is accepted, but not
+/// an object in which it is linked after another module. And why it looks at every use of an address: a module that
+/// stores its code address is accepted, and so is an object in which it is linked after another module, though there it
+/// stores another word.
 pub fn examples_of_addresses_as_numbers()
     ensures alone { refusal hands_address_over ≡ None }
     ensures behind_another { refusal (linked no_links storer (hands_address_over ∷ [])) ≡ Some (Refused 1 5 premise.RegisterUnlike) }
@@ -60,7 +62,7 @@ pub fn examples_of_addresses_as_numbers()
     ensures stored_behind { refusal (linked no_links storer (one_block 0 stores_address ∷ [])) ≡ None }
 {}
 
-/// Refusals: none for modules that can be linked, and others by their cause.
+/// Refusals, by cause, and none for modules that can be linked.
 pub fn examples_of_link_refusals()
     ensures linked { link_refusal (importing 1) caller (storer ∷ []) ≡ None }
     ensures entry { link_refusal (importing 0) only_stub (storer ∷ []) ≡ None }

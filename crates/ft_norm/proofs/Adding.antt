@@ -1,4 +1,4 @@
--- A term may be added before or after others, and to either part of a sum or of a product.
+-- Terms may be added in any order, and to either operand of a sum or a product.
 use Rattle.std.proofs.Common.{ℕ, ◌≡◌, ◌+◌, ◌*◌, ◌-◌, ◌%◌, ◌^◌, ◌<◌, refl, sym, ap, ◌∙◌, arith, lit<}
 use Rattle.std.proofs.Math.Nat.{mod-lt}
 use Rattle.ft_static.specs.Coefficient.{share}
@@ -9,7 +9,7 @@ use Rattle.ft_norm.proofs.Weights.{rises_total, share_linear, terms_linear, time
 use Rattle.ft_norm.proofs.Weights.{weigh, weigh_add, weigh_multiple, share_negation, weigh_negation, weigh_products}
 use Rattle.ft_norm.proofs.Weights.{weigh_total}
 
--- two terms are added in either order
+-- two terms may be added in either order
 pub add_swap : (m n : Monomial) (c d : ℕ) (p : Polynomial) → c < 2 ^ 64 → d < 2 ^ 64 → Rises p →
     add_term m c (add_term n d p) ≡ add_term n d (add_term m c p)
 add_swap m n c d p l r w = known (add_term m c (add_term n d p)) (add_term n d (add_term m c p))
@@ -23,7 +23,7 @@ add_swap m n c d p l r w = known (add_term m c (add_term n d p)) (add_term n d (
     ∙ sym (weigh_add f s n d (add_term m c p) ∙ mods_both (f n d) (f n d) (weigh f (add_term m c p)) (f m c + weigh f p)
     refl (weigh_add f s m c p))))
 
--- two terms of one monomial are one
+-- two terms of one monomial may be added as one
 pub add_merge : (m : Monomial) (c d : ℕ) (p : Polynomial) → c < 2 ^ 64 → d < 2 ^ 64 → Rises p →
     add_term m ((c + d) % 2 ^ 64) p ≡ add_term m c (add_term m d p)
 add_merge m c d p l r w = known (add_term m ((c + d) % 2 ^ 64) p) (add_term m c (add_term m d p))
@@ -37,14 +37,14 @@ add_merge m c d p l r w = known (add_term m ((c + d) % 2 ^ 64) p) (add_term m c 
     ∙ sym (weigh_add f s m c (add_term m d p) ∙ mods_both (f m c) (f m c) (weigh f (add_term m d p)) (f m d + weigh f p)
     refl (weigh_add f s m d p))))
 
--- a term with the coefficient 0 is none
+-- adding a term with the coefficient 0 changes nothing
 pub add_none : (m : Monomial) (p : Polynomial) → Rises p → add_term m 0 p ≡ p
 add_none m p w = known (add_term m 0 p) p (rises_add m 0 p (lit< tt) w) w
     (λ k. let s = share_linear k in weigh_add (share k) s m 0 p
     ∙ (mods_both (share k m 0) 0 (weigh (share k) p) (weigh (share k) p) (s.none m) refl
     ∙ ap (λ t. t % 2 ^ 64) (let e : 0 + weigh (share k) p ≡ weigh (share k) p = omega arith in e)))
 
--- a term of the first part of a sum is one of the second
+-- a term may be added to either operand of a sum
 pub total_add : (m : Monomial) (c : ℕ) (p q : Polynomial) → c < 2 ^ 64 → Rises p → Rises q → total (add_term m c p) q
     ≡ total p (add_term m c q)
 total_add m c p q l w v = known (total (add_term m c p) q) (total p (add_term m c q))
@@ -58,13 +58,13 @@ total_add m c p q l w v = known (total (add_term m c p) q) (total p (add_term m 
     ∙ sym (weigh_total f s p (add_term m c q) ∙ mods_both (weigh f p) (weigh f p) (weigh f (add_term m c q))
     (f m c + weigh f q) refl (weigh_add f s m c q))))
 
--- a sum with nothing
+-- the sum with the zero polynomial
 pub total_none : (p : Polynomial) → Rises p → total p nought ≡ p
 total_none p w = known (total p nought) p (rises_total p nought w tt) w
     (λ k. weigh_total (share k) (share_linear k) p nought
     ∙ ap (λ t. t % 2 ^ 64) (let e : weigh (share k) p + 0 ≡ weigh (share k) p = omega arith in e))
 
--- a term of the factor of a term is one of the sum
+-- adding a term to the second factor adds its product to the sum
 pub multiple_add : (m n : Monomial) (c d : ℕ) (q r : Polynomial) → d < 2 ^ 64 → Rises r →
     add_multiple m c (add_term n d q) r ≡ add_multiple m c q (add_term (join m n) ((c * d) % 2 ^ 64) r)
 multiple_add m n c d q r l v = known (add_multiple m c (add_term n d q) r)
@@ -84,7 +84,7 @@ multiple_add m n c d q r l v = known (add_multiple m c (add_term n d q) r)
     ∙ mods_both (times_terms f q m c) (times_terms f q m c) (weigh f (add_term (join m n) ((c * d) % 2 ^ 64) r))
     (z + weigh f r) refl (weigh_add f s (join m n) ((c * d) % 2 ^ 64) r))))
 
--- a term of the first factor gives its products to the sum
+-- adding a term to the first factor adds its products to the sum
 pub products_add : (m : Monomial) (c : ℕ) (p q r : Polynomial) → Rises r → add_products (add_term m c p) q r
     ≡ add_products p q (add_multiple m c q r)
 products_add m c p q r v = known (add_products (add_term m c p) q r) (add_products p q (add_multiple m c q r))
@@ -100,7 +100,7 @@ products_add m c p q r v = known (add_products (add_term m c p) q r) (add_produc
     ∙ mods_both (weigh g p) (weigh g p) (weigh f (add_multiple m c q r)) (g m c + weigh f r) refl
     (weigh_multiple f s m c q r))))
 
--- a negation of a sum, term by term
+-- the negation of a sum, term by term
 pub negation_add : (m : Monomial) (c : ℕ) (p : Polynomial) → c < 2 ^ 64 → Rises p → negation (add_term m c p)
     ≡ add_term m ((2 ^ 64 - c % 2 ^ 64) % 2 ^ 64) (negation p)
 negation_add m c p l w = known (negation (add_term m c p)) (add_term m ((2 ^ 64 - c % 2 ^ 64) % 2 ^ 64) (negation p))

@@ -1,4 +1,4 @@
--- Polynomials that differ by a constant: the terms other than their constants are the same.
+-- Two polynomials differ by a constant exactly if their other terms are the same.
 use Rattle.std.proofs.Common.{ℕ, ◌≡◌, ◌≢◌, ◌+◌, ◌-◌, ◌%◌, ◌^◌, ◌<◌, ◌==◌, Bool, true, false, if◌then◌else◌, List, []}
 use Rattle.std.proofs.Common.{◌∷◌, refl, sym, ap, ◌∙◌, subst, arith, lit<, true≢false, Decides}
 use Rattle.std.proofs.Math.Nat.{mod-lt, mod-eq_of_lt}
@@ -19,7 +19,7 @@ use Rattle.ft_norm.proofs.Sums.{form_rises}
 use Rattle.ft_norm.proofs.Weights.{Rises, known, rises_add, rises_negation, rises_total, share_linear, share_negation}
 use Rattle.ft_norm.proofs.Weights.{weigh, weigh_add, weigh_first, weigh_negation, weigh_total, words_same}
 
--- a first term is the constant, or there is none
+-- the first term is the constant, or there is no constant
 first_split : (P : ℕ → List Term → Type 0) (n c : ℕ) (ts us : List Term) → (n ≡ 0 → P c ts) → ((n ≡ 0 → ⊥) → P 0 us) →
     P (if n == 0 then c else 0) (if n == 0 then ts else us)
 first_split P n c ts us f g = go (n == 0) refl
@@ -28,7 +28,7 @@ first_split P n c ts us f g = go (n == 0) refl
     go true e = f (eqb-true n 0 e)
     go false e = g (eqb-false n 0 e)
 
--- terms are their constant and the others
+-- terms are their constant and the others, added
 split_form : (fs : List Form) (ts : List Term) → AreTerms ts → polynomial_form fs ts
     ≡ add_term one (constant_among ts) (polynomial_form fs (others ts))
 split_form fs [] h = refl
@@ -43,14 +43,14 @@ others_over fs [] h = h
 others_over fs (t ∷ ts) h = first_split (λ c us. AreOver fs us) (size t.atoms) 0 ts (t ∷ ts) (λ e.
     rest_over fs t ts h) (λ n. h)
 
--- the constant is before them
+-- the monomial without atoms precedes the others
 others_follow : (ts : List Term) → AreTerms ts → Precedes none (others ts)
 others_follow [] h = tt
 others_follow (t ∷ ts) h = first_split (λ c us. Precedes none us) (size t.atoms) 0 ts (t ∷ ts)
     (λ e. subst (λ xs. Precedes xs ts) (no_numbers t.atoms h.0.0 e) h.3)
     (λ n. none_below t.atoms h.0.0 n)
 
--- so they give it nothing
+-- so the others contribute nothing to it
 others_give : (fs : List Form) (ts : List Term) → AreOver fs ts →
     weigh (share one) (polynomial_form fs (others ts)) % 2 ^ 64 ≡ 0
 others_give fs ts h =
@@ -60,26 +60,26 @@ others_give fs ts h =
       (omega arith, (omega arith, (omega arith, (tt, tt)))),
     ) (omega arith) o.terms o.reach (others_follow ts h.terms))
 
--- a constant is a word
+-- the constant is a word
 constant_word : (ts : List Term) → AreTerms ts → constant_among ts < 2 ^ 64
 constant_word [] h = lit< tt
 constant_word (t ∷ ts) h = first_split (λ c us. c < 2 ^ 64) (size t.atoms) t.coefficient [] [] (λ e. h.2) (λ n. lit< tt)
 
--- what terms contribute to a monomial: what their constant and the others contribute
+-- what terms contribute to a monomial is what their constant and the others contribute
 weigh_split : (fs : List Form) (k : Monomial) (ts : List Term) → AreTerms ts
     → weigh (share k) (polynomial_form fs ts) % 2 ^ 64
     ≡ (share k one (constant_among ts) + weigh (share k) (polynomial_form fs (others ts))) % 2 ^ 64
 weigh_split fs k ts h = ap (λ p. weigh (share k) p % 2 ^ 64) (split_form fs ts h)
     ∙ weigh_add (share k) (share_linear k) one (constant_among ts) (polynomial_form fs (others ts))
 
--- no constant but 0
+-- a polynomial that is not a single constant term is not a nonzero constant
 no_constant : (p : Polynomial) → ((e : ℕ) → p ≡ plus one e nought → ⊥) → false ≡ is_not_zero (constant_of p)
 no_constant nought h = refl
 no_constant (plus one e nought) h = absurd (h e refl)
 no_constant (plus one e (plus n d p)) h = refl
 no_constant (plus (times a m) e p) h = refl
 
--- a constant other than 0
+-- the polynomial of a nonzero word is a nonzero constant
 some_constant : (e : ℕ) → (e ≡ 0 → ⊥) → e < 2 ^ 64 → true ≡ is_not_zero (constant_of (add_term one e nought))
 some_constant e n l = if_cases (λ p. true ≡ is_not_zero (constant_of p)) (e == 0) nought (plus one e nought)
     (λ q. absurd (n (eqb-true e 0 q)))
@@ -94,7 +94,7 @@ module _ (fs : List Form) (ps qs : List Term) (a : AreOver fs ps) (b : AreOver f
   difference_rises = rises_total (polynomial_form fs ps) (negation (polynomial_form fs qs)) (form_rises fs ps a.terms)
       (rises_negation (polynomial_form fs qs) (form_rises fs qs b.terms))
 
-  -- what it contributes to a monomial
+  -- what the difference contributes to a monomial
   weigh_difference : (k : Monomial) → (weigh (share k) difference + weigh (share k) (polynomial_form fs qs)) % 2 ^ 64
       ≡ weigh (share k) (polynomial_form fs ps) % 2 ^ 64
   weigh_difference k =
@@ -102,7 +102,7 @@ module _ (fs : List Form) (ps qs : List Term) (a : AreOver fs ps) (b : AreOver f
       let y = weigh_negation k (polynomial_form fs qs) in
       omega (arith, x, y)
 
-  -- the difference of the constants, if the others are the same
+  -- the difference is that of the constants, if the others are the same
   same_others : polynomial_form fs (others ps) ≡ polynomial_form fs (others qs)
       → difference ≡ add_term one ((constant_among ps + (2 ^ 64 - constant_among qs % 2 ^ 64) % 2 ^ 64) % 2 ^ 64) nought
   same_others s = known difference (add_term one e nought) difference_rises
@@ -128,7 +128,7 @@ module _ (fs : List Form) (ps qs : List Term) (a : AreOver fs ps) (b : AreOver f
           ≡ (g + 0) % 2 ^ 64 → d % 2 ^ 64 ≡ t % 2 ^ 64
       opposite d p q c f n g r s t w x y e z l m = omega (arith, w, x, y, e, z, l, m)
 
-  -- polynomials that differ only in their constants are known to differ
+  -- polynomials that differ only in their constants are found to differ
   pub apart : constant_among ps ≢ constant_among qs → others ps ≡ others qs → true
       ≡ is_not_zero (constant_of (norm_sub (polynomial_form fs ps) (polynomial_form fs qs)))
   apart n s =
@@ -142,7 +142,7 @@ module _ (fs : List Form) (ps qs : List Term) (a : AreOver fs ps) (b : AreOver f
       alike : (c d : ℕ) → c < 2 ^ 64 → d < 2 ^ 64 → (c + (2 ^ 64 - d % 2 ^ 64) % 2 ^ 64) % 2 ^ 64 ≡ 0 → c ≡ d
       alike c d l m z = omega (arith, l, m, z)
 
-  -- a difference that is a constant is that of the constants
+  -- if the difference is a nonzero constant, the constants differ
   constants_differ : (e : ℕ) → difference ≡ plus one e nought → constant_among ps ≢ constant_among qs
   constants_differ e q z =
       let r : Rises (plus one e nought) = subst Rises q difference_rises in
@@ -181,14 +181,14 @@ module _ (fs : List Form) (ps qs : List Term) (a : AreOver fs ps) (b : AreOver f
           let y = weigh_split fs (times h m) qs b.terms in
           omega (arith, v, w, x, y)
 
-  -- polynomials are not known to differ if neither their constants nor their other terms show it
+  -- polynomials are not found to differ unless their constants differ and their other terms are the same
   pub not_apart : ((constant_among ps ≢ constant_among qs) → others ps ≡ others qs → ⊥) → false
       ≡ is_not_zero (constant_of (norm_sub (polynomial_form fs ps) (polynomial_form fs qs)))
   not_apart n =
       no_constant difference (λ e q. n (constants_differ e q) (others_same e q))
       ∙ ap is_not_zero (constant_sum (polynomial_form fs ps) (negation (polynomial_form fs qs)))
 
-  -- if the constants differ, the test of the others decides
+  -- if the constants differ, comparing the others decides
   pub by_others : (b : Bool) → constant_among ps ≢ constant_among qs → Decides b (others ps ≡ others qs) → b
       ≡ is_not_zero (constant_of (norm_sub (polynomial_form fs ps) (polynomial_form fs qs)))
   by_others true n d = apart n (d.0 refl)

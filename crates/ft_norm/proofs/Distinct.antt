@@ -1,4 +1,4 @@
--- Equal entries have equal forms, and over distinct forms equal forms have equal entries.
+-- Over distinct forms, two entries are equal exactly if their forms are.
 use Rattle.std.proofs.Common.{ℕ, suc, zero, ◌≡◌, ◌≢◌, ◌+◌, ◌^◌, ◌<◌, ◌≤◌, ◌||◌, Bool, true, false, if◌then◌else◌, List}
 use Rattle.std.proofs.Common.{[], ◌∷◌, ◌++◌, length, get_or, refl, sym, ap, ◌∙◌, subst, arith, true≢false, Some}
 use Rattle.std.proofs.Common.{slice_get, inl, inr, map, length-append}
@@ -30,7 +30,7 @@ use Rattle.ft_norm.proofs.SameTerms.{linears_decide, packed_lists_decide, terms_
 use Rattle.ft_norm.proofs.Packing.{have_small_unpacked, packed_itself}
 use Rattle.ft_norm.proofs.Single.{alone_is, degree_over, one_integer, one_memory, one_node, one_polynomial}
 
--- equal entries have one form
+-- equal entries have equal forms
 pub same_entry : (fs : List Form) (a b : Entry) → (entry.ghosts).eq a b ≡ true → entry_form fs a ≡ entry_form fs b
 same_entry fs (Lone a) (Lone b) h = ap (λ x. integer_form (alone (atom_form fs x))) ((shape_decides a b).0 h)
 same_entry fs (Linear ts) (Linear us) h = ap (λ xs. integer_form (polynomial_form fs (map full xs)))
@@ -46,14 +46,14 @@ same_entry fs (Update at value older) (Update at' value' older') h =
 same_entry fs a b h = absurd (true≢false (sym h))
 
 module _ (fs : List Form) (d : IsDistinct fs) where
-  -- terms of at most one atom and terms of more are two polynomials
+  -- terms of degree at most 1 and terms of degree at least 2 are different polynomials
   linear_apart : (ts : List LinearTerm) (us : List Term) → AreTerms (map full ts) → AreTerms us →
       reach_of_terms fs (map full ts) ≤ length fs → reach_of_terms fs us ≤ length fs → 2 ≤ greatest us
       → polynomial_form fs (map full ts) ≡ polynomial_form fs us → ⊥
   linear_apart ts us h k a b g e = let q = ap greatest (one_polynomial fs d (map full ts) us h k a b e) in
       let l = linear_degree ts in omega (arith, q, l, g)
 
-  -- terms with an atom of a great number are not packed
+  -- packed terms and terms with an atom that does not fit are different polynomials
   packed_apart : (ps : List PackedTerm) (us : List Term) → AreTerms (map unpacked ps) → AreTerms us →
       reach_of_terms fs (map unpacked ps) ≤ length fs → reach_of_terms fs us ≤ length fs → ArePacked ps →
       (HaveSmall us → ⊥)
@@ -61,19 +61,19 @@ module _ (fs : List Form) (d : IsDistinct fs) where
   packed_apart ps us h k a b p n e = n (subst HaveSmall (one_polynomial fs d (map unpacked ps) us h k a b e)
       (have_small_unpacked ps p))
 
-  -- a single atom is not what an entry of terms of at most one atom stands for
+  -- a single atom is not the polynomial of a `Linear` entry
   alone_linear : (x : Atom) (ts : List Term) → AreTerms ts → reach_of_terms fs ts ≤ length fs → greatest ts ≤ 1 →
       ((k : ℕ) → ts ≢ alone_term (k + 1) ∷ []) → alone x ≡ polynomial_form fs ts → ⊥
   alone_linear x ts h r g n e = n (alone_is fs x ts (record { terms = h; distinct = d; reach = r }) g e).0
       (alone_is fs x ts (record { terms = h; distinct = d; reach = r }) g e).1
 
-  -- nor what one of terms of more stands for
+  -- nor that of terms of degree at least 2
   alone_full : (x : Atom) (ts : List Term) → AreTerms ts → reach_of_terms fs ts ≤ length fs → 2 ≤ greatest ts → alone x
       ≡ polynomial_form fs ts → ⊥
   alone_full x ts h r g e = let q = degree_over fs ts (record { terms = h; distinct = d; reach = r }) in
       let w : 1 ≡ degree (polynomial_form fs ts) = ap degree e in omega (arith, q, w, g)
 
-  -- one form has one entry
+  -- entries with equal forms are equal
   pub one_entry : (a b : Entry) → IsCanonical a → IsCanonical b → reach_of_entry fs a ≤ length fs →
       reach_of_entry fs b ≤ length fs → entry_form fs a ≡ entry_form fs b → (entry.ghosts).eq a b ≡ true
   one_entry (Lone x) (Lone y) h k a b e = (shape_decides x y).1
@@ -121,7 +121,7 @@ module _ (fs : List Form) (d : IsDistinct fs) where
       ) refl
   one_entry x y h k a b e = cc
 
--- a test that none passes fails at each
+-- if no element passes a test, each fails it
 none_passes : {A : Type 0} (test : A → Bool) (xs : List A) (k : ℕ) (d : A) → list_any test xs ≡ false → k < length xs →
     test (get_or xs k d) ≡ false
 none_passes test [] k d h l = absurd (omega arith)
@@ -150,7 +150,7 @@ new_form es e h c r n k f =
     true≢false (sym (one_entry fs h.distinct e (get_or es k e) c (h.canonical k e m) (omega arith) (omega arith) p)
     ∙ none_passes ((entry.ghosts).eq e) es k e n m)
 
--- one more form that is in no place
+-- forms stay distinct if a new one is appended
 distinct_push : (fs : List Form) (x : Form) → IsDistinct fs → ((k : ℕ) → slice_get fs k ≡ Some x → ⊥) →
     IsDistinct (fs ++ x ∷ [])
 distinct_push fs x d n = record { one = go }
@@ -177,7 +177,7 @@ distinct_push fs x d n = record { one = go }
       ]
     ]
 
--- one more entry as an interner keeps it
+-- entries stay canonical if a canonical one is appended
 canonical_push : (es : List Entry) (e : Entry) → AreCanonical es → IsCanonical e → AreCanonical (es ++ e ∷ [])
 canonical_push es e h c k d l = elim (cases_lt k (length es)) [
   | inl m ↦ rw (get_or_append_left es (e ∷ []) d k m) (h k d m)
@@ -185,7 +185,7 @@ canonical_push es e h c k d l = elim (cases_lt k (length es)) [
       rw (q, get_or_push es e d (length es) refl) c
 ]
 
--- so entries stay as an interner keeps them
+-- a new canonical entry keeps the invariant of the entries
 pub entries_push : (es : List Entry) (e : Entry) → AreEntries es → length es + 1 < 2 ^ 32 → IsCanonical e →
     reach_of_entry (forms_of es) e ≤ length es → list_any ((entry.ghosts).eq e) es ≡ false → AreEntries (es ++ e ∷ [])
 entries_push es e h few c r n = record {
@@ -196,13 +196,13 @@ entries_push es e h few c r n = record {
   few = rw (length-append es (e ∷ [])) few;
 }
 
--- what putting an entry does: the entries stay as an interner keeps them, what was held stays, and place i has its form
+-- what interning an entry does: the invariant holds, the forms held before stay, and place i has the entry's form
 pub record Puts (fs : List Form) (e : Entry) (xs : List Entry) (i : ℕ) : Type 0 where
   pub entries : AreEntries xs
   pub kept : Keeps fs (forms_of xs)
   pub form : slice_get (forms_of xs) i ≡ Some (entry_form fs e)
 
--- an entry is found or comes last
+-- interning finds an equal entry or appends the new one
 pub put : (es xs : List Entry) (fs : List Form) (e k : Entry) (i : ℕ) → AreEntries es → length es + 1 < 2 ^ 32 →
     forms_of es ≡ fs → IsCanonical e → reach_of_entry fs e ≤ length fs
     → xs ≡ (if list_any ((entry.ghosts).eq e) es then es else es ++ e ∷ []) → slice_get xs i ≡ Some k →

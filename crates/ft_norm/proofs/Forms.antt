@@ -1,4 +1,4 @@
--- The forms of a list of entries: a later entry leaves the earlier forms, and each form is its entry's.
+-- The forms of a list of entries: appending keeps the earlier forms, and each form is that of its entry.
 use Rattle.std.proofs.Common.{ℕ, suc, zero, add-one, ◌≡◌, ◌+◌, ◌<◌, ◌≤◌, Bool, true, false, if◌then◌else◌, List, []}
 use Rattle.std.proofs.Common.{◌∷◌, ◌++◌, length, get_or, refl, sym, ap, ◌∙◌, arith, max, length-append, inl, inr, map}
 use Rattle.std.proofs.Common.{Option, None, Some, slice_get}
@@ -22,48 +22,48 @@ use Rattle.ft_norm.specs.Entries.{is_memory_form, integer_reach, memory_reach, r
 use Rattle.ft_norm.specs.Entries.{reach_of_entry, with_atom, NamesEarlier, IsAtomAt, IsIntegerAt, IsMemoryAt}
 use Rattle.ft_norm.proofs.Lists.{slice_get-push}
 
--- both lists have the same forms below n
+-- the first n forms of both lists are the same
 pub record Agree (n : ℕ) (fs gs : List Form) : Type 0 where
   pub below : (k : ℕ) → k < n → slice_get fs k ≡ slice_get gs k
 
--- both lists have the same polynomials below n
+-- so are their polynomials
 pub polynomials_agree : (n : ℕ) (fs gs : List Form) → Agree n fs gs → (k : ℕ) → k < n → polynomial_at fs k
     ≡ polynomial_at gs k
 polynomials_agree n fs gs h k l = ap (λ (o : Option Form). polynomial_of (unwrap_or o (integer_form nought)))
     (h.below k l)
 
--- both lists have the same updates below n
+-- so are their updates
 pub updates_agree : (n : ℕ) (fs gs : List Form) → Agree n fs gs → (k : ℕ) → k < n → updates_at fs k ≡ updates_at gs k
 updates_agree n fs gs h k l = ap (λ (o : Option Form). updates_of (unwrap_or o (integer_form nought))) (h.below k l)
 
--- a node that names only what is below n is the same atom in both
+-- a node whose parts are below n is the same atom over both lists
 pub atom_agree : (n : ℕ) (fs gs hs : List Form) → Agree n fs gs → (a : Shape) → reach hs a ≤ n → atom_form fs a
     ≡ atom_form gs a
 atom_agree n fs gs hs h (Var i) l = refl
 atom_agree n fs gs hs h a l = grind (arith, polynomials_agree n fs gs h, updates_agree n fs gs h)
 
--- the atom of a number that reaches no further than n is the same in both
+-- an atom's number that reaches at most n is the same atom over both lists
 with_atom_agree : (n : ℕ) (fs gs hs : List Form) → Agree n fs gs → (x : ℕ) → atom_reach hs x ≤ n → (m : Monomial) →
     with_atom fs x m ≡ with_atom gs x m
 with_atom_agree n fs gs hs h zero l m = refl
 with_atom_agree n fs gs hs h (suc k) l m = ap (λ (p : Polynomial).
     with_factor (atom_of p) m) (polynomials_agree n fs gs h k (omega arith))
 
--- a monomial that names only what is below n is the same in both
+-- a monomial of atoms below n is the same over both lists
 pub monomial_agree : (n : ℕ) (fs gs hs : List Form) → Agree n fs gs → (xs : List ℕ) → reach_of_atoms hs xs ≤ n →
     monomial_form fs xs ≡ monomial_form gs xs
 monomial_agree n fs gs hs h [] l = refl
 monomial_agree n fs gs hs h (x ∷ xs) l = with_atom_agree n fs gs hs h x (omega arith) (monomial_form fs xs)
     ∙ ap (with_atom gs x) (monomial_agree n fs gs hs h xs (omega arith))
 
--- terms that name only what is below n are the same in both
+-- terms of atoms below n are the same polynomial over both lists
 pub terms_agree : (n : ℕ) (fs gs hs : List Form) → Agree n fs gs → (ts : List Term) → reach_of_terms hs ts ≤ n →
     polynomial_form fs ts ≡ polynomial_form gs ts
 terms_agree n fs gs hs h [] l = refl
 terms_agree n fs gs hs h (t ∷ ts) l = let a = monomial_agree n fs gs hs h t.atoms (omega arith) in
     let b = terms_agree n fs gs hs h ts (omega arith) in rw (a, b) refl
 
--- an entry that names only what is below n is the same in both
+-- an entry that refers only to forms below n is the same form over both lists
 pub entry_agree : (n : ℕ) (fs gs hs : List Form) → Agree n fs gs → (e : Entry) → reach_of_entry hs e ≤ n →
     entry_form fs e ≡ entry_form gs e
 entry_agree n fs gs hs h (Lone a) l = ap (λ b. integer_form (alone b)) (atom_agree n fs gs hs h a l)
@@ -74,7 +74,7 @@ entry_agree n fs gs hs h Unchanged l = refl
 entry_agree n fs gs hs h (Update at value older) l = let x = polynomials_agree n fs gs h at (omega arith) in
     let y = polynomials_agree n fs gs h value (omega arith) in let z = updates_agree n fs gs h older (omega arith) in cc
 
--- one more entry gives one more form
+-- one more entry appends one more form
 pub forms_onto-push : (fs : List Form) (es : List Entry) (e : Entry) → forms_onto fs (es ++ (e ∷ [])) ≡ forms_onto fs es
     ++ (entry_form (forms_onto fs es) e ∷ [])
 forms_onto-push fs [] e = refl
@@ -90,7 +90,7 @@ length-forms_onto fs (x ∷ es) = let h = length-forms_onto (fs ++ (entry_form f
 pub length-forms_of : (es : List Entry) → length (forms_of es) ≡ length es
 length-forms_of es = length-forms_onto [] es ∙ omega arith
 
--- what is there stays
+-- the forms so far stay
 forms_onto-kept : (fs : List Form) (es : List Entry) (k : ℕ) → k < length fs → slice_get (forms_onto fs es) k
     ≡ slice_get fs k
 forms_onto-kept fs [] k l = refl
@@ -99,7 +99,7 @@ forms_onto-kept fs (x ∷ es) k l =
     let m : k < length g = omega (arith, length-append fs (entry_form fs x ∷ [])) in
     forms_onto-kept g es k m ∙ get_front fs (entry_form fs x ∷ []) k l
 
--- each form is its entry's
+-- each form is that of its entry, by its index among these entries
 forms_onto-at : (fs hs : List Form) (es : List Entry) (i : ℕ) (e : Entry) → i < length es →
     reach_of_entry hs (get_or es i e) ≤ length fs + i
     → slice_get (forms_onto fs es) (length fs + i) ≡ Some (entry_form (forms_onto fs es) (get_or es i e))
@@ -124,31 +124,31 @@ pub form_at : (es : List Entry) (i : ℕ) (e : Entry) → NamesEarlier es → i 
 form_at es i e h l = let z : 0 + i ≡ i = omega arith in
     rw z at (forms_onto-at [] (forms_of es) es i e l (let k = h i e l in omega arith))
 
--- the form of an entry that was read
+-- the form of an entry that the code has read
 pub form_read : (es : List Entry) (i : ℕ) (e x : Entry) → NamesEarlier es → i < length es → e ≡ get_or es i e → e ≡ x →
     slice_get (forms_of es) i ≡ Some (entry_form (forms_of es) x)
 form_read es i e x h l r k = form_at es i e h l ∙ ap (λ (y : Entry). Some (entry_form (forms_of es) y)) (sym r ∙ k)
 
--- the polynomial of such an entry
+-- the polynomial of an entry that the code has read
 pub polynomial_read : (es : List Entry) (i : ℕ) (e x : Entry) → NamesEarlier es → i < length es → e ≡ get_or es i e → e
     ≡ x → polynomial_of (entry_form (forms_of es) x) ≡ polynomial_at (forms_of es) i
 polynomial_read es i e x h l r k = sym (ap (λ (o : Option Form). polynomial_of (unwrap_or o (integer_form nought)))
     (form_read es i e x h l r k))
 
--- the polynomial of an atom is the term of its number
+-- the polynomial of an atom's entry is the term of its number
 pub lone_read : (es : List Entry) (i : ℕ) (e : Entry) (a : Shape) → NamesEarlier es → i < length es → e
     ≡ get_or es i e → e ≡ Lone a → polynomial_form (forms_of es) (alone_term (i + 1) ∷ [])
     ≡ polynomial_at (forms_of es) i
 lone_read es i e a h l r k = let p : polynomial_at (forms_of es) i ≡ alone (atom_form (forms_of es) a) =
     sym (polynomial_read es i e (Lone a) h l r k) in rw (add-one, p) refl
 
--- the updates of such an entry
+-- the updates of an entry that the code has read
 pub updates_read : (es : List Entry) (i : ℕ) (e x : Entry) → NamesEarlier es → i < length es → e ≡ get_or es i e → e
     ≡ x → updates_at (forms_of es) i ≡ updates_of (entry_form (forms_of es) x)
 updates_read es i e x h l r k = ap (λ (o : Option Form). updates_of (unwrap_or o (integer_form nought)))
     (form_read es i e x h l r k)
 
--- a part that is an integer's and is named early enough is one in any list that agrees
+-- an integer's reach stays within a bound in a list that agrees
 integer_reach_agree : (n m : ℕ) (fs gs : List Form) → Agree n fs gs → n ≤ length fs → m ≤ n → (i : ℕ) →
     integer_reach fs i ≤ m → integer_reach gs i ≤ m
 integer_reach_agree n m fs gs h l k i r = go (is_integer_form (slice_get fs i)) (is_integer_form (slice_get gs i))
@@ -158,7 +158,7 @@ integer_reach_agree n m fs gs h l k i r = go (is_integer_form (slice_get fs i)) 
     go true c e r = rw e r
     go false c e r = absurd (omega arith)
 
--- so is one that is a memory's
+-- so does a memory's reach
 memory_reach_agree : (n m : ℕ) (fs gs : List Form) → Agree n fs gs → n ≤ length fs → m ≤ n → (i : ℕ) →
     memory_reach fs i ≤ m → memory_reach gs i ≤ m
 memory_reach_agree n m fs gs h l k i r = go (is_memory_form (slice_get fs i)) (is_memory_form (slice_get gs i))
@@ -168,13 +168,13 @@ memory_reach_agree n m fs gs h l k i r = go (is_memory_form (slice_get fs i)) (i
     go true c e r = rw e r
     go false c e r = absurd (omega arith)
 
--- and so are all that a node names
+-- so does a node's
 reach_agree : (n m : ℕ) (fs gs : List Form) → Agree n fs gs → n ≤ length fs → m ≤ n → (a : Shape) → reach fs a ≤ m →
     reach gs a ≤ m
 reach_agree n m fs gs h l k (Var i) r = r
 reach_agree n m fs gs h l k a r = omega (arith, integer_reach_agree n m fs gs h l k, memory_reach_agree n m fs gs h l k)
 
--- the same for a part that is an atom's
+-- so does that of an atom's number
 atom_reach_agree : (n m : ℕ) (fs gs : List Form) → Agree n fs gs → n ≤ length fs → m ≤ n → (x : ℕ) →
     atom_reach fs x ≤ m → atom_reach gs x ≤ m
 atom_reach_agree n m fs gs h l k zero r = r
@@ -185,21 +185,21 @@ atom_reach_agree n m fs gs h l k (suc i) r = go (is_atom_form (slice_get fs i)) 
     go true c e r = rw e r
     go false c e r = absurd (omega arith)
 
--- the same for the atoms that a monomial names
+-- so does that of a monomial's atoms
 atoms_reach_agree : (n m : ℕ) (fs gs : List Form) → Agree n fs gs → n ≤ length fs → m ≤ n → (xs : List ℕ) →
     reach_of_atoms fs xs ≤ m → reach_of_atoms gs xs ≤ m
 atoms_reach_agree n m fs gs h l k [] r = r
 atoms_reach_agree n m fs gs h l k (x ∷ xs) r = let a = atom_reach_agree n m fs gs h l k x (omega arith) in
     let b = atoms_reach_agree n m fs gs h l k xs (omega arith) in omega arith
 
--- the same for the atoms that terms name
+-- so does that of terms
 terms_reach_agree : (n m : ℕ) (fs gs : List Form) → Agree n fs gs → n ≤ length fs → m ≤ n → (ts : List Term) →
     reach_of_terms fs ts ≤ m → reach_of_terms gs ts ≤ m
 terms_reach_agree n m fs gs h l k [] r = r
 terms_reach_agree n m fs gs h l k (t ∷ ts) r = let a = atoms_reach_agree n m fs gs h l k t.atoms (omega arith) in
     let b = terms_reach_agree n m fs gs h l k ts (omega arith) in omega arith
 
--- the same for the parts that an entry names
+-- so does that of an entry
 entry_reach_agree : (n m : ℕ) (fs gs : List Form) → Agree n fs gs → n ≤ length fs → m ≤ n → (e : Entry) →
     reach_of_entry fs e ≤ m → reach_of_entry gs e ≤ m
 entry_reach_agree n m fs gs h l k (Lone a) r = reach_agree n m fs gs h l k a r
@@ -212,7 +212,7 @@ entry_reach_agree n m fs gs h l k (Update at value older) r =
     let y = integer_reach_agree n m fs gs h l k value (omega arith) in
     let z = memory_reach_agree n m fs gs h l k older (omega arith) in omega arith
 
--- the forms so far agree with those after one more entry
+-- appending an entry keeps the forms so far
 pub push_agrees : (es : List Entry) (e : Entry) → Agree (length es) (forms_of es) (forms_of (es ++ e ∷ []))
 push_agrees es e = record {
   below = λ k l.
@@ -238,7 +238,7 @@ names_push es e h r k d l =
           (omega arith) (omega arith) e r)
     ]
 
--- a part that reaches no further than the list is an integer's
+-- a number whose integer reach is within the list is an integer's
 pub integer_reached : (fs : List Form) (n i : ℕ) → n ≤ length fs → integer_reach fs i ≤ n → IsIntegerAt fs i
 integer_reached fs n i l r = go (slice_get fs i) refl r
   where
@@ -249,7 +249,7 @@ integer_reached fs n i l r = go (slice_get fs i) refl r
         Some (integer_form (polynomial_of (unwrap_or q (integer_form nought))))) (sym e)
     go (Some (memory_form u)) e r = absurd (omega arith)
 
--- a part that reaches no further than the list is a memory's
+-- a number whose memory reach is within the list is a memory's
 pub memory_reached : (fs : List Form) (n i : ℕ) → n ≤ length fs → memory_reach fs i ≤ n → IsMemoryAt fs i
 memory_reached fs n i l r = go (slice_get fs i) refl r
   where
@@ -260,7 +260,7 @@ memory_reached fs n i l r = go (slice_get fs i) refl r
     go (Some (memory_form u)) e r = e ∙ ap (λ (q : Option Form).
         Some (memory_form (updates_of (unwrap_or q (integer_form nought))))) (sym e)
 
--- a part that reaches no further than the list is that of a single atom
+-- a number whose atom reach is within the list is an atom's
 pub atom_reached : (fs : List Form) (n i : ℕ) → n ≤ length fs → atom_reach fs (suc i) ≤ n → IsAtomAt fs i
 atom_reached fs n i l r = go (slice_get fs i) refl r
   where
@@ -285,29 +285,29 @@ atom_reached fs n i l r = go (slice_get fs i) refl r
     go (Some (integer_form (plus (times a one) (suc zero) (plus m d p)))) e r =
         no (Some (integer_form (plus (times a one) (suc zero) (plus m d p)))) refl r
 
--- an atom's reaches just beyond itself
+-- the reach of an atom's number is one more than its place
 pub atom_reaches : (fs : List Form) (i : ℕ) (a : Atom) → slice_get fs i ≡ Some (integer_form (alone a)) →
     atom_reach fs (i + 1) ≡ i + 1
 atom_reaches fs i a e = rw (add-one, e) (omega arith)
 
--- an integer's reaches just beyond itself
+-- likewise for an integer's
 pub integer_reaches : (fs : List Form) (i : ℕ) (p : Polynomial) → slice_get fs i ≡ Some (integer_form p) →
     integer_reach fs i ≡ i + 1
 integer_reaches fs i p e = rw e (omega arith)
 
--- a memory's reaches just beyond itself
+-- likewise for a memory's
 pub memory_reaches : (fs : List Form) (i : ℕ) (u : Updates) → slice_get fs i ≡ Some (memory_form u) → memory_reach fs i
     ≡ i + 1
 memory_reaches fs i u e = rw e (omega arith)
 
--- one link of a memory form
+-- an update entry is an update of its older memory
 pub link : (es : List Entry) (m : ℕ) (e : Entry) (at value older : ℕ) → NamesEarlier es → m < length es → e
     ≡ get_or es m e → e ≡ Update at value older
     → updates_at (forms_of es) m ≡ update (polynomial_at (forms_of es) at) (polynomial_at (forms_of es) value)
     (updates_at (forms_of es) older)
 link es m e at value older h l r k = updates_read es m e (Update at value older) h l r k
 
--- one link of a memory form names earlier entries, each of the required sort
+-- an update entry names earlier entries of the required sorts
 pub link_sorts : (es : List Entry) (m : ℕ) (e : Entry) (at value older : ℕ) → NamesEarlier es → m < length es → e
     ≡ get_or es m e → e ≡ Update at value older
     → max (max (integer_reach (forms_of es) at) (integer_reach (forms_of es) value)) (memory_reach (forms_of es) older)
@@ -315,24 +315,24 @@ pub link_sorts : (es : List Entry) (m : ℕ) (e : Entry) (at value older : ℕ) 
 link_sorts es m e at value older h l r k = let x = h m e l in let q : get_or es m e ≡ Update at value older = sym r
     ∙ k in rw q at x
 
--- one link names only earlier entries
+-- an update entry names only earlier entries
 pub link_reach : (es : List Entry) (m : ℕ) (e : Entry) (at value older : ℕ) → NamesEarlier es → m < length es → e
     ≡ get_or es m e → e ≡ Update at value older → max (max at value) older + 1 ≤ m
 link_reach es m e at value older h l r k = let x = link_sorts es m e at value older h l r k in omega (arith, x)
 
--- its address is an integer's
+-- the address of an update entry is an integer
 pub link_address : (es : List Entry) (m : ℕ) (e : Entry) (at value older : ℕ) → NamesEarlier es → m < length es → e
     ≡ get_or es m e → e ≡ Update at value older → IsIntegerAt (forms_of es) at
 link_address es m e at value older h l r k = let x = link_sorts es m e at value older h l r k in
     let n = length-forms_of es in integer_reached (forms_of es) m at (omega arith) (omega (arith, x))
 
--- the value of one link is an integer's
+-- the value of an update entry is an integer
 pub link_value : (es : List Entry) (m : ℕ) (e : Entry) (at value older : ℕ) → NamesEarlier es → m < length es → e
     ≡ get_or es m e → e ≡ Update at value older → IsIntegerAt (forms_of es) value
 link_value es m e at value older h l r k = let x = link_sorts es m e at value older h l r k in
     let n = length-forms_of es in integer_reached (forms_of es) m value (omega arith) (omega (arith, x))
 
--- if no update is linked, the memory is unchanged
+-- a memory whose entry is not an update is unchanged
 pub no_link : (es : List Entry) (m : ℕ) (e : Entry) → NamesEarlier es → m < length es → e ≡ get_or es m e →
     ((at value older : ℕ) → e ≡ Update at value older → ⊥) → updates_at (forms_of es) m ≡ unchanged
 no_link es m e h l r k = updates_read es m e e h l r refl ∙ go e k

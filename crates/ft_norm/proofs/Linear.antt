@@ -1,4 +1,4 @@
--- Terms of at most one atom, and the terms that they stand for.
+-- Terms of at most one atom, and the general terms that they represent.
 use Rattle.std.proofs.Common.{ℕ, suc, zero, Option, None, Some, ◌≡◌, ◌≢◌, ◌+◌, ◌<◌, ◌≤◌, List, [], ◌∷◌, ◌++◌, get_or}
 use Rattle.std.proofs.Common.{length, take, refl, sym, ap, ◌∙◌, arith, map}
 use Rattle.std.specs.Prelude.{IfNone}
@@ -11,7 +11,7 @@ use Rattle.ft_norm.proofs.Numbers.{last_number}
 use Rattle.ft_norm.proofs.Ordered.{term_ordered}
 use Rattle.ft_norm.proofs.Sums.{taken_more}
 
--- such terms are known by the terms that they stand for
+-- a linear term is determined by the term that it represents
 full_itself : (x y : LinearTerm) → full x ≡ full y → x ≡ y
 full_itself x y e =
     let a : x.atom ≡ y.atom = ap (λ (t : Term). get_or t.atoms 3 0) e in
@@ -19,7 +19,7 @@ full_itself x y e =
     ap (λ z. let t : LinearTerm = record { atom = z; coefficient = x.coefficient } in t) a
     ∙ ap (λ z. let t : LinearTerm = record { atom = y.atom; coefficient = z } in t) c
 
--- lists of such terms are known by the terms that they stand for
+-- a list of linear terms is determined by the terms that they represent
 pub linears_itself : (xs ys : List LinearTerm) → map full xs ≡ map full ys → xs ≡ ys
 linears_itself [] [] e = refl
 linears_itself [] (y ∷ ys) e = cc
@@ -29,34 +29,34 @@ linears_itself (x ∷ xs) (y ∷ ys) e =
     let t : map full xs ≡ map full ys = cc in
     rw (full_itself x y h, linears_itself xs ys t) refl
 
--- no number is more than one atom
+-- a number is that of at most one atom
 pub present_bound : (x : ℕ) → present x ≤ 1
 present_bound zero = omega arith
 present_bound (suc k) = omega arith
 
--- so their degree is at most 1
+-- so linear terms have degree at most 1
 pub linear_degree : (xs : List LinearTerm) → greatest (map full xs) ≤ 1
 linear_degree [] = omega arith
 linear_degree (x ∷ xs) = let h = linear_degree xs in let a = present_bound x.atom in omega (arith, h, a)
 
--- a term of at most one atom is one of these
+-- a term of at most one atom is a linear term
 pub full_last : (t : Term) → IsMonomial t.atoms → size t.atoms ≤ 1 → t
     ≡ full (record { atom = get_or t.atoms 3 0; coefficient = t.coefficient })
 full_last t h s = ap (λ (x : List ℕ). let y : Term = record { atoms = x; coefficient = t.coefficient } in
     y) (last_number t.atoms h s)
 
--- a term of them has no greater degree than all of them
+-- the degree of a term is at most that of all terms
 pub term_degree : (ts : List Term) (i : ℕ) (d : Term) → i < length ts → size (get_or ts i d).atoms ≤ greatest ts
 term_degree [] i d l = absurd (omega (arith, l))
 term_degree (t ∷ ts) zero d l = omega arith
 term_degree (t ∷ ts) (suc i) d l = let h = term_degree ts i d (omega (arith, l)) in omega (arith, h)
 
--- the same for a term that was read
+-- likewise for a term that the code has read
 pub read_degree : (ts : List Term) (i : ℕ) (t : Term) → i < length ts → t ≡ get_or ts i t → size t.atoms ≤ greatest ts
 read_degree ts i t l r = let e = ap (λ (u : Term). size u.atoms) r in let h = term_degree ts i t l in
     omega (arith, e, h)
 
--- one more is taken over
+-- one more term is copied as a linear term
 pub linear_more : (ts : List Term) (d : Term) (x : LinearTerm) (xs : List LinearTerm) (i : ℕ) → AreTerms ts →
     greatest ts ≤ 1 → map full xs ≡ take i ts → i < length ts
     → x.atom ≡ get_or (get_or ts i d).atoms 3 0 → x.coefficient ≡ (get_or ts i d).coefficient → map full (xs ++ x ∷ [])
@@ -70,7 +70,7 @@ linear_more ts d x xs i h g e l a c =
     map-append full xs (x ∷ []) ∙ (ap (λ q. map full xs ++ q ∷ []) f
     ∙ taken_more ts (map full xs) t i e l (sym (get_or_default ts i t d l)))
 
--- if the first term is not a single atom, neither are the terms
+-- terms are not a single atom if the first term is not one
 pub lone_other : (o : Option ℕ) (ts : List Term) (d : Term) → IfNone o ((k : ℕ) → get_or ts 0 d ≢ alone_term (k + 1)) →
     IfNone o ((k : ℕ) → ts ≢ alone_term (k + 1) ∷ [])
 lone_other None ts d h = λ k e. h k (ap (λ (us : List Term). get_or us 0 d) e)

@@ -1,4 +1,4 @@
--- The forms that were made of nodes are those of their trees.
+-- The forms made for nodes are those of their trees.
 use Rattle.std.proofs.Common.{ℕ, suc, zero, ◌≡◌, ◌+◌, ◌<◌, ◌≤◌, ◌==◌, nat_eq, Bool, true, false, cond, List, map, refl}
 use Rattle.std.proofs.Common.{sym, ap, ◌∙◌, subst, arith, Option, Some, slice_get}
 use Rattle.std.specs.Option.{unwrap_or}
@@ -23,19 +23,19 @@ use Rattle.ft_norm.specs.Parts.{AreMade, HasLength, HaveSorts, IsMade, IsOfSort,
 use Rattle.ft_norm.specs.Parts.{updates_of_parts}
 use Rattle.ft_norm.proofs.HeldForms.{integer_from, memory_from, polynomial_found, updates_found}
 
--- the sort of a node's form is that of its shape
+-- a node that is not a memory has an integer's form
 integer_shape : (ps : List Polynomial) (u : Updates) (fs : List Normal) (s : Shape) → is_memory s ≡ false →
     form_of ps u fs s ≡ integer_form (polynomial_of (form_of ps u fs s))
 integer_shape ps u fs (shape.Word w) e = refl
 integer_shape ps u fs s e = cc
 
--- of a memory too
+-- a node that is a memory has a memory's form
 memory_shape : (ps : List Polynomial) (u : Updates) (fs : List Normal) (s : Shape) → is_memory s ≡ true →
     form_of ps u fs s ≡ memory_form (updates_of (form_of ps u fs s))
 memory_shape ps u fs (shape.Word w) e = cc
 memory_shape ps u fs s e = cc
 
--- an update adds at most one
+-- an update adds at most one update
 pub updates-norm_upd : (u : Updates) (p v : Polynomial) → updates (norm_upd u p v) ≤ updates u + 1
 updates-norm_upd unchanged p v = omega arith
 updates-norm_upd (update a w u) p v = go (same_polynomial a p) refl
@@ -53,13 +53,13 @@ module _ (ps : List Polynomial) (u : Updates) (ns : List Node) (h : AreNodes ns)
   abbrev tree_forms : List Normal
   tree_forms = map (form_under ps u) (trees ns)
 
-  -- an integer node's
+  -- the tree of an integer node has an integer's form
   pub integer_tree : (n : ℕ) (x : Node) → slice_get ns n ≡ Some x → is_memory x.shape ≡ false → tree_form n
       ≡ integer_form (polynomial_of (tree_form n))
   integer_tree n x f s = let e = node_form ps u ns n x h f in
       e ∙ (integer_shape ps u tree_forms x.shape s ∙ ap (λ y. integer_form (polynomial_of y)) (sym e))
 
-  -- a memory node's
+  -- the tree of a memory node has a memory's form
   pub memory_tree : (n : ℕ) (x : Node) → slice_get ns n ≡ Some x → is_memory x.shape ≡ true → tree_form n
       ≡ memory_form (updates_of (tree_form n))
   memory_tree n x f s = let e = node_form ps u ns n x h f in
@@ -69,11 +69,11 @@ module _ (ps : List Polynomial) (u : Updates) (ns : List Node) (h : AreNodes ns)
   pub record Stands (fs : List Normal) (look : ℕ → Option Form) : Type 0 where
     pub each : (j : ℕ) (f : Form) → look j ≡ Some f → held fs f ≡ Some (tree_form j)
 
-  -- what was held stays
+  -- they remain so when the list of forms grows
   pub stands_kept : (fs gs : List Normal) (look : ℕ → Option Form) → Keeps fs gs → Stands fs look → Stands gs look
   stands_kept fs gs look k s = record { each = λ (j : ℕ) (f : Form) e. k.forms_stay f (tree_form j) (s.each j f e) }
 
-  -- one more
+  -- they remain so when one more form is made
   pub stands_more : (fs : List Normal) (look more : ℕ → Option Form) (k : ℕ) (x : Form) → Stands fs look → held fs x
       ≡ Some (tree_form k) → ((q : ℕ) → more q ≡ cond (k == q) (Some x) (look q)) → Stands fs more
   stands_more fs look more k x s e m = record { each = λ (j : ℕ) (f : Form) g. go j f (k == j) refl (sym (m j) ∙ g) }
@@ -86,13 +86,13 @@ module _ (ps : List Polynomial) (u : Updates) (ns : List Node) (h : AreNodes ns)
           ap (held fs) (sym y) ∙ (e ∙ ap (λ q. Some (tree_form q)) ((Decides-eqb k j).0 t))
       go j f false t g = s.each j f (sym (ap (λ b. cond b (Some x) (look j)) t) ∙ g)
 
-  -- a memory among all of them
+  -- the memory of a node is that of its tree
   memory_in_tree : (k scope a : ℕ) → MayName ns k scope true a → memory_in u tree_forms a ≡ updates_of (tree_form a)
   memory_in_tree k scope a m = ap (updates_or u) (get_or-map (form_under ps u) (trees ns) a (integer (word 0))
       ∙ memory_tree a m.node m.found m.sort)
 
   module _ (fs : List Normal) (look : ℕ → Option Form) (s : Stands fs look) where
-    -- an integer that was made
+    -- the form made for an integer node
     made_integer : (k scope a : ℕ) (f : Form) → MayName ns k scope false a → look a ≡ Some f → held fs f
         ≡ Some (integer_form (integer_in tree_forms a))
     made_integer k scope a f m e =
@@ -101,13 +101,13 @@ module _ (ps : List Polynomial) (u : Updates) (ns : List Node) (h : AreNodes ns)
         ap polynomial_of (get_or-map (form_under ps u) (trees ns) a (integer (word 0))) in
         s.each a f e ∙ ap Some (t ∙ ap integer_form (sym q))
 
-    -- a memory that was made
+    -- the form made for a memory node
     made_memory : (k scope a : ℕ) (f : Form) → MayName ns k scope true a → look a ≡ Some f → held fs f
         ≡ Some (memory_form (memory_in u tree_forms a))
     made_memory k scope a f m e = s.each a f e ∙ ap Some (memory_tree a m.node m.found m.sort
         ∙ ap memory_form (sym (memory_in_tree k scope a m)))
 
-  -- the parts that were made are of the required sorts
+  -- the forms made for the parts are of the required sorts
   pub parts_sorts : {S : Type 0} (m : IndexMap ℕ Form S) (fs : List Normal) → Stands fs (get nat_eq m) →
       (k scope : ℕ) (x p : Shape) → IsShape ns k scope x → AreMade m x p → HaveSorts fs p
   parts_sorts m fs s k scope x p i e = subst (HaveSorts fs) (sym e.named) (
@@ -126,12 +126,12 @@ module _ (ps : List Polynomial) (u : Updates) (ns : List Node) (h : AreNodes ns)
       has_length (shape.Rem a l) h = h.1
       has_length y h = tt
 
-  -- a form where a part is named is that of the node's part
+  -- the form with the number of a part is that of the part's tree
   abbrev IsSame : List Normal → ℕ → Bool → ℕ → Type 0
   IsSame fs i true j = updates_at fs i ≡ memory_in u tree_forms j
   IsSame fs i false j = polynomial_at fs i ≡ integer_in tree_forms j
 
-  -- they make the form of the node
+  -- the forms made for the parts give the node's form
   pub parts_form : {S : Type 0} (m : IndexMap ℕ Form S) (fs : List Normal) → Stands fs (get nat_eq m) →
       (k scope : ℕ) (x p : Shape) → IsShape ns k scope x → AreMade m x p → form_of_parts ps u fs p
       ≡ form_of ps u tree_forms x
@@ -156,7 +156,7 @@ module _ (ps : List Polynomial) (u : Updates) (ns : List Node) (h : AreNodes ns)
   node_made m fs s k x p f e = parts_form m fs s k x.scope x.shape p (h.each k x f).shape e
       ∙ sym (node_form ps u ns k x h f)
 
-  -- a memory has at most as many updates as the memory variable, and one more for each lower node
+  -- a memory node k has at most k updates more than the memory variable
   shape_count : (k scope : ℕ) → ((m : ℕ) → m < k → (x : Node) → slice_get ns m ≡ Some x →
       updates (updates_of (tree_form m)) ≤ updates u + m) → (s : Shape) → IsShape ns k scope s →
       updates (updates_of (form_of ps u tree_forms s)) ≤ updates u + k
@@ -174,7 +174,7 @@ module _ (ps : List Polynomial) (u : Updates) (ns : List Node) (h : AreNodes ns)
   tree_count (suc b) k l x f = rw (node_form ps u ns k x h f) (shape_count k x.scope (λ m w y g.
       tree_count b m (omega (arith, w, l)) y g) x.shape (h.each k x f).shape)
 
-  -- so has a form that stands for one
+  -- likewise for a form that stands for the node's tree
   pub held_count : (fs : List Normal) (f : Form) (k : ℕ) (x : Node) → slice_get ns k ≡ Some x → held fs f
       ≡ Some (tree_form k) → updates (updates_held fs f) ≤ updates u + k
   held_count fs f k x g e =
@@ -182,7 +182,7 @@ module _ (ps : List Polynomial) (u : Updates) (ns : List Node) (h : AreNodes ns)
       ap (λ (o : Option Normal). updates_of (unwrap_or o (integer_form nought))) e in
       rw w (tree_count (suc k) k (omega arith) x g)
 
-  -- so has each part
+  -- likewise for each part
   pub parts_count : {S : Type 0} (m : IndexMap ℕ Form S) (fs : List Normal) → Stands fs (get nat_eq m) →
       (k scope : ℕ) (x p : Shape) → IsShape ns k scope x → AreMade m x p → updates_of_parts fs p ≤ updates u + k
   parts_count m fs s k scope x p i e = rw e.named (go x i e.found)

@@ -1,4 +1,4 @@
--- What a memo remembers, while forms are made.
+-- What a memo remembers while forms are made.
 use Rattle.std.proofs.Common.{◌≡◌, ◌+◌, ◌≤◌, ℕ, true, false, List, None, Some, Result, Ok, Err, nat_eq, slice_get, sym}
 use Rattle.std.proofs.Common.{ap, ◌∙◌}
 use Rattle.std.specs.Prelude.{IfOk}
@@ -33,17 +33,17 @@ remembers_kept ns fs gs ints memory m k i w r = record {
       ∙ ap (λ (v : Updates). Some (form_under (polynomials gs ints) v (tree_at ns n))) (sym u);
 }
 
--- so does what is remembered if no entry changes
+-- likewise if the memo's entries do not change
 pub remembers_same : (ns : List Node) (fs : List Normal) (ints : List Form) (memory : Form) (m l : Memo) →
     IsUnchanged m.made l.made → Remembers ns fs ints memory m → Remembers ns fs ints memory l
 remembers_same ns fs ints memory m l u r = record { each = λ k f e. r.each k f (rw u at e) }
 
--- the forms that are remembered are those of their trees
+-- the forms that a memo remembers are those of their trees
 pub stands_from : (ns : List Node) (fs : List Normal) (ints : List Form) (memory : Form) (m : Memo) (h : AreNodes ns) →
     Remembers ns fs ints memory m → Stands (polynomials fs ints) (updates_held fs memory) ns h fs (get nat_eq m.made)
 stands_from ns fs ints memory m h r = record { each = r.each }
 
--- and the other way round, after the list has grown
+-- conversely, forms of their trees are what a memo may remember, even after the list has grown
 pub remembered : (ns : List Node) (fs gs : List Normal) (ints : List Form) (memory : Form) (m : Memo) (h : AreNodes ns)
     → Keeps fs gs → AreIntegers fs ints → IsMemory fs memory →
     Stands (polynomials fs ints) (updates_held fs memory) ns h gs (get nat_eq m.made) → Remembers ns gs ints memory m
@@ -56,7 +56,7 @@ remembered ns fs gs ints memory m h k i w s = record {
       ∙ ap (λ (v : Updates). Some (form_under (polynomials gs ints) v (tree_at ns n))) (sym u);
 }
 
--- what is known of a form that is held as that of a node's tree
+-- what is known of a form that is that of a node's tree
 pub record Tells (ns : List Node) (fs gs : List Normal) (ints : List Form) (memory : Form) (n : ℕ) (f : Form) : Type 0
   where
     pub form : held gs f ≡ Some (form_under (polynomials fs ints) (updates_held fs memory) (tree_at ns n))
@@ -64,7 +64,7 @@ pub record Tells (ns : List Node) (fs gs : List Normal) (ints : List Form) (memo
     pub of_memory : (x : Node) → slice_get ns n ≡ Some x → is_memory x.shape ≡ true → IsMemory gs f
     pub count : updates (updates_held gs f) ≤ updates (updates_held fs memory) + n
 
--- it is of the node's sort, and has at most as many updates as the memory variable, and one more for each lower node
+-- the form of node n's tree is of the node's sort, and has at most n updates more than the memory variable
 pub told : (ns : List Node) (h : AreNodes ns) (fs gs : List Normal) (ints : List Form) (memory : Form) (n : ℕ)
     (f : Form) (x : Node) → slice_get ns n ≡ Some x → held gs f
     ≡ Some (form_under (polynomials fs ints) (updates_held fs memory) (tree_at ns n)) → Tells ns fs gs ints memory n f
@@ -78,7 +78,7 @@ told ns h fs gs ints memory n f x e q =
       count = held_count ps u ns h gs f n x e q;
     }
 
--- so does a result that is held like this
+-- likewise for a call's result
 pub told_answer : {E : Type 0} (ns : List Node) (h : AreNodes ns) (fs gs : List Normal) (ints : List Form)
     (memory : Form) (n : ℕ) (r : Result Form E) (x : Node) → slice_get ns n ≡ Some x →
     IfOk r (λ f. held gs f ≡ Some (form_under (polynomials fs ints) (updates_held fs memory) (tree_at ns n))) →
@@ -86,7 +86,7 @@ pub told_answer : {E : Type 0} (ns : List Node) (h : AreNodes ns) (fs gs : List 
 told_answer ns h fs gs ints memory n (Ok f) x e q = told ns h fs gs ints memory n f x e q
 told_answer ns h fs gs ints memory n (Err d) x e q = tt
 
--- the sorts and the count that a result gives
+-- the sort of a call's result, and its number of updates
 pub integer_told : {E : Type 0} (ns : List Node) (fs gs : List Normal) (ints : List Form) (memory : Form) (n : ℕ)
     (r : Result Form E) → IfOk r (λ f. Tells ns fs gs ints memory n f) → (x : Node) → slice_get ns n ≡ Some x →
     is_memory x.shape ≡ false → IfOk r (λ f. IsInteger gs f)

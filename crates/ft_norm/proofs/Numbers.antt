@@ -1,4 +1,4 @@
--- The numbers of a monomial, one by one.
+-- The four numbers of a monomial.
 use Rattle.std.proofs.Common.{ℕ, zero, suc, Bool, true, false, cond, not, ◌==◌, zero-add, ◌≡◌, ◌+◌, ◌<◌, ◌≤◌, List, []}
 use Rattle.std.proofs.Common.{◌∷◌, get_or, length, add-one, refl, sym, ap, ◌∙◌, arith}
 use Rattle.std.proofs.lemmas.Bool.{eqb-true}
@@ -10,11 +10,11 @@ use Rattle.std.specs.declared.cmp.Ordering.TheVariants.{Less}
 use Rattle.ft_norm.specs.Entries.{present, size}
 use Rattle.ft_norm.specs.Orders.{AreOrdered, IsMonomial, cmp_atoms}
 
--- the numbers of the empty monomial
+-- the numbers of the monomial without atoms
 abbrev pub none : List ℕ
 none = 0 ∷ 0 ∷ 0 ∷ 0 ∷ []
 
--- a list of four numbers is known by them
+-- what holds of any four numbers, as a list, holds of any list of length 4
 pub four : (P : List ℕ → Type 0) → ((a b c d : ℕ) → P (a ∷ b ∷ c ∷ d ∷ [])) → (xs : List ℕ) → length xs ≡ 4 → P xs
 four P f [] e = absurd (omega (arith, e))
 four P f (a ∷ []) e = absurd (omega (arith, e))
@@ -23,7 +23,7 @@ four P f (a ∷ b ∷ c ∷ []) e = absurd (omega (arith, e))
 four P f (a ∷ b ∷ c ∷ d ∷ []) e = f a b c d
 four P f (a ∷ b ∷ c ∷ d ∷ x ∷ xs) e = absurd (omega (arith, e))
 
--- numbers without an atom are those of the empty monomial
+-- a monomial without atoms has only zeros
 pub no_numbers : (xs : List ℕ) → length xs ≡ 4 → size xs ≡ 0 → xs ≡ none
 no_numbers xs l = four (λ ys. size ys ≡ 0 → ys ≡ none) (λ a b c d e.
     rw (
@@ -37,7 +37,7 @@ no_numbers xs l = four (λ ys. size ys ≡ 0 → ys ≡ none) (λ a b c d e.
     absent zero e = refl
     absent (suc k) e = absurd (omega (arith, e))
 
--- which is below each other one
+-- the monomial without atoms is less than any other
 pub none_below : (xs : List ℕ) → length xs ≡ 4 → (size xs ≡ 0 → ⊥) → cmp_atoms none xs ≡ Less
 none_below xs l = four (λ ys. (size ys ≡ 0 → ⊥) → cmp_atoms none ys ≡ Less) go xs l
   where
@@ -51,12 +51,12 @@ none_below xs l = four (λ ys. (size ys ≡ 0 → ⊥) → cmp_atoms none ys ≡
     go zero zero zero (suc k) n = rw (less k) refl
     go zero zero zero zero n = absurd (n refl)
 
--- a number is one atom if it is not 0
+-- a number other than 0 is an atom
 pub some_present : (x : ℕ) → 0 < x → present x ≡ 1
 some_present zero l = absurd (omega (arith, l))
 some_present (suc k) l = refl
 
--- a monomial of at most one atom has it last
+-- a monomial of at most one atom has it in the last place
 pub last_number : (xs : List ℕ) → IsMonomial xs → size xs ≤ 1 → xs ≡ 0 ∷ 0 ∷ 0 ∷ get_or xs 3 0 ∷ []
 last_number xs h = four (λ ys. AreOrdered ys → size ys ≤ 1 → ys ≡ 0 ∷ 0 ∷ 0 ∷ get_or ys 3 0 ∷ []) go xs h.0 h.1
   where
@@ -68,7 +68,7 @@ last_number xs h = four (λ ys. AreOrdered ys → size ys ≤ 1 → ys ≡ 0 ∷
     go zero (suc k) c d o e = absurd (let p = some_present c (let w = o.1.0 in omega (arith, w)) in omega (arith, e, p))
     go (suc k) b c d o e = absurd (let p = some_present b (let w = o.0 in omega (arith, w)) in omega (arith, e, p))
 
--- a monomial of one atom is that one
+-- a monomial of one atom is three zeros and the atom's number
 pub one_number : (xs : List ℕ) → IsMonomial xs → size xs ≡ 1 → (k : ℕ) × (xs ≡ 0 ∷ 0 ∷ 0 ∷ (k + 1) ∷ [])
 one_number xs h s = go (get_or xs 3 0) (sym (last_number xs h (omega (arith, s))))
   where
@@ -76,7 +76,7 @@ one_number xs h s = go (get_or xs 3 0) (sym (last_number xs h (omega (arith, s))
     go zero e = absurd (let p = ap size e in omega (arith, p, s))
     go (suc k) e = (k, sym e ∙ rw add-one refl)
 
--- a monomial with room for an atom begins with none
+-- a monomial with room for another atom begins with 0
 pub opens : (xs : List ℕ) (x : ℕ) → IsMonomial xs → (x ≡ 0 → ⊥) → present x + size xs ≤ 4 → xs
     ≡ 0 ∷ get_or xs 1 0 ∷ get_or xs 2 0 ∷ get_or xs 3 0 ∷ []
 opens xs x h n r = four (λ ys. AreOrdered ys → size ys ≤ 3 → ys
@@ -92,7 +92,7 @@ opens xs x h n r = four (λ ys. AreOrdered ys → size ys ≤ 3 → ys
         let t = some_present d (let u = o.0 in let v = o.1.0 in let w = o.1.1.0 in omega (arith, u, v, w)) in
         omega (arith, s, p, q, t))
 
--- the numbers other than 0 are the atoms
+-- the size of a monomial counts its numbers other than 0
 pub size_counts : (xs : List ℕ) → count_by (λ x. not (x == 0)) xs ≡ size xs
 size_counts xs = sym (is_count_by size (λ x. not (x == 0)) refl step xs)
   where
@@ -104,6 +104,6 @@ size_counts xs = sym (is_count_by size (λ x. not (x == 0)) refl step xs)
         other true e = absurd (let z = eqb-true (suc k) 0 e in omega (arith, z))
         other false e = e
 
--- four numbers, as they are read
+-- a list of four numbers, read element by element
 pub numbers : (xs : List ℕ) → length xs ≡ 4 → xs ≡ get_or xs 0 0 ∷ get_or xs 1 0 ∷ get_or xs 2 0 ∷ get_or xs 3 0 ∷ []
 numbers = four (λ ys. ys ≡ get_or ys 0 0 ∷ get_or ys 1 0 ∷ get_or ys 2 0 ∷ get_or ys 3 0 ∷ []) (λ a b c d. refl)

@@ -1,4 +1,4 @@
--- Monomials and terms in order: what keeps the order, and what follows from it.
+-- Ordered monomials and terms: what keeps the order, and what follows from it.
 use Rattle.std.proofs.Common.{ℕ, suc, zero, ◌≡◌, ◌+◌, ◌-◌, ◌/◌, ◌^◌, ◌<◌, ◌≤◌, List, [], ◌∷◌, ◌++◌, length, get_or}
 use Rattle.std.proofs.Common.{refl, sym, ap, ◌∙◌, subst, arith, take, drop, set, map}
 use Rattle.std.proofs.lemmas.Cmp.{nat_list_cmp_total}
@@ -13,7 +13,7 @@ use Rattle.ft_norm.specs.Orders.{AreTerms, IsMonomial, Precedes, cmp_atoms}
 use Rattle.ft_norm.specs.Terms.{IsPlace, IsThere, negated_term}
 use Rattle.ft_norm.proofs.Weights.{negative}
 
--- monomials that are tied are the same
+-- monomials that compare as equal are the same
 pub atoms_equal : (xs ys : List ℕ) → cmp_atoms xs ys ≡ Equal → xs ≡ ys
 atoms_equal [] [] e = refl
 atoms_equal [] (y ∷ ys) e = cc
@@ -21,16 +21,16 @@ atoms_equal (x ∷ xs) [] e = cc
 atoms_equal (x ∷ xs) (y ∷ ys) e = let t = then_both (nat_cmp x y) (cmp_atoms xs ys) e in
     rw (nat_cmp-IsAntisymmetric x y t.0, atoms_equal xs ys t.1) refl
 
--- a comparison turned round
+-- a comparison, reversed
 pub atoms_turned : (xs ys : List ℕ) → cmp_atoms xs ys ≡ Greater → cmp_atoms ys xs ≡ Less
 atoms_turned xs ys e = nat_list_cmp_total.antisymm ys xs ∙ ap ordering_reverse e
 
--- what is below the atoms before terms is below those terms
+-- atoms below others that precede terms precede these terms too
 pub precedes_through : (xs ys : List ℕ) (ts : List Term) → cmp_atoms xs ys ≡ Less → Precedes ys ts → Precedes xs ts
 precedes_through xs ys [] e h = tt
 precedes_through xs ys (t ∷ ts) e h = nat_list_cmp_total.trans xs ys t.atoms e h
 
--- a term put where it keeps the order
+-- a term inserted in its place keeps the order
 pub terms_insert : (ts : List Term) (i : ℕ) (v : Term) → AreTerms ts → IsPlace ts v.atoms i → IsMonomial v.atoms →
     0 < v.coefficient → v.coefficient < 2 ^ 64 → AreTerms (take i ts ++ v ∷ drop i ts)
 terms_insert [] zero v h p o c w = (o, c, w, tt, tt)
@@ -54,7 +54,7 @@ terms_insert (t ∷ ts) (suc i) v h p o c w = (
     precede [] (suc k) g q = absurd (let x = q.within in omega arith)
     precede (u ∷ us) (suc k) g q = g
 
--- a term less
+-- removing a term keeps the order
 pub terms_remove : (ts : List Term) (i : ℕ) → AreTerms ts → AreTerms (take i ts ++ drop (suc i) ts)
 terms_remove [] zero h = tt
 terms_remove [] (suc i) h = tt
@@ -68,7 +68,7 @@ terms_remove (t ∷ ts) (suc i) h = (h.0, h.1, h.2, precede ts i h.3 h.4, terms_
     precede (u ∷ us) zero g q = precedes_through t.atoms u.atoms us g q.3
     precede (u ∷ us) (suc k) g q = g
 
--- another coefficient
+-- changing a coefficient keeps the order
 pub terms_set : (ts : List Term) (i : ℕ) (y d : Term) → AreTerms ts → i < length ts → y.atoms ≡ (get_or ts i d).atoms →
     0 < y.coefficient → y.coefficient < 2 ^ 64 → AreTerms (set ts i y)
 terms_set [] i y d h l f c w = absurd (omega arith)
@@ -87,7 +87,7 @@ terms_set (t ∷ ts) (suc i) y d h l f c w = (
     precede (u ∷ us) zero g l f = rw f g
     precede (u ∷ us) (suc k) g l f = g
 
--- terms with negated coefficients are in order alike
+-- negating the coefficients keeps the order
 pub terms_negated : (ts : List Term) → AreTerms ts → AreTerms (map negated_term ts)
 terms_negated [] h = tt
 terms_negated (t ∷ ts) h =
@@ -105,29 +105,29 @@ terms_drop [] (suc i) h = tt
 terms_drop (t ∷ ts) zero h = h
 terms_drop (t ∷ ts) (suc i) h = terms_drop ts i h.4
 
--- a term of them has its atoms in order
+-- the atoms of each term are in order
 pub term_ordered : (ts : List Term) (i : ℕ) (d : Term) → AreTerms ts → i < length ts → IsMonomial (get_or ts i d).atoms
 term_ordered [] i d h l = absurd (omega arith)
 term_ordered (t ∷ ts) zero d h l = h.0
 term_ordered (t ∷ ts) (suc i) d h l = term_ordered ts i d h.4 (omega arith)
 
--- the same for a term that was read
+-- likewise for a term that the code has read
 pub read_ordered : (ts : List Term) (t : Term) (i : ℕ) → AreTerms ts → i < length ts → t ≡ get_or ts i t →
     IsMonomial t.atoms
 read_ordered ts t i h l r = let P : Term → Type 0 = λ u. IsMonomial u.atoms in subst P (sym r) (term_ordered ts i t h l)
 
--- a term that was read has a word as its coefficient
+-- the coefficient of a term is a word
 pub term_word : (ts : List Term) (i : ℕ) (d : Term) → AreTerms ts → i < length ts → (get_or ts i d).coefficient < 2 ^ 64
 term_word [] i d h l = absurd (omega arith)
 term_word (t ∷ ts) zero d h l = h.2
 term_word (t ∷ ts) (suc i) d h l = term_word ts i d h.4 (omega arith)
 
--- a term compares as it does in its place, whatever is read beyond the terms
+-- comparing a term does not depend on the default that is read beyond the terms
 read_compares : (ts : List Term) (xs : List ℕ) (t : Term) (k : ℕ) (o : Ordering) → k < length ts → o
     ≡ cmp_atoms (get_or ts k t).atoms xs → (d : Term) → cmp_atoms (get_or ts k d).atoms xs ≡ o
 read_compares ts xs t k o l e d = ap (λ (u : Term). cmp_atoms u.atoms xs) (get_or_default ts k d t l) ∙ sym e
 
--- a search ends at the term's place
+-- the search ends at the term's place
 pub search_there : (ts : List Term) (xs : List ℕ) (t : Term) (k : ℕ) (o : Ordering) → k < length ts → o
     ≡ cmp_atoms (get_or ts k t).atoms xs → o ≡ Equal → IsThere ts xs k
 search_there ts xs t k o l e g = record {
@@ -135,13 +135,13 @@ search_there ts xs t k o l e g = record {
   same = λ d. atoms_equal (get_or ts k d).atoms xs (read_compares ts xs t k o l e d ∙ g);
 }
 
--- a search goes on after a lower term
+-- the search continues after a smaller term
 pub search_after : (ts : List Term) (xs : List ℕ) (t : Term) (k : ℕ) (o : Ordering) → k < length ts → o
     ≡ cmp_atoms (get_or ts k t).atoms xs → o ≡ Less
     → (d : Term) (j : ℕ) → j + 1 ≡ k + 1 → cmp_atoms (get_or ts j d).atoms xs ≡ Less
 search_after ts xs t k o l e g d j q = let s : j ≡ k = omega (arith, q) in rw s (read_compares ts xs t k o l e d ∙ g)
 
--- a search goes on before a greater term
+-- the search continues before a larger term
 pub search_before : (ts : List Term) (xs : List ℕ) (t : Term) (k : ℕ) (o : Ordering) → k < length ts → o
     ≡ cmp_atoms (get_or ts k t).atoms xs → o ≡ Greater
     → (d : Term) → k < length ts → cmp_atoms xs (get_or ts k d).atoms ≡ Less
@@ -151,7 +151,7 @@ search_before ts xs t k o l e g d m = atoms_turned (get_or ts k d).atoms xs (rea
 pub halves : (low high : ℕ) → low < high → (low ≤ low + (high - low) / 2) × (low + (high - low) / 2 < high)
 halves low high l = (omega arith, omega (arith, l))
 
--- a number other than 0
+-- a number other than 0 is positive
 pub positive : (n : ℕ) → (n ≡ 0 → ⊥) → 0 < n
 positive zero h = absurd (h refl)
 positive (suc n) h = omega arith

@@ -1,4 +1,4 @@
--- Packed terms, and the terms that they stand for.
+-- Packed terms, and the terms that they represent.
 use Rattle.std.proofs.Common.{ℕ, suc, zero, ◌≡◌, ◌<◌, ◌+◌, ◌*◌, ◌/◌, ◌%◌, ◌^◌, List, [], ◌∷◌, ◌++◌, get_or, length}
 use Rattle.std.proofs.Common.{refl, ap, arith, map}
 use Rattle.ft_norm.specs.declared.entry.Term.{Term}
@@ -6,20 +6,20 @@ use Rattle.ft_norm.specs.declared.packed.PackedTerm.{PackedTerm}
 use Rattle.ft_norm.specs.Entries.{size}
 use Rattle.ft_norm.specs.Packing.{ArePacked, AreSmall, HaveSmall, IsPacked, unpacked}
 
--- numbers of a lower part and a byte are known by both
+-- a number is determined by its lower 24 bits and what is above them
 parts_known : (x y : ℕ) → x % 2 ^ 24 ≡ y % 2 ^ 24 → x / 2 ^ 24 ≡ y / 2 ^ 24 → x ≡ y
 parts_known x y e f = omega (arith, e, f)
 
--- three bytes are known by their number
+-- three bytes are determined by the number that they form
 bytes_known : (a b c x y z : ℕ) → a < 256 → b < 256 → x < 256 → y < 256 → a + 256 * b + 65536 * c
     ≡ x + 256 * y + 65536 * z → (a ≡ x) × (b ≡ y) × (c ≡ z)
 bytes_known a b c x y z h i j k e = (omega (arith, e), omega (arith, e), omega (arith, e))
 
--- the upper byte of a number of four bytes
+-- the upper byte of a number of four bytes is below 256
 upper_byte : (x : ℕ) → x < 2 ^ 32 → x / 2 ^ 24 < 256
 upper_byte x h = omega (arith, h)
 
--- halves are known by their number
+-- two halves are determined by the number that they form
 halves_known : (a b x y : ℕ) → b < 2 ^ 32 → y < 2 ^ 32 → a * 2 ^ 32 + b ≡ x * 2 ^ 32 + y → (a ≡ x) × (b ≡ y)
 halves_known a b x y h k e = (omega (arith, e), omega (arith, e))
 
@@ -31,7 +31,7 @@ made a b c h l = record { first = a; second = b; third = c; high = h; low = l }
 pub rebuilt : (a b c h l x y z v w : ℕ) → a ≡ x → b ≡ y → c ≡ z → h ≡ v → l ≡ w → made a b c h l ≡ made x y z v w
 rebuilt a b c h l x y z v w e f g j k = rw (e, f, g, j, k) refl
 
--- one term has one packed form
+-- a packed term is determined by the term that it represents
 packed_known : (p q : PackedTerm) → IsPacked p → IsPacked q → unpacked p ≡ unpacked q → p ≡ q
 packed_known p q h k e =
     let whole : (unpacked p).atoms ≡ (unpacked q).atoms = ap (λ (t : Term). t.atoms) e in
@@ -47,7 +47,7 @@ packed_known p q h k e =
     (parts_known p.first q.first a u.0) (parts_known p.second q.second b u.1) (parts_known p.third q.third c u.2) w.0
     w.1
 
--- a list of terms has one packed form
+-- packed terms are determined by the terms that they represent
 pub packed_itself : (ps qs : List PackedTerm) → ArePacked ps → ArePacked qs → map unpacked ps ≡ map unpacked qs → ps
     ≡ qs
 packed_itself [] [] h k e = refl
@@ -67,22 +67,22 @@ pub have_small_unpacked : (ps : List PackedTerm) → ArePacked ps → HaveSmall 
 have_small_unpacked [] h = tt
 have_small_unpacked (p ∷ ps) h = (small_unpacked p h.0, have_small_unpacked ps h.1)
 
--- no atom has a small number
+-- a monomial without atoms has small numbers
 pub none_small : (xs : List ℕ) → size xs ≡ 0 → AreSmall xs
 none_small [] e = tt
 none_small (zero ∷ xs) e = (omega arith, none_small xs (omega (arith, e)))
 none_small (suc x ∷ xs) e = absurd (omega (arith, e))
 
--- what is beyond terms
+-- the default beyond the terms
 abbrev pub blank : Term
 blank = record { atoms = []; coefficient = 0 }
 
--- terms that each have small numbers
+-- terms have small numbers if each of them does
 pub small_each : (ts : List Term) (d : Term) → ((k : ℕ) → k < length ts → AreSmall (get_or ts k d).atoms) → HaveSmall ts
 small_each [] d h = tt
 small_each (t ∷ ts) d h = (h 0 (omega arith), small_each ts d (λ k l. h (suc k) (omega (arith, l))))
 
--- each of terms that have small numbers
+-- if terms have small numbers, each of them does
 pub small_read : (ts : List Term) (k : ℕ) (d : Term) → HaveSmall ts → k < length ts → AreSmall (get_or ts k d).atoms
 small_read [] k d h l = absurd (omega (arith, l))
 small_read (t ∷ ts) zero d h l = h.0

@@ -1,4 +1,4 @@
--- The nodes that wait for their parts, and those that are made: how many there can be.
+-- The nodes that wait for their parts, the nodes whose form is made, and how many steps this takes.
 use Rattle.std.proofs.Common.{ℕ, suc, zero, ◌≡◌, ◌≢◌, ◌+◌, ◌*◌, ◌<◌, ◌≤◌, ◌==◌, Bool, true, false, cond, if◌then◌else◌}
 use Rattle.std.proofs.Common.{List, [], ◌∷◌, ◌++◌, length, get_or, refl, sym, ap, ◌∙◌, arith, Option, None, Some}
 use Rattle.std.proofs.Common.{is_some, inl, inr, length-append, subst}
@@ -7,28 +7,28 @@ use Rattle.std.proofs.lemmas.Bool.{cases_lt}
 use Rattle.std.proofs.lemmas.Bool.Decides.{Decides-eqb}
 use Rattle.std.proofs.lemmas.List.{get_or_append_left, get_or_push}
 
--- how many of the first n numbers are there
+-- how many of the first n numbers have an entry
 abbrev pub count : {A : Type 0} → (ℕ → Option A) → ℕ → ℕ
 count look zero = 0
 count look (suc n) = count look n + (if is_some (look n) then 1 else 0)
 
--- one or none
+-- a test adds at most 1 to the count
 at_most_one : (b : Bool) → (if b then 1 else 0) ≤ 1
 at_most_one true = omega arith
 at_most_one false = omega arith
 
--- not more than all
+-- at most n of the first n numbers have an entry
 pub count_bound : {A : Type 0} (look : ℕ → Option A) (n : ℕ) → count look n ≤ n
 count_bound look zero = omega arith
 count_bound look (suc n) = let h = count_bound look n in let k = at_most_one (is_some (look n)) in omega (arith, h, k)
 
--- other numbers leave the count
+-- entries of other numbers do not affect the count
 count_same : {A : Type 0} (look more : ℕ → Option A) (n : ℕ) → ((q : ℕ) → q < n → more q ≡ look q) → count more n
     ≡ count look n
 count_same look more zero h = refl
 count_same look more (suc n) h = rw (count_same look more n (λ q l. h q (omega arith)), h n (omega arith)) refl
 
--- one more if there was none
+-- a new entry adds one to the count
 pub count_more : {A : Type 0} (look more : ℕ → Option A) (x : A) (k n : ℕ) → k < n → look k ≡ None →
     ((q : ℕ) → more q ≡ cond (k == q) (Some x) (look q)) → count more n ≡ count look n + 1
 count_more look more x k zero l e h = absurd (omega arith)
@@ -54,7 +54,7 @@ count_more look more x k (suc n) l e h = elim (cases_lt k n) [
         go true e = absurd (n ((Decides-eqb a b).0 e))
         go false e = e
 
--- node k is to be made next, and the open nodes wait for it, the last first
+-- node k is to be made next, and the open nodes wait for it, the last one first
 pub record Path {A : Type 0} (look : ℕ → Option A) (n k : ℕ) (open_nodes : List ℕ) : Type 0 where
   pub near : k + length open_nodes ≤ n
   pub absent : look k ≡ None
@@ -63,7 +63,7 @@ pub record Path {A : Type 0} (look : ℕ → Option A) (n k : ℕ) (open_nodes :
   pub falls : (i j d : ℕ) → i < j → j < length open_nodes → get_or open_nodes j d < get_or open_nodes i d
   pub bottom : (d : ℕ) → get_or (open_nodes ++ k ∷ []) 0 d ≡ n
 
--- the first node
+-- at first, node n is next
 pub path_first : {A : Type 0} (look : ℕ → Option A) (n : ℕ) (xs : List ℕ) → xs ≡ [] → look n ≡ None → Path look n n xs
 path_first look n [] e h = record {
   near = omega arith;
@@ -74,7 +74,7 @@ path_first look n [] e h = record {
 }
 path_first look n (x ∷ xs) e h = cc
 
--- a part comes before its node
+-- after a node is opened, one of its parts is next
 pub path_push : {A : Type 0} (look : ℕ → Option A) (n k part : ℕ) (xs : List ℕ) → Path look n k xs → part < k →
     look part ≡ None → Path look n part (xs ++ k ∷ [])
 path_push look n k part xs p l e = record {
@@ -96,7 +96,7 @@ path_push look n k part xs p l e = record {
       ∙ p.bottom d;
 }
 
--- once a node is made, the one that waited for it is next
+-- after a node is made, the last open node is next
 pub path_pop : {A : Type 0} (look more : ℕ → Option A) (y : A) (n k x : ℕ) (ys xs : List ℕ) → Path look n k ys → ys ≡ xs
     ++ x ∷ [] → ((q : ℕ) → more q ≡ cond (k == q) (Some y) (look q)) → Path more n x xs
 path_pop look more y n k x ys xs p' e h = record {
@@ -132,12 +132,12 @@ path_pop look more y n k x ys xs p' e h = record {
         go true e = let z = (Decides-eqb k q).0 e in absurd (omega arith)
         go false e = e
 
--- if no node waits, the next is the last
+-- if no node is open, the next one is node n
 pub path_end : {A : Type 0} (look : ℕ → Option A) (n k : ℕ) (xs : List ℕ) → Path look n k xs → length xs ≡ 0 → k ≡ n
 path_end look n k [] p e = p.bottom 0
 path_end look n k (x ∷ xs) p e = absurd (omega arith)
 
--- one is still to be made
+-- at least one node is still to be made
 pub count_less : {A : Type 0} (look : ℕ → Option A) (x : A) (n k : ℕ) (xs : List ℕ) → Path look n k xs →
     count look (n + 1) + 1 ≤ n + 1
 count_less look x n k xs p =
@@ -146,11 +146,11 @@ count_less look x n k xs p =
     let b = count_bound more (n + 1) in
     omega (arith, c, b)
 
--- steps so far are within those of all nodes
+-- the steps for some nodes are at most those for all nodes
 pub steps_all : (s i a n w : ℕ) → s ≤ i + a * w → a ≤ n + 1 → s ≤ i + (n + 1) * w
 steps_all s i a n w h l = let m : a * w ≤ (n + 1) * w = mul-le-mul_right w l in omega (arith, h, m)
 
--- those of one more node
+-- the steps for one more node
 pub steps_more : (s t i a u p k n : ℕ) → s ≤ i + a * (1 + u + n) → t ≤ s + 1 + p → p ≤ u + k → k ≤ n →
     t ≤ i + (a + 1) * (1 + u + n)
 steps_more s t i a u p k n h g q l =

@@ -1,4 +1,4 @@
--- In an interner one form has one number.
+-- In an interner, equal forms have one number.
 use Rattle.std.proofs.Common.{◌≡◌, ◌↔◌, ◌==◌, List, Option, Some, sym, ap, ◌∙◌, subst, IsTrue, inl, inr}
 use Rattle.std.proofs.lemmas.Bool.Decides.{Decides-eqb}
 use Rattle.ft_static.specs.Form.{Form as Normal, integer_form, memory_form, form_denotation}
@@ -10,7 +10,7 @@ use Rattle.ft_norm.specs.declared.form.Form.{Form}
 use Rattle.ft_norm.specs.Held.{IsHeld, held, polynomial, updates_held}
 use Rattle.ft_norm.specs.Entries.{AreEntries, IsDistinct, forms_of}
 
--- numbers are equal exactly when the forms are
+-- numbers are equal exactly if the forms are
 pub one_number : (es : List Entry) (fs : List Normal) (a b : Form) → AreEntries es → forms_of es ≡ fs → IsHeld fs a →
     IsTrue (a.0 == b.0) ↔ (held fs a ≡ held fs b)
 one_number es fs a b h v i = (
@@ -24,7 +24,7 @@ one_number es fs a b h v i = (
     d : IsDistinct fs
     d = subst IsDistinct v h.distinct
 
--- expressions with one form denote the same
+-- expressions with the same form denote the same
 pub one_form_denotes : (x y : Expression) (s : Valuation) (f g : Option Normal) → f ≡ g → f ≡ Some (norm x) → g
     ≡ Some (norm y) → HasWords x → HasWords y → IsLawful s → denotation x s ≡ denotation y s
 one_form_denotes x y s f g e h k a b lawful =

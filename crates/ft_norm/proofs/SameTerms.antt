@@ -1,4 +1,4 @@
--- The tests of terms for equality find the same ones.
+-- The code's tests of terms decide equality.
 use Rattle.std.proofs.Common.{◌≡◌, Bool, List, refl, ap, ◌∙◌, Decides}
 use Rattle.std.proofs.lemmas.Bool.Decides.{Decides-and, Decides-eqb, Decides-like}
 use Rattle.std.proofs.lemmas.Slice.Eq.{slice_eq-Decides}
@@ -18,7 +18,7 @@ term_decides a b = Decides-like _ (λ h. ap (λ x. let t : Term = record { atoms
     (λ e. (ap (λ (t : Term). t.atoms) e, ap (λ (t : Term). t.coefficient) e))
     (Decides-and _ _ (slice_eq-Decides Decides-eqb a.atoms b.atoms _ refl) (Decides-eqb a.coefficient b.coefficient))
 
--- the test of two terms of at most one atom
+-- the test of two linear terms
 linear_decides : (a b : LinearTerm) → Decides ((linear.ghosts).eq a b) (a ≡ b)
 linear_decides a b = Decides-like _ (λ h. ap (λ x. let t : LinearTerm = record {
   atom = x;

@@ -1,4 +1,5 @@
--- Over distinct forms, one monomial has one list of numbers in order, and one polynomial one list of terms in order.
+-- Over distinct forms, a monomial has only one ordered list of numbers, and a polynomial only one ordered list of
+-- terms.
 use Rattle.std.proofs.Common.{ℕ, suc, zero, ◌≡◌, ◌≢◌, ◌+◌, ◌%◌, ◌^◌, ◌<◌, ◌≤◌, ◌==◌, Bool, true, false, if◌then◌else◌}
 use Rattle.std.proofs.Common.{List, [], ◌∷◌, ◌++◌, length, get_or, take, refl, sym, ap, ◌∙◌, arith, lit<, max, None}
 use Rattle.std.proofs.Common.{Some, inl, inr}
@@ -30,7 +31,7 @@ use Rattle.ft_norm.proofs.Numbers.{one_number}
 use Rattle.ft_norm.proofs.Ordered.{atoms_equal, atoms_turned, precedes_through}
 use Rattle.ft_norm.proofs.Weights.{mods_both, mods_less, share_linear, weigh, weigh_add, words_same}
 
--- whether two numbers are the same
+-- 1 if two numbers are the same, else 0
 abbrev pub alike : ℕ → ℕ → ℕ
 alike x y = if x == y then 1 else 0
 
@@ -44,16 +45,16 @@ alike_not x y n = go (x == y) refl
     go true e = absurd (n ((Decides-eqb x y).0 e))
     go false e = refl
 
--- how often a number occurs among these
+-- how often a number occurs in a list
 abbrev pub times_in : ℕ → List ℕ → ℕ
 times_in x [] = 0
 times_in x (y ∷ ys) = alike x y + times_in x ys
 
--- how often an atom is another one
+-- 1 if two atoms compare as equal, else 0
 abbrev meets : Atom → Atom → ℕ
 meets k a = by_order (cmp_atom k a) 0 1 0
 
--- a number below those in order does not occur there
+-- a number less than the first of an ordered list does not occur in it
 times_none : (x y : ℕ) (ys : List ℕ) → x < y → AreOrdered (y ∷ ys) → times_in x (y ∷ ys) ≡ 0
 times_none x y [] e h = let a = alike_not x y (omega arith) in omega (arith, a)
 times_none x y (z ∷ ys) e h =
@@ -61,24 +62,24 @@ times_none x y (z ∷ ys) e h =
     let b = times_none x z ys (let w = h.0 in omega (arith, w, e)) h.1 in
     omega (arith, a, b)
 
--- not more atoms than numbers
+-- a monomial has at most as many atoms as numbers
 size_bound : (xs : List ℕ) → size xs ≤ length xs
 size_bound [] = omega arith
 size_bound (zero ∷ xs) = let h = size_bound xs in omega (arith, h)
 size_bound (suc k ∷ xs) = let h = size_bound xs in omega (arith, h)
 
--- after an atom in order each number is one
+-- in an ordered list that begins with an atom, all numbers are atoms
 size_full : (k : ℕ) (xs : List ℕ) → AreOrdered (suc k ∷ xs) → size (suc k ∷ xs) ≡ length (suc k ∷ xs)
 size_full k [] h = refl
 size_full k (zero ∷ xs) h = absurd (let w = h.0 in omega (arith, w))
 size_full k (suc j ∷ xs) h = let r = size_full j xs h.1 in omega (arith, r)
 
--- so as many numbers with as many atoms begin alike
+-- so of two lists of the same length and size, either both begin with 0 or neither does
 begin_alike : (k : ℕ) (xs ys : List ℕ) → length xs ≡ length ys → AreOrdered (suc k ∷ ys) → size (zero ∷ xs)
     ≡ size (suc k ∷ ys) → ⊥
 begin_alike k xs ys l h e = let a = size_bound xs in let b = size_full k ys h in omega (arith, a, b, e, l)
 
--- numbers in order in which each atom occurs as often are the same
+-- ordered lists in which each atom occurs equally often are the same
 same_times : (fs : List Form) (n : ℕ) (xs ys : List ℕ) → AreOrdered xs → AreOrdered ys → length xs ≡ length ys → size xs
     ≡ size ys → reach_of_atoms fs xs ≤ n → reach_of_atoms fs ys ≤ n
     → ((k : ℕ) → atom_reach fs (suc k) ≤ n → times_in (suc k) xs ≡ times_in (suc k) ys) → xs ≡ ys
@@ -104,12 +105,12 @@ same_times fs n (suc i ∷ xs) (suc j ∷ ys) h k l s a b e = elim (cases_lt i j
   ]
 ]
 
--- no monomial of a polynomial is this one
+-- the polynomial does not have this monomial
 abbrev pub Misses : Monomial → Polynomial → Type 0
 Misses k nought = Unit {0}
 Misses k (plus n d p) = (k ≢ n) × Misses k p
 
--- nor is it after another one is added
+-- it still does not have it after another one is added
 misses_add : (k m : Monomial) (c : ℕ) (p : Polynomial) → k ≢ m → Misses k p → Misses k (add_term m c p)
 misses_add k m c nought h w = if_cases (λ q. Misses k q) (c == 0) nought (plus m c nought) (λ e. tt) (λ e. (h, tt))
 misses_add k m c (plus n d p) h w = by_cases (λ q. Misses k q) (cmp_monomial m n) (led_by m c (plus n d p))
@@ -119,7 +120,7 @@ misses_add k m c (plus n d p) h w = by_cases (λ q. Misses k q) (cmp_monomial m 
     (w.0, w.1)))
     (λ e. (w.0, misses_add k m c p h w.1))
 
--- a new monomial is one more
+-- adding a new monomial increases the number of monomials by one
 terms_add : (m : Monomial) (c : ℕ) (p : Polynomial) → 0 < c → Misses m p → terms (add_term m c p) ≡ suc (terms p)
 terms_add m c nought l w = if_cases (λ q. terms q ≡ 1) (c == 0) nought (plus m c nought) (λ e.
     absurd (let z = eqb-true c 0 e in omega (arith, z, l))) (λ e. refl)
@@ -130,7 +131,7 @@ terms_add m c (plus n d p) l w = by_cases (λ q. terms q ≡ suc (suc (terms p))
     (λ e. absurd (w.0 (monomial_equal m n e)))
     (λ e. ap suc (terms_add m c p l w.1))
 
--- its atoms count for the degree
+-- the degree after a new monomial is added
 degree_add : (m : Monomial) (c : ℕ) (p : Polynomial) → 0 < c → Misses m p → degree (add_term m c p)
     ≡ max (factors m) (degree p)
 degree_add m c nought l w = if_cases (λ q. degree q ≡ max (factors m) 0) (c == 0) nought (plus m c nought) (λ e.
@@ -147,7 +148,7 @@ abbrev gives : List Form → Monomial → List Term → ℕ
 gives fs k [] = 0
 gives fs k (t ∷ ts) = share k (monomial_form fs t.atoms) t.coefficient + gives fs k ts
 
--- the polynomial of terms contributes the same to a monomial as the terms
+-- terms contribute to a monomial what their polynomial does
 pub weigh_form : (fs : List Form) (k : Monomial) (ts : List Term) → weigh (share k) (polynomial_form fs ts) % 2 ^ 64
     ≡ gives fs k ts % 2 ^ 64
 weigh_form fs k [] = refl
@@ -167,32 +168,32 @@ share_same : (m : Monomial) (c : ℕ) → share m m c ≡ c
 share_same m c = rw (tied_itself cmp_monomial_total m) refl
 
 module _ (fs : List Form) (d : IsDistinct fs) where
-  -- one integer has one number
+  -- an integer has only one number
   pub one_integer : (p r : ℕ) → integer_reach fs p ≤ length fs → integer_reach fs r ≤ length fs → polynomial_at fs p
       ≡ polynomial_at fs r → p ≡ r
   one_integer p r a b e = d.one p r (integer_form (polynomial_at fs r))
       (integer_reached fs (length fs) p (omega arith) a ∙ ap (λ x. Some (integer_form x)) e)
       (integer_reached fs (length fs) r (omega arith) b)
 
-  -- one memory has one number
+  -- a memory has only one number
   pub one_memory : (p r : ℕ) → memory_reach fs p ≤ length fs → memory_reach fs r ≤ length fs → updates_at fs p
       ≡ updates_at fs r → p ≡ r
   one_memory p r a b e = d.one p r (memory_form (updates_at fs r)) (memory_reached fs (length fs) p (omega arith) a
       ∙ ap (λ x. Some (memory_form x)) e) (memory_reached fs (length fs) r (omega arith) b)
 
-  -- one atom has one node
+  -- an atom is that of only one node
   pub one_node : (x y : Shape) → has_atom x ≡ true → has_atom y ≡ true → reach fs x ≤ length fs →
       reach fs y ≤ length fs → atom_form fs x ≡ atom_form fs y → x ≡ y
   one_node (Var i) (Var j) h k a b e = let t : i ≡ j = cc in ap Var t
   one_node x y h k a b e = grind (arith, one_integer, one_memory)
 
-  -- one atom has one number
+  -- an atom has only one number
   one_atom : (i j : ℕ) → atom_reach fs (suc i) ≤ length fs → atom_reach fs (suc j) ≤ length fs → atom_at fs i
       ≡ atom_at fs j → i ≡ j
   one_atom i j a b e = d.one i j (integer_form (alone (atom_at fs j))) (atom_reached fs (length fs) i (omega arith) a
       ∙ ap (λ x. Some (integer_form (alone x))) e) (atom_reached fs (length fs) j (omega arith) b)
 
-  -- so an atom is another one if the numbers are the same
+  -- so two atoms are the same exactly if their numbers are
   meets_alike : (i j : ℕ) → atom_reach fs (suc i) ≤ length fs → atom_reach fs (suc j) ≤ length fs →
       meets (atom_at fs i) (atom_at fs j) ≡ alike (suc i) (suc j)
   meets_alike i j a b = order_split (meets (atom_at fs i) (atom_at fs j)
@@ -205,7 +206,7 @@ module _ (fs : List Form) (d : IsDistinct fs) where
       unlike n e = n (let f : i ≡ j = omega (arith, e) in ap (λ k. cmp_atom (atom_at fs i) (atom_at fs k)) (sym f)
           ∙ tied_itself cmp_atom_total (atom_at fs i))
 
-  -- an atom occurs in a monomial as often as its number among the numbers
+  -- an atom occurs in a monomial as often as its number occurs in the list
   count_is : (i : ℕ) (xs : List ℕ) → atom_reach fs (suc i) ≤ length fs → reach_of_atoms fs xs ≤ length fs →
       count (atom_at fs i) (monomial_form fs xs) ≡ times_in (suc i) xs
   count_is i [] a b = refl
@@ -219,21 +220,21 @@ module _ (fs : List Form) (d : IsDistinct fs) where
       let z = meets_alike i j a (omega arith) in
       omega (arith, c, z, r)
 
-  -- one monomial has one list of numbers
+  -- a monomial has only one ordered list of numbers
   one_monomial : (xs ys : List ℕ) → IsMonomial xs → IsMonomial ys → reach_of_atoms fs xs ≤ length fs →
       reach_of_atoms fs ys ≤ length fs → monomial_form fs xs ≡ monomial_form fs ys → xs ≡ ys
   one_monomial xs ys h k a b e = same_times fs (length fs) xs ys h.1 k.1 (h.0
       ∙ sym k.0) (sym (factors-monomial_form fs xs) ∙ (ap factors e ∙ factors-monomial_form fs ys)) a b
       (λ i l. sym (count_is i xs l a) ∙ (ap (count (atom_at fs i)) e ∙ count_is i ys l b))
 
-  -- numbers that are not tied are different monomials
+  -- different lists of numbers are different monomials
   monomials_apart : (xs ys : List ℕ) → IsMonomial xs → IsMonomial ys → reach_of_atoms fs xs ≤ length fs →
       reach_of_atoms fs ys ≤ length fs → cmp_atoms xs ys ≡ Less → monomial_form fs xs ≢ monomial_form fs ys
   monomials_apart xs ys h k a b o e =
       let t : Less ≡ Equal = sym o ∙ (ap (cmp_atoms xs) (sym (one_monomial xs ys h k a b e))
       ∙ tied_itself nat_list_cmp_total xs) in cc
 
-  -- a monomial below those of terms is not among them
+  -- a monomial that precedes terms is not in their polynomial
   misses_form : (xs : List ℕ) (ts : List Term) → IsMonomial xs → reach_of_atoms fs xs ≤ length fs → AreTerms ts →
       reach_of_terms fs ts ≤ length fs → Precedes xs ts → Misses (monomial_form fs xs) (polynomial_form fs ts)
   misses_form xs [] h a k b p = tt
@@ -242,7 +243,7 @@ module _ (fs : List Form) (d : IsDistinct fs) where
       (monomials_apart xs t.atoms h k.0 a (omega arith) p)
       (misses_form xs ts h a k.4 (omega arith) (precedes_through xs t.atoms ts p k.3))
 
-  -- terms contribute nothing to a monomial below theirs
+  -- terms contribute nothing to a monomial that precedes them
   pub gives_none : (xs : List ℕ) (ts : List Term) → IsMonomial xs → reach_of_atoms fs xs ≤ length fs → AreTerms ts →
       reach_of_terms fs ts ≤ length fs → Precedes xs ts → gives fs (monomial_form fs xs) ts ≡ 0
   gives_none xs [] h a k b p = refl
@@ -252,7 +253,7 @@ module _ (fs : List Form) (d : IsDistinct fs) where
       let y = gives_none xs ts h a k.4 (omega arith) (precedes_through xs t.atoms ts p k.3) in
       omega (arith, x, y)
 
-  -- the first monomial gets its coefficient
+  -- terms contribute the first coefficient to the first monomial
   gives_first : (t : Term) (ts : List Term) → AreTerms (t ∷ ts) → reach_of_terms fs (t ∷ ts) ≤ length fs →
       gives fs (monomial_form fs t.atoms) (t ∷ ts) ≡ t.coefficient
   gives_first t ts h b =
@@ -260,7 +261,7 @@ module _ (fs : List Form) (d : IsDistinct fs) where
       let y = gives_none t.atoms ts h.0 (omega arith) h.4 (omega arith) h.3 in
       omega (arith, x, y)
 
-  -- terms that give each monomial the same are the same
+  -- terms that contribute the same to each monomial are the same
   same_gives : (ts us : List Term) → AreTerms ts → AreTerms us → reach_of_terms fs ts ≤ length fs →
       reach_of_terms fs us ≤ length fs → ((k : Monomial) → gives fs k ts % 2 ^ 64 ≡ gives fs k us % 2 ^ 64) → ts ≡ us
   same_gives [] [] h k a b e = refl
@@ -296,34 +297,34 @@ module _ (fs : List Form) (d : IsDistinct fs) where
       x % 2 ^ 64) (gives_none u.atoms (t ∷ ts) k.0 (omega arith) h a p))) k.2 (lit< tt) in
       omega (arith, z, k.1)))
 
-  -- one polynomial has one list of terms in order
+  -- a polynomial has only one ordered list of terms
   pub one_polynomial : (ts us : List Term) → AreTerms ts → AreTerms us → reach_of_terms fs ts ≤ length fs →
       reach_of_terms fs us ≤ length fs → polynomial_form fs ts ≡ polynomial_form fs us → ts ≡ us
   one_polynomial ts us h k a b e = same_gives ts us h k a b (λ q. sym (weigh_form fs q ts)
       ∙ (ap (λ p. weigh (share q) p % 2 ^ 64) e ∙ weigh_form fs q us))
 
--- the terms after the first
+-- the terms after the first are over the same forms
 pub rest_over : (fs : List Form) (t : Term) (ts : List Term) → AreOver fs (t ∷ ts) → AreOver fs ts
 rest_over fs t ts h = record { terms = h.terms.4; distinct = h.distinct; reach = let r = h.reach in omega (arith, r) }
 
--- the first monomial is not among those after it
+-- the first monomial is not in the polynomial of the others
 first_misses : (fs : List Form) (t : Term) (ts : List Term) → AreOver fs (t ∷ ts) →
     Misses (monomial_form fs t.atoms) (polynomial_form fs ts)
 first_misses fs t ts h = let r = h.reach in misses_form fs h.distinct t.atoms ts h.terms.0 (omega (arith, r)) h.terms.4
     (omega (arith, r)) h.terms.3
 
--- a polynomial has as many monomials as terms in order
+-- the polynomial of ordered terms has as many monomials as there are terms
 pub terms_over : (fs : List Form) (ts : List Term) → AreOver fs ts → terms (polynomial_form fs ts) ≡ length ts
 terms_over fs [] h = refl
 terms_over fs (t ∷ ts) h = terms_add (monomial_form fs t.atoms) t.coefficient (polynomial_form fs ts) h.terms.1
     (first_misses fs t ts h) ∙ ap suc (terms_over fs ts (rest_over fs t ts h))
 
--- the greatest degree of two lists
+-- the largest degree in two lists, appended
 greatest-append : (xs ys : List Term) → greatest (xs ++ ys) ≡ max (greatest xs) (greatest ys)
 greatest-append [] ys = omega arith
 greatest-append (x ∷ xs) ys = let h = greatest-append xs ys in omega (arith, h)
 
--- the greatest degree with one more term
+-- the largest degree, with one more term
 pub greatest_more : (xs : List Term) (x : Term) (i n : ℕ) → i < length xs → x ≡ get_or xs i x → n
     ≡ greatest (take i xs) → max n (size x.atoms) ≡ greatest (take (i + 1) xs)
 greatest_more xs x i n l r e =
@@ -332,14 +333,14 @@ greatest_more xs x i n l r e =
     let m : max n (size x.atoms) ≡ greatest (take i xs ++ get_or xs i x ∷ []) = omega (arith, a, c, e) in
     m ∙ ap greatest (sym (take_more xs i x l))
 
--- of all terms
+-- the largest degree of all terms
 pub greatest_all : (xs : List Term) (i : ℕ) → length xs ≤ i → greatest (take i xs) ≡ greatest xs
 greatest_all [] zero h = refl
 greatest_all [] (suc i) h = refl
 greatest_all (x ∷ xs) zero h = absurd (omega (arith, h))
 greatest_all (x ∷ xs) (suc i) h = ap (max (size x.atoms)) (greatest_all xs i (omega (arith, h)))
 
--- the greatest degree is that of the polynomial
+-- the degree of the polynomial is the largest degree of a term
 pub degree_over : (fs : List Form) (ts : List Term) → AreOver fs ts → degree (polynomial_form fs ts) ≡ greatest ts
 degree_over fs [] h = refl
 degree_over fs (t ∷ ts) h =
@@ -349,19 +350,19 @@ degree_over fs (t ∷ ts) h =
     let z = degree_over fs ts (rest_over fs t ts h) in
     omega (arith, x, y, z)
 
--- a polynomial of two monomials or more is not constant
+-- a polynomial of at least two monomials is not a constant
 not_constant : (p : Polynomial) → 2 ≤ terms p → None ≡ constant_of p
 not_constant nought l = absurd (omega arith)
 not_constant (plus one c nought) l = absurd (omega arith)
 not_constant (plus one c (plus n d p)) l = refl
 not_constant (plus (times a m) c p) l = refl
 
--- so are two terms or more
+-- nor is the polynomial of at least two terms
 pub many_constant : (fs : List Form) (ts : List Term) → AreOver fs ts → 2 ≤ length ts → None
     ≡ constant_of (polynomial_form fs ts)
 many_constant fs ts h l = not_constant (polynomial_form fs ts) (let e = terms_over fs ts h in omega (arith, e, l))
 
--- terms of degree at most 1 that are a single atom are one term with the coefficient 1
+-- if the polynomial of terms of degree at most 1 is a single atom, there is one term, and its coefficient is 1
 pub alone_is : (fs : List Form) (a : Atom) (ts : List Term) → AreOver fs ts → greatest ts ≤ 1 → alone a
     ≡ polynomial_form fs ts → (k : ℕ) × (ts ≡ alone_term (k + 1) ∷ [])
 alone_is fs a [] h g e = cc

@@ -1,4 +1,4 @@
--- Terms of one view and of another.
+-- Views of terms: terms with different views are different.
 use Rattle.std.proofs.Common.{ℕ, suc, ◌≡◌, ◌≤◌, ◌-◌, List, [], ◌∷◌, drop, get_or, length, map, refl, sym, take, ap}
 use Rattle.std.proofs.Common.{arith, subst}
 use Rattle.std.proofs.lemmas.List.{take_all}
@@ -13,19 +13,19 @@ use Rattle.ft_norm.specs.Terms.{IsView, terms_of}
 use Rattle.ft_norm.proofs.Linear.{linear_degree, present_bound}
 use Rattle.ft_norm.proofs.Packing.{blank, have_small_unpacked, none_small}
 
--- terms of more than one atom are not terms of at most one
+-- terms of degree at least 2 are not linear terms
 pub linear_full : (xs : List LinearTerm) (ts : List Term) → 2 ≤ greatest ts → map full xs ≡ ts → ⊥
 linear_full xs ts h e = let g = ap greatest e in let l = linear_degree xs in omega (arith, g, l, h)
 
--- terms with an atom of a great number are not packed
+-- terms with an atom that does not fit are not packed terms
 pub packed_full : (ps : List PackedTerm) (ts : List Term) → ArePacked ps → (HaveSmall ts → ⊥) → map unpacked ps ≡ ts → ⊥
 packed_full ps ts h n e = n (subst HaveSmall e (have_small_unpacked ps h))
 
--- terms of more than one atom are not one atom
+-- terms of degree at least 2 are not a single atom
 pub atom_full : (x : ℕ) (ts : List Term) → 2 ≤ greatest ts → terms_of (Atom x) ≡ ts → ⊥
 atom_full x ts h e = let g = ap greatest e in let l = present_bound x in omega (arith, g, l, h)
 
--- no view of more terms has the terms of a single atom
+-- the terms of an `Atom` view are those of no view other than an `Atom` or `Linear` one
 pub atom_other : (x : ℕ) (q : Terms) → IsView q → ((y : ℕ) → q ≡ Atom y → ⊥) → ((us : _) → q ≡ Linear us → ⊥) →
     terms_of (Atom x) ≡ terms_of q → ⊥
 atom_other x (Atom y) v m n e = m y refl
@@ -33,7 +33,7 @@ atom_other x (Linear us) v m n e = n us refl
 atom_other x (Packed ps) v m n e = atom_full x (map unpacked ps.now) v.0 e
 atom_other x (Full ts) v m n e = atom_full x ts.now v.0 e
 
--- nor those of terms of at most one atom
+-- likewise for linear terms
 pub linear_other : (xs : List LinearTerm) (q : Terms) → IsView q → ((y : ℕ) → q ≡ Atom y → ⊥) →
     ((us : _) → q ≡ Linear us → ⊥) → map full xs ≡ terms_of q → ⊥
 linear_other xs (Atom y) v m n e = m y refl
@@ -41,7 +41,7 @@ linear_other xs (Linear us) v m n e = n us refl
 linear_other xs (Packed ps) v m n e = linear_full xs (map unpacked ps.now) v.0 e
 linear_other xs (Full ts) v m n e = linear_full xs ts.now v.0 e
 
--- no other view has the terms of packed ones
+-- the terms of a `Packed` view are those of no other view
 pub packed_other : (ps : List PackedTerm) (q : Terms) → (2 ≤ greatest (map unpacked ps)) × ArePacked ps → IsView q →
     ((us : _) → q ≡ Packed us → ⊥) → map unpacked ps ≡ terms_of q → ⊥
 packed_other ps (Atom x) h v n e = atom_full x (map unpacked ps) h.0 (sym e)
@@ -49,7 +49,7 @@ packed_other ps (Linear xs) h v n e = linear_full xs.now (map unpacked ps) h.0 (
 packed_other ps (Packed us) h v n e = n us refl
 packed_other ps (Full ts) h v n e = packed_full ps ts.now h.1 v.1 e
 
--- nor those of terms with an atom of a great number
+-- the terms of a `Full` view are those of no other view
 pub full_other : (ts : List Term) (q : Terms) → (2 ≤ greatest ts) × (HaveSmall ts → ⊥) → IsView q →
     ((us : _) → q ≡ Full us → ⊥) → ts ≡ terms_of q → ⊥
 full_other ts (Atom x) h v n e = atom_full x ts h.0 (sym e)
@@ -57,7 +57,7 @@ full_other ts (Linear xs) h v n e = linear_full xs.now ts h.0 (sym e)
 full_other ts (Packed ps) h v n e = packed_full ps.now ts v.1 h.1 (sym e)
 full_other ts (Full us) h v n e = n us refl
 
--- terms without their first, which has no atom, are of the same view
+-- the terms of a `Full` view keep their view without a constant in front
 pub rest_view : (ts : List Term) → (2 ≤ greatest ts) × (HaveSmall ts → ⊥) → 1 ≤ length ts →
     size (get_or ts 0 blank).atoms ≡ 0
     → (2 ≤ greatest (take (length ts - 1) (drop 1 ts))) × (HaveSmall (take (length ts - 1) (drop 1 ts)) → ⊥)

@@ -1,4 +1,4 @@
--- The forms that a list of entries stands for.
+-- The forms that a list of entries represents, and the invariant of the list.
 use Rattle.std.specs.Prelude.{ℕ, zero, suc, ◌+◌, ◌^◌, ◌≡◌, ◌≢◌, ◌<◌, ◌≤◌, Bool, true, false, if◌then◌else◌, List, [], ◌∷◌, ◌++◌, Option, None, Some, max, length, map, slice_get, slice_index_or}
 use Rattle.ft_static.specs.Form.{Form, integer_form, memory_form, Atom, Monomial, Polynomial, atom_over, has_atom, variable_atom, one, times, nought, plus, unchanged, update}
 use Rattle.ft_static.specs.NormalForm.{add_term, alone, with_factor}
@@ -12,35 +12,35 @@ use Rattle.ft_norm.specs.declared.entry.Entry.TheVariants as entry
 use Rattle.ft_norm.specs.Orders.{AreTerms}
 use Rattle.ft_norm.specs.Packing.{ArePacked, HaveSmall, unpacked}
 
--- the atom of a node over entries, if their forms are these
+-- the atom of a node whose parts are the numbers of these forms
 abbrev pub atom_form : List Form → Shape → Atom
 atom_form fs x = atom_over (polynomial_at fs) (updates_at fs) x
 
--- the atom of a polynomial that consists of it
+-- the atom that a polynomial consists of
 abbrev pub atom_of : Polynomial → Atom
 atom_of (plus (times a one) c nought) = a
 atom_of p = variable_atom 0
 
--- the atom in one place of a list
+-- the atom that the form in place i consists of
 abbrev pub atom_at : List Form → ℕ → Atom
 atom_at fs i = atom_of (polynomial_at fs i)
 
--- a monomial with the atom of one more number; 0 is none, and k + 1 is the atom in place k
+-- a monomial times the atom with this number; 0 is no atom, and k + 1 is the atom in place k
 abbrev pub with_atom : List Form → ℕ → Monomial → Monomial
 with_atom fs zero m = m
 with_atom fs (suc k) m = with_factor (atom_at fs k) m
 
--- the monomial of atoms, in any order
+-- the monomial of these atoms, in any order
 abbrev pub monomial_form : List Form → List ℕ → Monomial
 monomial_form fs [] = one
 monomial_form fs (x ∷ xs) = with_atom fs x (monomial_form fs xs)
 
--- the polynomial of terms, in any order
+-- the polynomial of these terms, in any order
 abbrev pub polynomial_form : List Form → List Term → Polynomial
 polynomial_form fs [] = nought
 polynomial_form fs (t ∷ ts) = add_term (monomial_form fs t.atoms) t.coefficient (polynomial_form fs ts)
 
--- the term that a term of at most one atom stands for
+-- a term of at most one atom, as a term
 abbrev pub full : LinearTerm → Term
 full t = record { atoms = 0 ∷ 0 ∷ 0 ∷ t.atom ∷ []; coefficient = t.coefficient }
 
@@ -57,7 +57,7 @@ entry_form fs (entry.Full ts) = integer_form (polynomial_form fs ts.items)
 entry_form fs entry.Unchanged = memory_form unchanged
 entry_form fs (entry.Update at value older) = memory_form (update (polynomial_at fs at) (polynomial_at fs value) (updates_at fs older))
 
--- the forms so far, and then those of these entries
+-- the forms so far, followed by those of these entries
 abbrev pub forms_onto : List Form → List Entry → List Form
 forms_onto fs [] = fs
 forms_onto fs (e ∷ es) = forms_onto (fs ++ (entry_form fs e ∷ [])) es
@@ -66,56 +66,56 @@ forms_onto fs (e ∷ es) = forms_onto (fs ++ (entry_form fs e ∷ [])) es
 abbrev pub forms_of : List Entry → List Form
 forms_of es = forms_onto [] es
 
--- whether an integer's form exists
+-- whether there is a form and it is an integer's
 abbrev pub is_integer_form : Option Form → Bool
 is_integer_form None = false
 is_integer_form (Some (integer_form p)) = true
 is_integer_form (Some (memory_form u)) = false
 
--- whether a memory's form exists
+-- whether there is a form and it is a memory's
 abbrev pub is_memory_form : Option Form → Bool
 is_memory_form None = false
 is_memory_form (Some (integer_form p)) = false
 is_memory_form (Some (memory_form u)) = true
 
--- one more than the number of a part that must be an integer's form; beyond the list if the form there is not one
+-- one more than the number of a part that must be an integer's form; more than the list's length if it is not
 abbrev pub integer_reach : List Form → ℕ → ℕ
 integer_reach fs i = i + 1 + (if is_integer_form (slice_get fs i) then 0 else length fs)
 
--- the same for a part that must be a memory's form
+-- likewise for a part that must be a memory's form
 abbrev pub memory_reach : List Form → ℕ → ℕ
 memory_reach fs i = i + 1 + (if is_memory_form (slice_get fs i) then 0 else length fs)
 
--- whether the polynomial that consists of one atom exists
+-- whether there is a form and it is one atom with the coefficient 1
 abbrev pub is_atom_form : Option Form → Bool
 is_atom_form (Some (integer_form (plus (times a one) (suc zero) nought))) = true
 is_atom_form o = false
 
--- the same for the number of an atom
+-- likewise for the number of an atom
 abbrev pub atom_reach : List Form → ℕ → ℕ
 atom_reach fs zero = 0
 atom_reach fs (suc k) = k + 1 + (if is_atom_form (slice_get fs k) then 0 else length fs)
 
--- the same of a part of this sort
+-- likewise for a part of the required sort
 abbrev pub part_reach : List Form → Bool → ℕ → ℕ
 part_reach fs true i = memory_reach fs i
 part_reach fs false i = integer_reach fs i
 
--- one more than the greatest number that a node names, each of its sort
+-- one more than the largest number that a node names, each of the required sort
 abbrev pub reach : List Form → Shape → ℕ
 reach fs x = greatest_part (part_reach fs) x
 
--- the same for the atoms of a monomial
+-- likewise for the atoms of a monomial
 abbrev pub reach_of_atoms : List Form → List ℕ → ℕ
 reach_of_atoms fs [] = 0
 reach_of_atoms fs (x ∷ xs) = max (atom_reach fs x) (reach_of_atoms fs xs)
 
--- the same for terms
+-- likewise for terms
 abbrev pub reach_of_terms : List Form → List Term → ℕ
 reach_of_terms fs [] = 0
 reach_of_terms fs (t ∷ ts) = max (reach_of_atoms fs t.atoms) (reach_of_terms fs ts)
 
--- the same for an entry
+-- likewise for an entry
 abbrev pub reach_of_entry : List Form → Entry → ℕ
 reach_of_entry fs (entry.Atom a) = reach fs a
 reach_of_entry fs (entry.Linear ts) = reach_of_terms fs (map full ts.items)
@@ -144,7 +144,7 @@ IsMemoryAt fs i = slice_get fs i ≡ Some (memory_form (updates_at fs i))
 pub record IsDistinct (fs : List Form) : Type 0 where
   pub one : (i j : ℕ) (x : Form) → slice_get fs i ≡ Some x → slice_get fs j ≡ Some x → i ≡ j
 
--- 1 if the number is that of an atom, 0 if it is 0
+-- 1 for the number of an atom, 0 for 0
 abbrev pub present : ℕ → ℕ
 present zero = 0
 present (suc k) = 1
@@ -154,7 +154,7 @@ abbrev pub size : List ℕ → ℕ
 size [] = 0
 size (x ∷ xs) = present x + size xs
 
--- the greatest number of atoms of a term
+-- the largest number of atoms in a term
 abbrev pub greatest : List Term → ℕ
 greatest [] = 0
 greatest (t ∷ ts) = max (size t.atoms) (greatest ts)

@@ -1,4 +1,4 @@
--- What the hasher of the table computes: private to the code.
+-- What the hasher of the interner's table computes. Private to the code.
 use Rattle.std.specs.Prelude.{ℕ, List, ◌==◌, if◌then◌else◌, bit_xor, length}
 use Rattle.std.specs.Int.{from_le_bytes, w32, w64}
 use Rattle.std.specs.List.{fold}
@@ -9,6 +9,6 @@ use Rattle.ft_norm.specs.declared.keys.KeyedFold.{KeyedFold}
 abbrev pub noted : KeyedFold → ℕ → KeyedFold
 noted h w = record h { state = folded_multiply (bit_xor h.state w) h.factor }
 
--- the state after bytes: eight are a word, so are four, and others are added one by one
+-- the state after bytes: eight or four bytes are hashed as one word, any other number of bytes one by one
 abbrev pub written : KeyedFold → List ℕ → KeyedFold
 written h bs = if length bs == 8 then noted h (from_le_bytes w64 bs) else (if length bs == 4 then noted h (from_le_bytes w32 bs) else fold noted h bs)

@@ -1,4 +1,4 @@
--- The terms of a polynomial and their places, and what the functions on them know: private to the code.
+-- The terms of a polynomial, their places, and what the functions on them require. Private to the code.
 use Rattle.std.specs.Prelude.{ℕ, ◌+◌, ◌-◌, ◌%◌, ◌^◌, ◌<◌, ◌≤◌, ◌≡◌, ◌==◌, List, [], ◌∷◌, if◌then◌else◌, length, map, slice_index_or}
 use Rattle.std.specs.declared.cmp.Ordering.TheVariants.{Less}
 use Rattle.ft_static.specs.Form.{Form}
@@ -9,7 +9,7 @@ use Rattle.ft_norm.specs.Orders.{AreTerms, cmp_atoms}
 use Rattle.ft_norm.specs.Packing.{ArePacked, HaveSmall, unpacked}
 use Rattle.ft_norm.specs.Entries.{IsDistinct, alone_term, full, greatest, reach_of_terms, size}
 
--- the terms, whichever way they are kept
+-- the terms, however they are kept
 abbrev pub terms_of : Terms → List Term
 terms_of (view.Atom x) = alone_term x ∷ []
 terms_of (view.Linear ts) = map full ts.now
@@ -27,29 +27,29 @@ IsView (view.Full ts) = (2 ≤ greatest ts.now) × (HaveSmall ts.now → ⊥)
 abbrev pub negated_term : Term → Term
 negated_term t = record { atoms = t.atoms; coefficient = (2 ^ 64 - t.coefficient % 2 ^ 64) % 2 ^ 64 }
 
--- the place of a term with these atoms
+-- place i has the term with these atoms
 pub record IsThere (ts : List Term) (xs : List ℕ) (i : ℕ) : Type 0 where
   pub within : i < length ts
   pub same : (t : Term) → (slice_index_or ts i t).atoms ≡ xs
 
--- the place where such a term keeps the order, if there is none yet
+-- place i is where a term with these atoms belongs, if there is none yet
 pub record IsPlace (ts : List Term) (xs : List ℕ) (i : ℕ) : Type 0 where
   pub within : i ≤ length ts
   pub after : (t : Term) (j : ℕ) → j + 1 ≡ i → cmp_atoms (slice_index_or ts j t).atoms xs ≡ Less
   pub before : (t : Term) → i < length ts → cmp_atoms xs (slice_index_or ts i t).atoms ≡ Less
 
--- terms as entries keep them, over forms that are distinct and hold what the terms name
+-- terms as entries keep them, over distinct forms that include those that the terms name
 pub record AreOver (fs : List Form) (ts : List Term) : Type 0 where
   pub terms : AreTerms ts
   pub distinct : IsDistinct fs
   pub reach : reach_of_terms fs ts ≤ length fs
 
--- the constant among terms in order: it comes first
+-- the constant among ordered terms, or 0; a constant comes first
 abbrev pub constant_among : List Term → ℕ
 constant_among [] = 0
 constant_among (t ∷ ts) = if size t.atoms == 0 then t.coefficient else 0
 
--- terms in order without the constant among them
+-- ordered terms without the constant
 abbrev pub others : List Term → List Term
 others [] = []
 others (t ∷ ts) = if size t.atoms == 0 then ts else t ∷ ts

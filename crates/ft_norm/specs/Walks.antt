@@ -1,4 +1,4 @@
--- The result of a walk of `sel`: private to the code.
+-- The result of a walk of `sel`. Private to the code.
 use Rattle.std.specs.Prelude.{ℕ, ◌≤◌, List, length}
 use Rattle.ft_static.specs.Form.{Form, Polynomial, sel_atom}
 use Rattle.ft_static.specs.NormalForm.{alone}
@@ -7,7 +7,7 @@ use Rattle.ft_norm.specs.declared.walk.Walk.TheVariants.{Value, Stop}
 use Rattle.ft_norm.specs.Held.{polynomial_at, updates_at}
 use Rattle.ft_norm.specs.Entries.{IsIntegerAt, memory_reach}
 
--- the polynomial to which a walk for the address in place p leads
+-- the polynomial that a walk for the address in place p finds
 abbrev pub form_of_walk : List Form → ℕ → Walk → Polynomial
 form_of_walk fs p (Value v) = polynomial_at fs v
 form_of_walk fs p (Stop m) = alone (sel_atom (updates_at fs m) (polynomial_at fs p))

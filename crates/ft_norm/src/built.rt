@@ -1,4 +1,4 @@
-//! The entries of terms.
+//! Builds the entry of a polynomial from its terms.
 ghost use Rattle.std.specs.Prelude.{◌≡◌, ◌≢◌, ◌+◌, ◌≤◌, ℕ, List, IfNone, IfOk, IfSome, [], ◌∷◌, length, map};
 ghost use Rattle.ft_static.specs.Form.{Form as Normal, integer_form};
 ghost use Rattle.ft_norm.specs.Entries.{IsCanonical, alone_term, entry_form, full, greatest, polynomial_form, reach_of_entry, reach_of_terms};
@@ -10,7 +10,7 @@ use crate::terms::{Terms, degree_of};
 use smallvec::SmallVec;
 use std::alloc::{AllocError, Global};
 
-/// The number of the entry that these terms are, if they are an atom with the coefficient 1.
+/// The number of the entry for these terms, if they are one atom with the coefficient 1.
 pub fn place_of_atom(terms: &[Term]) -> Option<u32>
     requires { AreTerms terms.now }
     ensures atom { IfSome result (λ k. terms.now ≡ alone_term (k + 1) ∷ []) }
@@ -22,7 +22,7 @@ pub fn place_of_atom(terms: &[Term]) -> Option<u32>
     }
 }
 
-/// The same for one term.
+/// Likewise for one term.
 fn place_of_one(term: Term) -> Option<u32>
     requires { AreTerms (term ∷ []) }
     ensures atom { IfSome result (λ k. term ≡ alone_term (k + 1)) }
@@ -38,7 +38,7 @@ fn place_of_one(term: Term) -> Option<u32>
     atom.checked_sub(1)
 }
 
-/// The same terms, each of which has at most one atom.
+/// These terms as linear terms. Each has at most one atom.
 fn linear(alloc: Global, terms: &[Term]) -> Result<SmallVec<LinearTerm, 1>, AllocError>
     requires terms { AreTerms terms.now }
     requires degree { greatest terms.now ≤ 1 }
@@ -55,7 +55,7 @@ fn linear(alloc: Global, terms: &[Term]) -> Result<SmallVec<LinearTerm, 1>, Allo
     Ok(list)
 }
 
-/// The entry of these terms, which are not an atom with the coefficient 1.
+/// The entry for these terms, which are not one atom with the coefficient 1.
 pub fn entry_of(alloc: Global, terms: &[Term]) -> Result<Entry, AllocError>
     requires terms { AreTerms terms.now }
     requires count { length terms.now ≤ 64 }

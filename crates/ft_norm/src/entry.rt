@@ -1,5 +1,5 @@
-//! Entries: how an interner keeps a normal form. A part that is itself a form is identified by its number. Terms are
-//! ordered by these numbers: comparing two terms never looks into the forms that they refer to.
+//! Entries: how an interner keeps normal forms. A part that is itself a form is identified by its number. Terms are
+//! ordered by these numbers, so comparing two terms never looks into the forms that they refer to.
 ghost use Rattle.std.specs.Prelude.{◌≡◌, List, true};
 ghost use Rattle.ft_static.specs.Form.{Form as Normal, integer_form};
 ghost use Rattle.ft_static.specs.NormalForm.{constant};
@@ -9,17 +9,17 @@ use crate::packed::PackedTerm;
 use ft_static::Shape;
 use smallvec::SmallVec;
 
-/// The maximum number of monomials of a polynomial.
+/// The maximum number of monomials in a polynomial.
 pub const MONOMIALS: usize = 64;
 
-/// The maximum number of atoms of a monomial.
+/// The maximum number of atoms in a monomial.
 pub const ATOMS: usize = 4;
 
-/// The atoms of a monomial, in increasing order of their numbers, and zeros before them. An atom that is entry k has
-/// the number k + 1.
+/// The atoms of a monomial, in increasing order of their numbers, padded with zeros in front. The atom that is entry k
+/// has the number k + 1.
 pub type Atoms = [u32; ATOMS];
 
-/// How many atoms these are.
+/// How many atoms there are, not counting zeros.
 #[inline]
 pub fn degree(atoms: Atoms) -> usize
     ensures { result ≡ size atoms }
@@ -27,14 +27,14 @@ pub fn degree(atoms: Atoms) -> usize
     atoms.iter().filter(|atom| **atom != 0).count()
 }
 
-/// A monomial, its atoms, and its coefficient.
+/// A monomial, given by its atoms, and its coefficient.
 #[derive(Clone, Copy, Default, PartialEq, Eq, Hash)]
 pub struct Term {
     pub atoms: Atoms,
     pub coefficient: u64,
 }
 
-/// Terms while they are put together. A few need no memory of their own.
+/// Terms of a polynomial that is being computed. Up to 4 need no memory of their own.
 pub type TermList = SmallVec<Term, 4>;
 
 /// A term of at most one atom.
@@ -45,7 +45,7 @@ pub struct LinearTerm {
 }
 
 impl LinearTerm {
-    /// The term that it stands for.
+    /// The term that it represents.
     #[inline]
     pub fn full(self) -> Term
         ensures { result ≡ full self }
@@ -57,9 +57,9 @@ impl LinearTerm {
     }
 }
 
-/// A form: an atom with the coefficient 1, as a node over the forms of its parts; the terms of any other polynomial in increasing order, if each has at most
-/// at most one atom, else `Packed` if their atoms have small numbers, else `Full`; the memory variable; or an update of
-/// an older entry. An atom and a constant need no memory of their own.
+/// A form: an atom with the coefficient 1, as a node over the forms of its parts; the terms of any other polynomial in
+/// increasing order (`Linear` if each has at most one atom, else `Packed` if their atoms have small numbers, else
+/// `Full`); the memory variable; or an update of an older entry. An atom and a constant need no memory of their own.
 #[derive(Drop, PartialEq, Eq, Hash)]
 pub enum Entry {
     Atom(Shape),
@@ -70,7 +70,7 @@ pub enum Entry {
     Update { at: u32, value: u32, older: u32 },
 }
 
-/// Whether an entry is a word's; `false` proves nothing.
+/// Whether an entry is that of the word `w`. `false` proves nothing.
 pub fn is_word(entry: &Entry, w: u64) -> bool
     ensures { (fs : List Normal) → result ≡ true → entry_form fs entry.now ≡ integer_form (constant w) }
 {

@@ -1,5 +1,5 @@
-//! Forms by number.
+//! How callers refer to normal forms.
 
-/// A normal form that an interner holds: its place in the interner's list.
+/// A normal form that an interner holds, given by its place in the interner's list.
 #[derive(Clone, Copy, Debug)]
 pub struct Form(pub(crate) u32);

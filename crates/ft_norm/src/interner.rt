@@ -1,4 +1,4 @@
-//! The interner.
+//! The interner: a growing list of distinct normal forms.
 ghost use Rattle.std.specs.Prelude.{◌≡◌, ◌↔◌, ◌+◌, ◌*◌, ◌<◌, ◌≤◌, [], Some, IfOk, IsTrue, length, slice_get, true, false};
 ghost use Rattle.ft_static.specs.Expression.{Expression, HasWords, IsLawful, Valuation, denotation};
 ghost use Rattle.ft_static.specs.Form.{has_atom, integer_form, memory_form, unchanged, updates, variable_atom};
@@ -27,20 +27,20 @@ use std::alloc::{AllocError, Global};
 use std::marker::Model;
 use std::sync::ledger::Ledger;
 
-/// How many words the interner remembers places for.
+/// How many places of words the interner remembers.
 const RECENT: usize = 64;
 
-/// The maximum number of forms: the count, and one more than each form's number, fit a `u32`.
+/// The maximum number of forms, such that the count and each form's number plus one fit a `u32`.
 const FORMS: usize = 4_294_967_294;
 
-/// Normal forms, of integers and of memories. The list of them only grows, and a `Form` stands for one of them through
-/// all later calls. It holds at most 4,294,967,294 forms. A call that makes a form returns `NoMemory` if memory runs
-/// out or that many are held; everything that was held stays, even then.
+/// Normal forms of integers and memories, in a list that only grows: a `Form` keeps its meaning in all later calls. It
+/// holds at most 4,294,967,294 forms. A call that makes a form returns `NoMemory` if memory runs out or that many are
+/// held; even then, the forms held before stay.
 #[derive(Drop)]
 pub struct Interner {
     pub(crate) alloc: Global,
     entries: IndexSet<Entry, Keys>,
-    /// Where a word may be among the entries, by its remainder. This is tried before the table.
+    /// The place where a word's entry may be, by the word modulo `RECENT`. It is tried before the table.
     recent: [u32; RECENT],
 }
 
@@ -61,15 +61,15 @@ impl Model for Interner {
 }
 
 impl Interner {
-    /// An interner that holds no form.
+    /// An empty interner.
     pub fn new(alloc: Global) -> Result<Interner, NoMemory>
         ensures { IfOk result (λ s. s ≡ []) }
     {
         Interner::keyed(alloc, 0, 0)
     }
 
-    /// An interner that holds no form, and whose table hashes by these two keys. The keys affect speed, but not the
-    /// forms: whoever does not know them cannot make the table slow.
+    /// An empty interner whose table hashes with these two keys. The keys affect speed but not the forms. Somebody who
+    /// does not know them cannot make the table slow.
     pub fn keyed(alloc: Global, first: u64, second: u64) -> Result<Interner, NoMemory>
         ensures { IfOk result (λ s. s ≡ []) }
     {
@@ -150,7 +150,7 @@ impl Interner {
         Ok(form)
     }
 
-    /// The form of the word of a memory at an address. It counts a step for each update that the walk passes.
+    /// The form of the word that a memory holds at an address. A step is counted for each update that the walk passes.
     pub fn sel<L: Ledger>(
         &mut self,
         memory: Form,
@@ -194,8 +194,8 @@ impl Interner {
 
     /// The form of node `n` after `ints[i]` is substituted for integer variable `i`, and `memory` for the memory
     /// variable. The nodes obey their rules, and the scope of node `n` is at most the number of `ints`. Each node that
-    /// the tree reaches is handled once, after its parts, without recursion, and a step is counted for it and for each
-    /// update that a walk passes.
+    /// the tree reaches is handled once, after its parts and without recursion. A step is counted for each of these
+    /// nodes, and for each update that a walk passes.
     pub fn under<N: Nodes, L: Ledger>(
         &mut self,
         nodes: &N,
@@ -220,14 +220,14 @@ impl Interner {
         memo.form(self, nodes, n, ints, memory, steps)
     }
 
-    /// Whether two forms, of either sort, are equal. Then expressions with these forms denote the same.
+    /// Whether two forms, of either sort, are equal. If so, expressions with these forms denote the same.
     pub fn same(&self, a: Form, b: Form) -> bool
         requires first { IsHeld self.now a }
         requires second { IsHeld self.now b }
         ensures exact { IsTrue result ↔ (held self.now a ≡ held self.now b) }
         ensures denotes { (x y : Expression) (s : Valuation) → IsTrue result → held self.now a ≡ Some (norm x) → held self.now b ≡ Some (norm y) → HasWords x → HasWords y → IsLawful s → denotation x s ≡ denotation y s }
     {
-        // The proof knows the invariant, that equal entries have one number, only where a field is read.
+        // The proof can use the invariant, that equal entries have one number, only where a field is read.
         let _entries = &self.entries;
         a.0 == b.0
     }
@@ -246,7 +246,7 @@ impl Interner {
         Ok(Form(number as u32))
     }
 
-    /// Whether the entry in this place is a word's; `false` proves nothing.
+    /// Whether the entry in this place is that of the word `w`. `false` proves nothing.
     fn is_word_at(&self, place: u32, w: u64) -> bool
         ensures { result ≡ true → slice_get self.now place ≡ Some (integer_form (constant w)) }
     {
@@ -314,8 +314,7 @@ impl Interner {
     }
 }
 
-/// The form of a node with these forms, by their numbers, in the places of its parts. A variable beyond
-/// `ints` is the word 0.
+/// The form of a node, given with the numbers of forms in place of its parts. A variable beyond `ints` is the word 0.
 pub(crate) fn form_from<L: Ledger>(
     forms: &mut Interner,
     parts: Shape,

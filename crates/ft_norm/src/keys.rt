@@ -1,4 +1,4 @@
-//! The hasher of the interner's table.
+//! The keyed hasher of the interner's table.
 ghost use Rattle.std.specs.Prelude.{◌≡◌};
 ghost use Rattle.std.specs.Hash as fed;
 ghost use Rattle.std.specs.List.{fold};
@@ -7,14 +7,14 @@ ghost use Rattle.ft_norm.specs.Hashing.{noted, written};
 
 use std::hash::{BuildHasher, Hasher};
 
-/// What the two numbers of keys are mixed with, so that small numbers make good keys, too. Any two
-/// numbers whose bits look random would do.
+/// Mixed into the two numbers from which keys are made, so that small numbers make good keys too. Any two numbers with
+/// random-looking bits would do.
 const FIRST_MIX: u64 = 0x243f_6a88_85a3_08d3;
 
 const SECOND_MIX: u64 = 0x9e37_79b9_7f4a_7c15;
 
-/// Two keys by which entries are hashed: a first state and an odd factor. Whoever does not know them
-/// cannot choose entries that collide.
+/// The keys with which entries are hashed: an initial state and an odd factor. Somebody who does not know them cannot
+/// choose entries that collide.
 #[derive(Clone, Copy)]
 pub struct Keys {
     state: u64,
@@ -22,7 +22,7 @@ pub struct Keys {
 }
 
 impl Keys {
-    /// The keys made of two numbers.
+    /// Makes keys from two numbers.
     pub fn new(first: u64, second: u64) -> Keys {
         Keys {
             state: first ^ FIRST_MIX,
@@ -31,15 +31,15 @@ impl Keys {
     }
 }
 
-/// A hasher that multiplies each word, mixed with its state, by the factor, and joins the two halves of
-/// the product. The idea is that of the hashers wyhash and foldhash.
+/// A hasher that XORs each word into its state, multiplies by the factor, and XORs the two halves of the product. The
+/// idea is from the hashers wyhash and foldhash.
 #[derive(Clone, Copy)]
 pub struct KeyedFold {
     state: u64,
     factor: u64,
 }
 
-/// The two halves of a product, joined.
+/// The XOR of the two halves of a product.
 #[inline(always)]
 fn folded_multiply(a: u64, b: u64) -> u64
     ensures { result ≡ folded_multiply a b }
@@ -49,7 +49,7 @@ fn folded_multiply(a: u64, b: u64) -> u64
 }
 
 impl KeyedFold {
-    /// Notes a word.
+    /// Hashes a word.
     #[inline(always)]
     fn note(&mut self, word: u64)
         ensures { self.new ≡ noted self.old word }

@@ -1,10 +1,9 @@
 //! The interner of normal forms.
 //!
-//! An `Interner` holds a list of normal forms that only grows, and a `Form` stands for one of them
-//! (`specs/Held.antt`). The crate promises that each call returns exactly the form that the rows of the
-//! normal forms give for the forms of the parts, that `under` returns the form of a node after a
-//! substitution, and that `same` is true exactly when two forms are equal. The normal forms are those of
-//! `ft_static`.
+//! An `Interner` holds a list of normal forms, as `ft_static` defines them. The list only grows, and a `Form` stands
+//! for one of them (`specs/Held.antt`). The crate promises that each call returns exactly the form that the definition
+//! gives for the forms of the parts, that `under` returns the form of a node after a substitution, and that `same` is
+//! true exactly when two forms are equal.
 #![tactic(auto)]
 
 mod built;

@@ -1,4 +1,4 @@
-//! Sums, differences, products and the operations that fold, as an interner makes them.
+//! How an interner makes the forms of operations.
 ghost use Rattle.std.specs.Prelude.{◌≡◌, IfOk, Some};
 ghost use Rattle.ft_static.specs.Form.{integer_form};
 ghost use Rattle.ft_static.specs.NormalForm.{norm_add, norm_folded, norm_mul, norm_sub};
@@ -15,7 +15,7 @@ use ft_static::Shape;
 use std::alloc::AllocError;
 
 impl Interner {
-    /// The form of a sum. If one of the two is 0, it is the other.
+    /// The form of a sum. If one operand is 0, it is the other.
     pub(crate) fn add(&mut self, a: Form, b: Form) -> Result<Form, AllocError>
         requires first { IsInteger self.old a }
         requires second { IsInteger self.old b }
@@ -41,7 +41,7 @@ impl Interner {
         })
     }
 
-    /// The form of a difference. The negation becomes a form of its own only if the atom refers to it.
+    /// The form of a difference. The negation of `b` is interned only if the result is an atom that refers to it.
     pub(crate) fn sub(&mut self, a: Form, b: Form) -> Result<Form, AllocError>
         requires first { IsInteger self.old a }
         requires second { IsInteger self.old b }
@@ -86,7 +86,7 @@ impl Interner {
         self.integer(product.as_slice())
     }
 
-    /// The form of an operation that is not a polynomial: its result if both are constants, else the atom.
+    /// The form of any other operation: its result if both operands are constants, else an atom.
     pub(crate) fn folded(&mut self, op: Op, a: Form, b: Form) -> Result<Form, AllocError>
         requires first { IsInteger self.old a }
         requires second { IsInteger self.old b }

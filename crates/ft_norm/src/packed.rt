@@ -1,15 +1,15 @@
-//! Terms whose atoms have small numbers, in 20 bytes.
+//! Packs terms whose atoms have small numbers into 20 bytes.
 ghost use Rattle.std.specs.Prelude.{◌≡◌, Decides, IfOk, length, map};
 ghost use Rattle.ft_norm.specs.Packing.{ArePacked, AreSmall, HaveSmall, IsPacked, unpacked};
 
 use crate::entry::{Atoms, Term};
 use std::alloc::{AllocError, Global};
 
-/// The least number of an atom that is too large for a packed term.
+/// The smallest number of an atom that does not fit a packed term.
 const LARGE: u32 = 1 << 24;
 
-/// A term whose atoms have numbers below 2^24: each of the first three atoms, with a byte of the last one
-/// above it; and the two halves of the coefficient.
+/// A term whose atoms have numbers below 2^24: the first three atoms, each with a byte of the last atom in its top
+/// bits, and the two halves of the coefficient.
 #[derive(Clone, Copy, PartialEq, Eq, Hash)]
 pub struct PackedTerm {
     first: u32,
@@ -20,7 +20,7 @@ pub struct PackedTerm {
 }
 
 impl PackedTerm {
-    /// The term, packed.
+    /// Packs a term.
     #[inline]
     fn of(term: Term) -> PackedTerm
         requires { AreSmall term.atoms }
@@ -37,7 +37,7 @@ impl PackedTerm {
         }
     }
 
-    /// The term that it stands for.
+    /// The term that it represents.
     #[inline]
     pub fn full(self) -> Term
         ensures { result ≡ unpacked self }
@@ -75,7 +75,7 @@ pub fn have_small(terms: &[Term]) -> bool
     true
 }
 
-/// These terms, packed.
+/// Packs these terms.
 pub fn packed(alloc: Global, terms: &[Term]) -> Result<Vec<PackedTerm>, AllocError>
     requires { HaveSmall terms.now }
     ensures same { IfOk result (λ v. map unpacked v.items ≡ terms.now) }

@@ -1,4 +1,4 @@
-//! The parts of nodes, by the forms that were made of them.
+//! Replaces the parts of a node by the forms that were made for them.
 ghost use Rattle.std.specs.Prelude.{◌≡◌, ◌<◌, ℕ, nat_eq, None, IfErr, IfOk};
 ghost use Rattle.indexmap.specs.IndexMap.{get};
 ghost use Rattle.ft_static.specs.NodeTree.{HasPartsBelow};
@@ -8,7 +8,7 @@ use crate::form::Form;
 use ft_static::Shape;
 use indexmap::IndexMap;
 
-/// The number of the form of node `n`, or `n` if none was made.
+/// The number of the form made for node `n`; `Err(n)` if none was made.
 fn part(made: &IndexMap<u32, Form>, n: u32) -> Result<u32, u32>
     ensures number { IfOk result (λ i. i ≡ number_in made.now n) }
     ensures made { IfOk result (λ i. IsMade made.now n) }
@@ -20,8 +20,7 @@ fn part(made: &IndexMap<u32, Form>, n: u32) -> Result<u32, u32>
     }
 }
 
-/// A node of this shape with the numbers of its parts' forms in the places of the parts; or a node of which no form was
-/// made, below every bound of the parts.
+/// The shape with each part replaced by the number of its form; or else a part for which no form was made.
 pub fn parts_of(made: &IndexMap<u32, Form>, shape: Shape) -> Result<Shape, u32>
     ensures made { IfOk result (AreMade made.now shape) }
     ensures missing { IfErr result (λ k. ((n : ℕ) → HasPartsBelow n shape → k < n) × (get nat_eq made.now k ≡ None)) }

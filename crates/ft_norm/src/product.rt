@@ -12,7 +12,7 @@ use crate::terms::{Terms, degree_of};
 use smallvec::SmallVec;
 use std::alloc::{AllocError, Global};
 
-/// The atoms of a monomial and one more, in its place. The number 0 is not an atom.
+/// Inserts an atom into a monomial, in order. The number 0 is not an atom and changes nothing.
 #[inline]
 fn with_atom(atoms: Atoms, atom: u32) -> Atoms
     requires monomial { IsMonomial atoms }
@@ -91,7 +91,7 @@ pub fn product_terms(alloc: Global, p: Terms<'_>, q: Terms<'_>) -> Result<TermLi
     Ok(sum)
 }
 
-/// Whether the product of `p` and `q` stays within both limits.
+/// Whether the product of `p` and `q`, before like terms are combined, is within the limits on monomials and atoms.
 pub fn is_small(p: Terms<'_>, q: Terms<'_>) -> bool
     ensures exact { (fs : List Normal) → AreOver fs (terms_of p.entry) → AreOver fs (terms_of q.entry) → result ≡ (nat_le (terms (polynomial_form fs (terms_of p.entry)) * terms (polynomial_form fs (terms_of q.entry))) 64 && nat_le (degree (polynomial_form fs (terms_of p.entry)) + degree (polynomial_form fs (terms_of q.entry))) 4) }
     ensures room { result ≡ true → greatest (terms_of p.entry) + greatest (terms_of q.entry) ≤ 4 }

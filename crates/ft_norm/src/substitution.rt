@@ -17,11 +17,11 @@ use indexmap::IndexMap;
 use std::alloc::Global;
 use std::sync::ledger::Ledger;
 
-/// For how many nodes a cleared memo keeps its memory.
+/// A memo keeps its memory when it is cleared if it has at most this many forms.
 const FEW: usize = 64;
 
-/// The forms that were made of nodes so far, while the same forms are substituted for the variables. It serves many
-/// calls: the form of a node is made at most once.
+/// The forms made for nodes so far, under one substitution. A memo serves many calls: the form of a node is made at
+/// most once.
 #[derive(Drop)]
 pub struct Memo {
     alloc: Global,
@@ -29,7 +29,7 @@ pub struct Memo {
 }
 
 /// The form of a variable after `ints[i]` is substituted for integer variable `i`, and `memory` for the memory
-/// variable. Any other node, and a variable beyond `ints`, has none here.
+/// variable. `None` for any other node, and for a variable beyond `ints`.
 fn leaf(shape: Shape, ints: &[Form], memory: Form) -> Option<Form>
     ensures { (fs gs : List Normal) → AreIntegers fs ints.now → IsMemory fs memory → IfSome result (λ f. held fs f ≡ Some (form_of (polynomials fs ints.now) (updates_held fs memory) gs shape)) }
 {
@@ -46,7 +46,7 @@ fn leaf(shape: Shape, ints: &[Form], memory: Form) -> Option<Form>
 impl Memo {
     ghost use Rattle.ft_norm.specs.Memos.{IsFresh, Remembers};
 
-    /// No form has been made yet.
+    /// An empty memo.
     pub fn new(alloc: Global) -> Memo
         ensures { IsFresh result }
     {
@@ -56,8 +56,8 @@ impl Memo {
         }
     }
 
-    /// Forgets the forms that were made. The memory of a few is kept for others, so that this takes no
-    /// longer than it took to make them.
+    /// Forgets the forms. If there are few, their memory is kept for reuse; if there are more, it is freed, so clearing
+    /// never takes longer than making them did.
     pub fn clear(&mut self)
         ensures { IsFresh self.new }
     {
@@ -69,8 +69,8 @@ impl Memo {
     }
 
     /// The form of node `n` after `ints[i]` is substituted for integer variable `i`, and `memory` for the memory
-    /// variable, as `Interner::under` gives it. What was made before is not made again. A variable, and a node whose
-    /// form was made before, take no memory. After an error the forms that were made stay.
+    /// variable, as `Interner::under` gives it. Forms made before are reused. A variable, and a node whose form was
+    /// made before, take no memory. After an error the forms made so far stay.
     #[inline]
     pub fn form<N: Nodes, L: Ledger>(
         &mut self,
@@ -104,8 +104,8 @@ impl Memo {
         self.make(forms, nodes, n, ints, memory, steps)
     }
 
-    /// The form of a node that has none yet. Each node that its tree reaches and whose form was not
-    /// made before is handled once, after its parts, without recursion.
+    /// Makes the form of a node that has none yet. Each node that its tree reaches and that has no form yet is handled
+    /// once, after its parts and without recursion.
     #[inline(never)]
     fn make<N: Nodes, L: Ledger>(
         &mut self,

@@ -31,7 +31,7 @@ fn compare(a: Atoms, b: Atoms) -> Ordering
     a[3].cmp(&b[3])
 }
 
-/// The place of the term with these atoms, or where it would be.
+/// The place of the term with these atoms; if there is none, `Err` with the place where it belongs.
 fn place_of(sum: &[Term], atoms: Atoms) -> Result<usize, usize>
     requires sum { AreTerms sum.now }
     requires atoms { length atoms ≡ 4 }
@@ -69,7 +69,7 @@ fn raise(sum: &mut TermList, i: usize, coefficient: u64)
     }
 }
 
-/// Puts a term in place `i`, unless its coefficient is 0.
+/// Inserts a term in place `i`, unless its coefficient is 0.
 fn insert(sum: &mut TermList, i: usize, atoms: Atoms, coefficient: u64) -> Result<(), AllocError>
     requires terms { AreTerms sum.old.items }
     requires place { IsPlace sum.old.items atoms i }
@@ -86,7 +86,7 @@ fn insert(sum: &mut TermList, i: usize, atoms: Atoms, coefficient: u64) -> Resul
     Ok(())
 }
 
-/// Adds a term.
+/// Adds a term to a sum.
 pub fn add_term(sum: &mut TermList, atoms: Atoms, coefficient: u64) -> Result<(), AllocError>
     requires terms { AreTerms sum.old.items }
     requires atoms { IsMonomial atoms }
@@ -104,7 +104,7 @@ pub fn add_term(sum: &mut TermList, atoms: Atoms, coefficient: u64) -> Result<()
     }
 }
 
-/// Adds each term.
+/// Adds these terms to a sum.
 fn add_terms(sum: &mut TermList, terms: Terms<'_>) -> Result<(), AllocError>
     requires sum { AreTerms sum.old.items }
     requires terms { AreTerms (terms_of terms) }
@@ -119,7 +119,7 @@ fn add_terms(sum: &mut TermList, terms: Terms<'_>) -> Result<(), AllocError>
     Ok(())
 }
 
-/// A copy of these terms, with room for `more` more.
+/// A copy of these terms, with room for `more` others.
 fn copy_terms(alloc: Global, terms: Terms<'_>, more: usize) -> Result<TermList, AllocError>
     ensures { IfOk result (λ v. v.items ≡ terms_of terms.entry) }
 {
@@ -142,7 +142,7 @@ fn negated(term: Term) -> Term
     }
 }
 
-/// These terms with each coefficient negated, with room for `more` more.
+/// These terms with each coefficient negated, with room for `more` others.
 pub fn negated_terms(alloc: Global, terms: Terms<'_>, more: usize) -> Result<TermList, AllocError>
     ensures { IfOk result (λ v. v.items ≡ map negated_term (terms_of terms.entry)) }
 {
@@ -167,7 +167,7 @@ pub fn sum_terms(alloc: Global, p: Terms<'_>, q: Terms<'_>) -> Result<TermList, 
     Ok(sum)
 }
 
-/// The terms of `p` and of the negation of `q`, added up.
+/// The terms of the difference of `p` and `q`.
 pub fn difference_terms(alloc: Global, p: Terms<'_>, q: Terms<'_>) -> Result<TermList, AllocError>
     requires first { AreTerms (terms_of p) }
     requires second { AreTerms (terms_of q) }

@@ -1,4 +1,4 @@
-//! The terms of an entry, whichever way it keeps them.
+//! The terms of an entry, however it keeps them.
 ghost use Rattle.std.specs.Prelude.{◌≡◌, ◌+◌, ◌<◌, ◌≤◌, ◌==◌, length, slice_index_or};
 ghost use Rattle.ft_norm.specs.Held.{polynomial_at};
 ghost use Rattle.ft_norm.specs.Entries.{AreEntries, forms_of, greatest, polynomial_form, reach_of_terms};
@@ -18,7 +18,7 @@ pub enum Terms<'a> {
 }
 
 impl<'a> Terms<'a> {
-    /// How many these are.
+    /// How many terms there are.
     #[inline]
     pub fn len(self) -> usize
         ensures { result ≡ length (terms_of self.entry) }
@@ -31,7 +31,7 @@ impl<'a> Terms<'a> {
         }
     }
 
-    /// Whether there is none.
+    /// Whether there are no terms.
     #[inline]
     pub fn is_empty(self) -> bool
         ensures { result ≡ (length (terms_of self.entry) == 0) }
@@ -78,7 +78,7 @@ pub fn terms_at(entries: &[Entry], i: u32) -> Terms<'_>
     }
 }
 
-/// The maximum number of atoms in a monomial.
+/// The maximum number of atoms in a term.
 pub fn degree_of(terms: Terms<'_>) -> usize
     ensures { result ≡ greatest (terms_of terms.entry) }
 {

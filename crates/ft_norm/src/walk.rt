@@ -1,4 +1,4 @@
-//! Constants, and the walk of `sel`.
+//! Finds constants among terms, and walks the updates of a memory.
 ghost use Rattle.std.specs.Prelude.{◌≡◌, ◌+◌, ◌<◌, ◌≤◌, List, [], ◌∷◌, length, map};
 ghost use Rattle.std.specs.Bool.{Decides};
 ghost use Rattle.ft_static.specs.Form.{Form as Normal, Polynomial, nought, plus, update, updates};
@@ -13,7 +13,7 @@ use crate::terms::{Terms, terms_at};
 use ft_isa::Steps;
 use std::sync::ledger::Ledger;
 
-/// Where a walk ends: at the value of an update, or at the entry from which nothing more is known.
+/// Where a walk ends: at the value of an update, or at the memory past which nothing is known.
 #[derive(Clone, Copy)]
 pub enum Walk {
     Value(u32),
@@ -34,7 +34,7 @@ pub fn constant_in(terms: Terms<'_>) -> Option<u64>
     constant_of_term(term.atoms, term.coefficient)
 }
 
-/// The value of a polynomial of one term, if that has no atom.
+/// The value of a polynomial of one term, if the term has no atom.
 fn constant_of_term(atoms: Atoms, coefficient: u64) -> Option<u64>
     ensures { (fs : List Normal) → result ≡ constant_of (plus (monomial_form fs atoms) coefficient nought) }
 {
@@ -45,7 +45,7 @@ fn constant_of_term(atoms: Atoms, coefficient: u64) -> Option<u64>
     }
 }
 
-/// The constant among these terms, which comes first.
+/// The constant among these terms, or 0. A constant comes first.
 #[inline(always)]
 fn constant_among(terms: Terms<'_>) -> u64
     requires { IsView terms }
@@ -59,7 +59,7 @@ fn constant_among(terms: Terms<'_>) -> u64
     }
 }
 
-/// These terms without the constant among them.
+/// These terms without the constant.
 #[inline(always)]
 fn others(terms: Terms<'_>) -> Terms<'_>
     requires { IsView terms }
@@ -104,8 +104,8 @@ fn are_same(p: Terms<'_>, q: Terms<'_>) -> bool
     }
 }
 
-/// Whether two polynomials differ by a constant other than 0: their other terms are the same, and their
-/// constants are not.
+/// Whether two polynomials differ by a constant other than 0: their other terms are the same, but their constants are
+/// not.
 fn are_apart(p: Terms<'_>, q: Terms<'_>) -> bool
     requires first { IsView p }
     requires second { IsView q }
@@ -117,7 +117,7 @@ fn are_apart(p: Terms<'_>, q: Terms<'_>) -> bool
     are_same(others(p), others(q))
 }
 
-/// Whether these terms less those of `a` are a constant other than 0.
+/// Whether these terms and those of entry `a` differ by a constant other than 0.
 #[inline(always)]
 fn differs(entries: &[Entry], terms: Terms<'_>, a: u32) -> bool
     requires view { IsView terms }
@@ -129,8 +129,8 @@ fn differs(entries: &[Entry], terms: Terms<'_>, a: u32) -> bool
     are_apart(terms, terms_at(entries, a))
 }
 
-/// Walks from the newest update of `memory` to the one that is known to have the address `p`, past
-/// updates whose addresses are known to differ from it. It counts a step for each update passed.
+/// Walks the updates of `memory`, newest first, past those whose addresses are known to differ from the address `p`. It
+/// stops at the first other update, or at the end, and counts a step for each update passed.
 pub fn walk_from<L: Ledger>(entries: &[Entry], memory: u32, p: u32, steps: &mut Steps<L>) -> Walk
     requires memory { IsMemoryAt (forms_of entries.now) memory }
     requires at { IsIntegerAt (forms_of entries.now) p }
@@ -156,8 +156,8 @@ pub fn walk_from<L: Ledger>(entries: &[Entry], memory: u32, p: u32, steps: &mut 
     }
 }
 
-/// What is below an update at the address `at`: `memory` itself, or, if its newest update has that address, what is
-/// below that one.
+/// The memory below an update at the address `at`: `memory` itself, or, if its newest update has that address, the
+/// memory below that update.
 pub fn below_newest(entries: &[Entry], memory: u32, at: u32) -> u32
     requires within { memory < length entries.now }
     requires memory { IsMemoryAt (forms_of entries.now) memory }

@@ -1,4 +1,4 @@
--- What decoding returns, from what was read.
+-- What decoding returns, given what was read.
 use Rattle.std.proofs.Common.{◌≡◌, ℕ, List, Result, Ok, Err, sym, ◌∙◌, subst}
 use Rattle.std.specs.Prelude.{IfOk}
 use Rattle.ft_types.specs.declared.object.Object.{Object}
@@ -11,13 +11,13 @@ use Rattle.ft_format.specs.Format.{AreBytes, Spells}
 use Rattle.ft_format.proofs.ReadWhole.{read_spells}
 use Rattle.ft_format.proofs.Write.{spells_unbroken, spells_read}
 
--- what is given is spelled
+-- the bytes spell a returned object
 pub spelled : (bytes : List ℕ) (r : Result Object DecodeError) → AreBytes bytes → Judges r (broken bytes) →
     IfOk r (λ o. o ≡ object_of bytes) → IfOk r (Spells bytes (version_at bytes))
 spelled bytes (Ok o) b judged read = subst (Spells bytes (version_at bytes)) (sym read) (read_spells bytes b judged)
 spelled bytes (Err e) b judged read = tt
 
--- what is spelled is given, unless memory runs out
+-- the object that the bytes spell is returned, unless memory runs out
 pub given : (bytes : List ℕ) (r : Result Object DecodeError) (v : Version) (o : Object) → Judges r (broken bytes) →
     IfOk r (λ x. x ≡ object_of bytes) → Spells bytes v o → Gives r o
 given bytes (Ok x) v o judged read h = read ∙ spells_read bytes v o h

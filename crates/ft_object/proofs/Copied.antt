@@ -1,10 +1,10 @@
--- Lists that are copied value by value.
+-- Copying lists value by value.
 use Rattle.std.proofs.Common.{◌≡◌, ℕ, suc, ◌+◌, ◌≤◌, List, [], ◌∷◌, ◌++◌, length, take, Some, sym, ap, ◌∙◌, arith}
 use Rattle.std.specs.Prelude.{slice_get}
 use Rattle.std.proofs.lemmas.List.{take_all}
 use Rattle.ft_isa.proofs.Lists.{take_there}
 
--- one value more
+-- one more value
 pub copied_more : {X : Type 0} (xs done : List X) (i : ℕ) (x : X) → slice_get xs i ≡ Some x → done ≡ take i xs → done
     ++ x ∷ [] ≡ take (i + 1) xs
 copied_more xs done i x there h =

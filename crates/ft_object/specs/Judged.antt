@@ -4,7 +4,7 @@ use Rattle.ft_format.specs.declared.object_error.ObjectError.{ObjectError}
 use Rattle.ft_object.specs.declared.decode_error.DecodeError.{DecodeError}
 use Rattle.ft_object.specs.declared.decode_error.DecodeError.TheVariants.{Object, NoMemory}
 
--- the first rule that is broken, unless memory runs out
+-- the error is the first broken rule, unless memory ran out
 abbrev pub IsError : DecodeError → Option ObjectError → Type 0
 IsError (Object e) broken = broken ≡ Some e
 IsError NoMemory broken = Unit {0}
@@ -14,7 +14,7 @@ abbrev pub Judges : {X : Type 0} → Result X DecodeError → Option ObjectError
 Judges (Ok x) broken = broken ≡ None
 Judges (Err e) broken = IsError e broken
 
--- an error is out of memory
+-- any error is that memory ran out
 abbrev pub OnlyMemory : {X : Type 0} → Result X DecodeError → Type 0
 OnlyMemory (Ok x) = Unit {0}
 OnlyMemory (Err (Object e)) = ⊥

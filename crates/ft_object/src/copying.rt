@@ -1,4 +1,4 @@
-//! Objects copied from views of them.
+//! Copies objects from views.
 ghost use Rattle.std.specs.Prelude.{◌≡◌, ◌<◌, [], length, IfOk, OnOk, Some, slice_get};
 ghost use Rattle.ft_types.specs.Objects.{IsCounted, reg_rows, queue_rows};
 ghost use Rattle.ft_format.specs.Broken.{object_of};
@@ -68,7 +68,7 @@ fn copy_substs(view: &View, substs: &mut Vec<u32>) -> Result<(), DecodeError>
     Ok(())
 }
 
-/// A cell with its name.
+/// Copies a cell with its name.
 fn copy_cell(alloc: Global, view: &View, k: u32) -> Result<Cell, DecodeError>
     requires { k < length (object_of view.now).cells }
     ensures copied { IfOk result (λ c. slice_get (object_of view.now).cells k ≡ Some c) }
@@ -116,7 +116,7 @@ fn copy_queue(
     Ok(())
 }
 
-/// A code type with its rows.
+/// Copies a code type with its rows.
 fn copy_type(alloc: Global, view: &View, t: u32) -> Result<CodeType, DecodeError>
     requires counted { IsCounted (object_of view.now) }
     requires there { t < length (object_of view.now).types }
@@ -166,7 +166,7 @@ fn copy_types(alloc: Global, view: &View, types: &mut Vec<CodeType>) -> Result<(
     Ok(())
 }
 
-/// The object of a view.
+/// Copies the object of a view.
 pub(crate) fn copy_object(alloc: Global, view: &View) -> Result<Object, DecodeError>
     requires { IsCounted (object_of view.now) }
     ensures copied { IfOk result (λ o. o ≡ object_of view.now) }

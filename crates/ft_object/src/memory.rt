@@ -1,4 +1,4 @@
-//! Vectors that grow within their capacity, and copied tables; each call may run out of memory.
+//! Vectors that grow within their capacity, and copies of tables. Each call may run out of memory.
 ghost use Rattle.std.specs.Prelude.{◌≡◌, ◌∷◌, ◌++◌, [], IfOk, OnOk};
 ghost use Rattle.ft_object.specs.Judged.{OnlyMemory};
 
@@ -22,7 +22,7 @@ pub(crate) fn push<T: Drop>(values: &mut Vec<T>, value: T) -> Result<(), DecodeE
     values.push(value).map_err(|_| DecodeError::NoMemory)
 }
 
-/// An owned table of these values.
+/// Copies values into an owned table.
 pub(crate) fn copy<T: Copy>(alloc: Global, values: &[T]) -> Result<Table<T>, DecodeError>
     ensures copied { IfOk result (λ t. t ≡ values.now) }
     ensures err { OnlyMemory result }

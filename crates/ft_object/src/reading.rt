@@ -13,7 +13,7 @@ use ft_types::Object;
 use ft_view::View;
 use std::alloc::Global;
 
-/// The object, or the first rule that is broken.
+/// Reads the object, or returns the first rule that is broken.
 #[tactic(auto, using(ft_types::proofs::Counted::spellable_counted), unfolding(ft_format::specs::Broken::broken))]
 fn read_object(alloc: Global, bytes: &[u8]) -> Result<Object, DecodeError>
     ensures judged { Judges result (broken bytes.now) }
@@ -26,8 +26,8 @@ fn read_object(alloc: Global, bytes: &[u8]) -> Result<Object, DecodeError>
     }
 }
 
-/// The object that the bytes spell; or the first rule of the format that they break, with its place; or
-/// out of memory.
+/// Returns the object that the bytes spell, or the first rule of the format that they break, with its place, or out of
+/// memory.
 pub fn decode(alloc: Global, bytes: &[u8]) -> Result<Object, DecodeError>
     // The result is the object that the bytes spell, in the version that they name.
     ensures spelled { IfOk result (Spells bytes.now (version_at bytes.now)) }
@@ -35,10 +35,10 @@ pub fn decode(alloc: Global, bytes: &[u8]) -> Result<Object, DecodeError>
     ensures given { (v : Version) (o : Object) → Spells bytes.now v o → Gives result o }
     // An error is the first rule broken, and none is broken if an object is returned.
     ensures judged { Judges result (broken bytes.now) }
-    // No rule is broken exactly if some object is spelled, and there is only one.
+    // No rule is broken exactly if the bytes spell some object, and they spell only one.
     ensures exact { (broken bytes.now ≡ None) ↔ ((v : Version) × (o : Object) × Spells bytes.now v o) }
     ensures one { (v w : Version) (o other : Object) → Spells bytes.now v o → Spells bytes.now w other → o ≡ other }
-    // If a rule of the length, the header or the total is broken, it is returned, however much memory there is.
+    // If a rule on the length, the header or the total is broken, it is returned, regardless of memory.
     ensures front { (e : ObjectError) → front_broken bytes.now ≡ Some e → IsErrOf result (DecodeError.Object e) }
 {
     read_object(alloc, bytes)

@@ -1,5 +1,5 @@
-//! Altered objects, section by section: for each field the places that are changed, with the bytes that are
-//! put there, and the error with its place.
+//! Altered objects, section by section: for each field, the places that are changed, the bytes written there, and the
+//! error with its place.
 mod code;
 mod header;
 mod tables;
@@ -13,13 +13,13 @@ pub(crate) use header::HEADER;
 pub(crate) use tables::{CELLS, NAMES, NODES, QUEUE_ROWS, REGISTER_ROWS, SECOND_CELLS, TYPES};
 pub(crate) use versions::{BEYOND_FIRST, LAWFUL_RUNS, LAWFUL_SECOND, RUNS, SECOND};
 
-/// A field, or a rule of it; places with the bytes that are put there; and the error with its place.
+/// A field or one of its rules; places with the bytes written there; and the error with its place.
 pub(crate) type Row = (&'static str, &'static [(usize, u8)], ObjectError);
 
-/// A valid alteration: what it shows, and places with the bytes that are put there.
+/// A valid alteration: what it shows, and places with the bytes written there.
 pub(crate) type Lawful = (&'static str, &'static [(usize, u8)]);
 
-/// Rows over `A`, one for each error but the length.
+/// Test rows over `A`, one for each error except the length.
 pub(crate) const EACH_ERROR: &[Row] = &[
     ("magic", &[(0, 0x55)], ObjectError::Magic { at: 0 }),
     ("cells", &[(10, 4), (11, 1)], ObjectError::Count { at: 8 }),

@@ -1,4 +1,4 @@
-//! Texts and objects, both ways.
+//! From texts to objects, and back.
 use crate::texts::{
     BROKEN, DISORDERED, FIVE, FIVE_COMMENTED, FORMLESS, JUMP, RUN, disordered, formless,
 };
@@ -10,7 +10,7 @@ use std::test::Fail;
 /// Worked objects.
 const OBJECTS: &[&[u8]] = &[A, A2, I, J, J64, K, L, M, N, Q, X];
 
-/// The bytes with byte 7 as 2.
+/// The bytes with byte 7 set to 2.
 fn second(rt: &impl AllocGlobal, bytes: &[u8]) -> Result<Vec<u8>, Fail> {
     let mut bytes = Vec::from_slice(rt.alloc(), bytes)?;
     match bytes.get_mut(7) {
@@ -20,7 +20,7 @@ fn second(rt: &impl AllocGlobal, bytes: &[u8]) -> Result<Vec<u8>, Fail> {
     Ok(bytes)
 }
 
-/// Whether the text is refused by this error.
+/// Whether the text is refused with this error.
 fn is_refused(rt: &impl AllocGlobal, text: &[u8], error: AsmError) -> bool {
     match assemble(rt.alloc(), text) {
         Ok(_) => false,
@@ -50,14 +50,14 @@ fn text_of(rt: &impl AllocGlobal, bytes: &[u8]) -> Result<Vec<u8>, Fail> {
     }
 }
 
-/// Whether the text of the object that the bytes spell is read as that object.
+/// Whether the text of the object that the bytes spell is read back as that object.
 fn is_read_again(rt: &impl AllocGlobal, bytes: &[u8]) -> Result<bool, Fail> {
     let text = text_of(rt, bytes)?;
     let spelling = second(rt, bytes)?;
     Ok(is_read(rt, text.as_slice(), spelling.as_slice()))
 }
 
-/// Whether the object that the bytes spell has this text, which is read as it.
+/// Whether the object that the bytes spell has this text, which is read back as that object.
 fn has_text(rt: &impl AllocGlobal, bytes: &[u8], text: &[u8]) -> Result<bool, Fail> {
     let own = text_of(rt, bytes)?;
     let spelling = second(rt, bytes)?;

@@ -6,7 +6,7 @@ use ft_isa::{NoMemory, Op};
 use ft_norm::{Form, Interner};
 use std::test::Fail;
 
-/// Whether the remainder of a word by a length is that word.
+/// Whether `word` modulo `length` is `rest`.
 #[tactic(auto, using(ft_norm::proofs::HeldForms::keeps_both))]
 fn leaves(forms: &mut Interner, word: u64, length: u32, rest: u64) -> Result<bool, NoMemory>
     requires some { 1 ≤ length }
@@ -44,7 +44,7 @@ fn remainders_of_words_are_words(forms: &mut Interner) -> Result<bool, NoMemory>
     Ok(true)
 }
 
-/// Whether the remainders of a form by two lengths are the same.
+/// Whether a form has the same remainder modulo two lengths.
 #[tactic(auto, using(ft_norm::proofs::HeldForms::keeps_both))]
 fn leave_the_same(forms: &mut Interner, x: Form, length: u32, other: u32) -> Result<bool, NoMemory>
     requires integer { IsInteger forms.old x }
@@ -100,7 +100,7 @@ fn remainders_are_atoms(forms: &mut Interner) -> Result<bool, NoMemory> {
     Ok(true)
 }
 
-/// Whether an operation on two words gives that word.
+/// Whether an operation on `a` and `b` gives `word`.
 #[tactic(auto, using(ft_norm::proofs::HeldForms::keeps_both))]
 fn gives(forms: &mut Interner, op: Op, a: u64, b: u64, word: u64) -> Result<bool, NoMemory>
     ensures { Keeps forms.old forms.new }

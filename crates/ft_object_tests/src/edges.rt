@@ -157,7 +157,7 @@ fn coefficients_vanish(forms: &mut Interner) -> Result<bool, NoMemory> {
     Ok(true)
 }
 
-/// Whether the word that was put at `at` is found there past an update at `past`.
+/// Whether the word put at `at` is still found there after an update at `past`.
 #[tactic(auto, using(ft_norm::proofs::HeldForms::keeps_both))]
 fn is_passed(forms: &mut Interner, at: Form, past: Form) -> Result<bool, NoMemory>
     requires first { IsInteger forms.old at }
@@ -171,7 +171,7 @@ fn is_passed(forms: &mut Interner, at: Form, past: Form) -> Result<bool, NoMemor
     Ok(forms.same(found, at))
 }
 
-/// Whether a form and the next number are known to differ, both ways.
+/// Whether a form and the next number are known to differ, in both directions.
 #[tactic(auto, using(ft_norm::proofs::HeldForms::keeps_both))]
 fn next_is_passed(forms: &mut Interner, at: Form) -> Result<bool, NoMemory>
     requires { IsInteger forms.old at }

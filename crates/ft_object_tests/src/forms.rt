@@ -27,7 +27,7 @@ fn sum(forms: &mut Interner, first: u8, count: u8, on_right: bool) -> Result<For
     Ok(total)
 }
 
-/// The word of a memory at an address, by a counter of its own.
+/// The word of a memory at an address, with its own step counter.
 fn counted<L: Ledger>(
     forms: &mut Interner,
     memory: Form,
@@ -46,7 +46,7 @@ fn counted<L: Ledger>(
     forms.sel(memory, at, &mut steps)
 }
 
-/// The same, whatever the counter.
+/// The same, with a new counter.
 pub fn sel(forms: &mut Interner, memory: Form, at: Form) -> Result<Form, NoMemory>
     requires memory { IsMemory forms.old memory }
     requires address { IsInteger forms.old at }
@@ -56,7 +56,7 @@ pub fn sel(forms: &mut Interner, memory: Form, at: Form) -> Result<Form, NoMemor
     counted::<Brand>(forms, memory, at, Blank::new(1))
 }
 
-/// A tower of comparisons over a variable, each of the one below with itself.
+/// A tower of comparisons over a variable, each comparing the one below with itself.
 #[tactic(auto, using(ft_norm::proofs::HeldForms::keeps_both))]
 fn tower(forms: &mut Interner, variable: u8, height: u32) -> Result<Form, NoMemory>
     ensures kept { Keeps forms.old forms.new }
@@ -84,7 +84,7 @@ fn towers_are_compared_by_number(forms: &mut Interner) -> Result<bool, NoMemory>
     Ok(true)
 }
 
-/// A tower of tests, with a sum at each level, over the two towers that are added there.
+/// Two towers of comparisons, added at each level: each level compares both with the sum of the level below.
 #[tactic(auto, using(ft_norm::proofs::HeldForms::keeps_both))]
 fn levels(forms: &mut Interner, height: u32) -> Result<Form, NoMemory>
     ensures kept { Keeps forms.old forms.new }
@@ -279,8 +279,8 @@ fn newest_update_is_replaced(forms: &mut Interner) -> Result<bool, NoMemory> {
     Ok(true)
 }
 
-/// The nodes of `ft_static`'s examples: the memory variable, variable 0, the word 5, the sum of the
-/// two, and the word of the memory there.
+/// The nodes of `ft_static`'s examples: the memory variable, variable 0, the word 5, the sum of variable 0 and 5, and
+/// the word of the memory at that sum.
 struct Example;
 
 impl Nodes for Example {
@@ -322,7 +322,7 @@ impl Nodes for Example {
     }
 }
 
-/// The sum and the word of the example, under a substitution, and how many steps they took.
+/// Whether the sum and the word of the example, under a substitution, are 7 and 2.
 fn found<L: Ledger>(forms: &mut Interner, blank: Blank) -> Result<bool, NoMemory>
     requires name { blank.name ≡ L.name }
     requires parts { blank.parts ≡ L.parts }

@@ -18,7 +18,7 @@ pub(crate) const RUN: &[u8] =
 pub(crate) const FIVE_COMMENTED: &[u8] =
     b"# stores 5\n\n\t cell\tout  int 0 \n #\nnode 0 memory\n#x y\ntype 0 0\nblock 0\n  mov r0 G 1048576 ref:int\n  mov r1 G 5 int\n\n  mov r32 B 1048576 ref:int\n  mov r33 B 5 int\n  st_G r0 r1\n  st_B r32 r33\n  halt\n\nentry 0";
 
-/// Texts with a line of no form, with its number.
+/// Texts with a line that has none of the forms, and its number.
 pub(crate) const FORMLESS: &[(&[u8], u32)] = &[
     (b"cel out int 0\n", 1),
     (b"cell out int\n", 1),
@@ -58,7 +58,7 @@ pub(crate) const FORMLESS: &[(&[u8], u32)] = &[
     (b"entry 0\nentry\n", 2),
 ];
 
-/// Texts with a line, of some form, that is not allowed where it is, or that lack a line, with its number.
+/// Texts with a line that has one of the forms but is not allowed there, or in which a line is missing, and its number.
 pub(crate) const DISORDERED: &[(&[u8], u32)] = &[
     (b"", 1),
     (b"\n", 2),
@@ -80,7 +80,7 @@ pub(crate) const DISORDERED: &[(&[u8], u32)] = &[
     (b"entry 0\n\n#\nhalt\nx\n", 4),
 ];
 
-/// Texts in order whose tables break a rule of the format, with the first one.
+/// Texts whose lines are in order but whose tables break a rule of the format, with the first error.
 pub(crate) const BROKEN: &[(&[u8], ObjectError)] = &[
     (b"entry 0\n", ObjectError::Count { at: 16 }),
     (b"type 0 0\nentry 0\n", ObjectError::Count { at: 28 }),
@@ -126,7 +126,7 @@ pub(crate) const BROKEN: &[(&[u8], ObjectError)] = &[
     ),
 ];
 
-/// The refusal of a text because of a line of no form.
+/// The refusal of a text because of a line that has none of the forms.
 pub(crate) fn formless(line: u32) -> AsmError {
     AsmError::Text { line }
 }

@@ -1,4 +1,4 @@
-//! Worked objects, whose bytes another implementation of the format made, and altered ones.
+//! Worked objects, whose bytes were made by another implementation of the format, and altered ones.
 use crate::altered::{
     BEYOND_FIRST, BLOCKS, CELLS, EACH_ERROR, HEADER, LAWFUL, LAWFUL_RUNS, LAWFUL_SECOND,
     LONG_SUBSTITUTIONS, Lawful, MOST_SUBSTITUTIONS, NAMES, NODES, OPERATIONS, QUEUE_ROWS,
@@ -20,7 +20,7 @@ const OBJECTS: &[&[u8]] = &[
     X, X2,
 ];
 
-/// Whether the bytes are an object's, and are written again with byte 7 as 2.
+/// Whether the bytes spell an object, and are written back with byte 7 set to 2.
 fn is_written_again(rt: &impl AllocGlobal, bytes: &[u8]) -> Result<bool, Fail> {
     let second = altered(rt, bytes, &[(7, 2)])?;
     match decode(rt.alloc(), bytes) {
@@ -32,7 +32,7 @@ fn is_written_again(rt: &impl AllocGlobal, bytes: &[u8]) -> Result<bool, Fail> {
     }
 }
 
-/// Whether the bytes are refused by this error, in place.
+/// Whether the bytes are refused with this error, in place.
 fn is_refused_in_place(bytes: &[u8], error: ObjectError) -> bool {
     match View::over(bytes) {
         Ok(_) => false,
@@ -40,7 +40,7 @@ fn is_refused_in_place(bytes: &[u8], error: ObjectError) -> bool {
     }
 }
 
-/// Whether the bytes are refused by this error, in place and when they are decoded.
+/// Whether the bytes are refused with this error, both in place and when they are decoded.
 fn is_refused(rt: &impl AllocGlobal, bytes: &[u8], error: ObjectError) -> bool {
     let decoded = match decode(rt.alloc(), bytes) {
         Ok(_) => false,
@@ -58,7 +58,7 @@ fn first_name(bytes: &[u8]) -> Option<&[u8]> {
     }
 }
 
-/// The bytes with others at these places, all of which exist.
+/// The bytes with these changes, all of which are at existing places.
 fn altered(rt: &impl AllocGlobal, bytes: &[u8], changes: &[(usize, u8)]) -> Result<Vec<u8>, Fail> {
     let mut bytes = Vec::from_slice(rt.alloc(), bytes)?;
     for change in changes {
@@ -130,7 +130,7 @@ fn prefixes_are_refused_by_their_length(rt: HostRuntime) {
     }
 }
 
-/// Whether decoding returns what the view over the bytes does: the object that is spelled, or the same error.
+/// Whether decoding agrees with the view over the bytes: both give the object that they spell, or the same error.
 fn answers_are_the_same(rt: &impl AllocGlobal, bytes: &[u8]) -> Result<bool, Fail> {
     match View::over(bytes) {
         Ok(_) => is_written_again(rt, bytes),

@@ -1,4 +1,4 @@
--- Pending stores by index, as the code goes over them.
+-- Pending stores by index, in the order in which the code visits them.
 use Rattle.std.proofs.Common.{◌≡◌, ◌≢◌, ℕ, zero, suc, ◌+◌, ◌<◌, ◌≤◌, cond, [], ◌∷◌, ◌++◌, length, take, Option, Some}
 use Rattle.std.proofs.Common.{None, refl, ap, sym, ◌∙◌, arith, nat_eq, slice_index_or, slice_set, Bool, true, false}
 use Rattle.std.proofs.lemmas.List.{take_more, length-append}
@@ -13,7 +13,7 @@ option_or-cond : (b : Bool) (v : ℕ) (o p : Option ℕ) → option_or (cond b (
 option_or-cond true v o p = refl
 option_or-cond false v o p = refl
 
--- one more entry is the newest
+-- a pushed entry is the newest
 pub newest_at-append : (q : Pending) (e : ℕ × ℕ) (a : ℕ) → newest_at (q ++ e ∷ []) a
     ≡ cond (nat_eq e.0 a) (Some e.1) (newest_at q a)
 unfolding newest_at
@@ -22,7 +22,7 @@ newest_at-append (f ∷ q) e a =
     let p = cond (nat_eq f.0 a) (Some f.1) None in
     ap (λ o. option_or o p) (newest_at-append q e a) ∙ option_or-cond (nat_eq e.0 a) e.1 (newest_at q a) p
 
--- one more entry of a queue that is traversed, oldest first
+-- one more entry of a queue traversed from the oldest on
 newest_at-take : (q : Pending) (i a : ℕ) (d : ℕ × ℕ) → i < length q
     → newest_at (take (i + 1) q) a ≡ cond (nat_eq (slice_index_or q i d).0 a) (Some (slice_index_or q i d).1)
     (newest_at (take i q) a)
@@ -41,7 +41,7 @@ newest_at-take_other q i a d below other =
     let e = slice_index_or q i d in
     sym (newest_at-take q i a d below ∙ ap (λ b. cond b (Some e.1) (newest_at (take i q) a)) (ne_eqb e.0 a other))
 
--- another address in an entry that is there
+-- setting the address of an existing entry
 pub set-with_address : (q : Pending) (i v : ℕ) (e : ℕ × ℕ) → i < length q → e ≡ slice_index_or q i e →
     slice_set q i (v, e.1) ≡ with_address q i v
 unfolding with_address
@@ -49,7 +49,7 @@ set-with_address [] i v e below is = absurd (omega arith)
 set-with_address (f ∷ q) zero v e below is = ap (λ (x : ℕ × ℕ). (v, x.1) ∷ q) is
 set-with_address (f ∷ q) (suc i) v e below is = ap (λ r. f ∷ r) (set-with_address q i v e (omega arith) is)
 
--- another value in an entry that is there
+-- setting the value of an existing entry
 pub set-with_value : (q : Pending) (i v : ℕ) (e : ℕ × ℕ) → i < length q → e ≡ slice_index_or q i e →
     slice_set q i (e.0, v) ≡ with_value q i v
 unfolding with_value
@@ -84,7 +84,7 @@ newest_before q i a e below h other =
     let g = get_or_from_slice_get q i e (0, 0) h in
     newest_at-take_other q i a (0, 0) below (λ is. other (ap (λ (x : ℕ × ℕ). x.0) (sym g) ∙ is))
 
--- another address in an entry that was found
+-- setting the address of an entry that was found
 pub address_put : (q : Pending) (i v : ℕ) (e : ℕ × ℕ) → Some e ≡ slice_get q i → slice_set q i (v, e.1)
     ≡ with_address q i v
 unfolding with_address
@@ -92,14 +92,14 @@ address_put [] i v e h = absurd (cc)
 address_put (f ∷ q) zero v e h = let same : e ≡ f = cc in ap (λ (x : ℕ × ℕ). (v, x.1) ∷ q) same
 address_put (f ∷ q) (suc i) v e h = ap (λ r. f ∷ r) (address_put q i v e h)
 
--- another value in an entry that was found
+-- setting the value of an entry that was found
 pub value_put : (q : Pending) (i v : ℕ) (e : ℕ × ℕ) → Some e ≡ slice_get q i → slice_set q i (e.0, v) ≡ with_value q i v
 unfolding with_value
 value_put [] i v e h = absurd (cc)
 value_put (f ∷ q) zero v e h = let same : e ≡ f = cc in ap (λ (x : ℕ × ℕ). (x.0, v) ∷ q) same
 value_put (f ∷ q) (suc i) v e h = ap (λ r. f ∷ r) (value_put q i v e h)
 
--- no entry was found
+-- if no entry was found, nothing changes
 pub address_none : (q : Pending) (i v : ℕ) → None ≡ slice_get q i → q ≡ with_address q i v
 unfolding with_address
 address_none [] i v h = refl

@@ -1,4 +1,4 @@
--- Lists that are equal place by place.
+-- Lists that are equal element by element.
 use Rattle.std.proofs.Common.{◌≡◌, ℕ, suc, ◌<◌, List, [], ◌∷◌, length, Some, slice_get, refl, arith}
 
 pub same_lists : {X : Type 0} (xs ys : List X) → length xs ≡ length ys →

@@ -11,12 +11,12 @@ use thiserror::Error;
 /// The maximum number of pairs in a queue.
 pub const ROOM: usize = 8;
 
-/// The queue holds as many pairs as it can.
+/// The queue is full.
 #[derive(Clone, Copy, Debug, PartialEq, Eq, Error)]
 #[error("the store queue is full")]
 pub struct Full;
 
-/// The stores that wait for their blue half: at most eight pairs of address and value, oldest first.
+/// The stores that wait for their blue counterparts: at most eight pairs of address and value, oldest first.
 #[derive(Drop)]
 pub struct StoreQueue {
     pairs: HeapCircularBuffer<(u64, u64)>,
@@ -88,7 +88,7 @@ impl StoreQueue {
         self.pairs.is_empty()
     }
 
-    /// Pair `i`, counted from the oldest as 0; `None` exactly if there is none.
+    /// Pair `i`; pair 0 is the oldest. `None` exactly if there is none.
     #[inline]
     pub fn get(&self, i: usize) -> Option<(u64, u64)>
         ensures { result ≡ slice_get self.now i }
@@ -96,7 +96,7 @@ impl StoreQueue {
         self.pairs.get(i).copied()
     }
 
-    /// Adds a pair as the newest. `Full` is returned exactly at eight pairs, and then nothing changes.
+    /// Adds a pair as the newest. Returns `Full`, with the queue unchanged, exactly if it already has eight pairs.
     #[inline]
     pub fn push(&mut self, addr: u64, value: u64) -> Result<(), Full>
         ensures full { IsErr result ↔ (length self.old ≡ ROOM) }
@@ -138,7 +138,7 @@ impl StoreQueue {
         newest
     }
 
-    /// Puts another address into pair `i`; `false` exactly if there is none, and then nothing changes.
+    /// Replaces the address of pair `i`. Returns `false`, with the queue unchanged, exactly if there is no such pair.
     pub fn strike_addr(&mut self, i: u8, addr: u64) -> bool
         ensures there { IsTrue result ↔ (i < length self.old) }
         ensures struck { self.new ≡ with_address self.old i addr }
@@ -152,7 +152,7 @@ impl StoreQueue {
         }
     }
 
-    /// Puts another value into pair `i`; `false` exactly if there is none, and then nothing changes.
+    /// Replaces the value of pair `i`. Returns `false`, with the queue unchanged, exactly if there is no such pair.
     pub fn strike_value(&mut self, i: u8, value: u64) -> bool
         ensures there { IsTrue result ↔ (i < length self.old) }
         ensures struck { self.new ≡ with_value self.old i value }

@@ -1,4 +1,4 @@
--- Runs under a plan whose first outputs get no line, and how they end a recovery.
+-- Runs under a plan whose first outputs are left out, and how a recovery ends with them.
 use Rattle.std.proofs.Common.{◌≡◌, ◌≢◌, ℕ, ◌+◌, ◌-◌, ◌^◌, ◌<◌, ◌≤◌, List, [], ◌++◌, length, Option, None, Result, refl}
 use Rattle.std.proofs.Common.{ap, sym, subst, ◌∙◌, arith}
 use Rattle.std.specs.Prelude.{drop}
@@ -40,7 +40,7 @@ counted_all now long h = omega (arith, h)
 
 module _ (o : Object) (strike : Option Strike) (w : List Wild) (s : State) (most n passed left now : ℕ)
     (old new : SinkLog) (small : most < 2 ^ 64) where
-  -- a run that no put ended
+  -- a run that no failed put ended
   pub ran_past : (pause : Pause) → ¬ (pause ≡ pauses.Refused) → HasRun o strike w s most n pause →
       Passes o passed 0 (outputs_after o strike w n) (goes_on pause) left now old new → RunsTo o strike w most s now
   ran_past pause went r h =
@@ -66,7 +66,7 @@ module _ (o : Object) (strike : Option Strike) (w : List Wild) (s : State) (most
   puts_past pauses.Detected went r h = puts_whole pauses.Detected went r h.lines
   puts_past pauses.Refused went r h = absurd (went refl)
 
-  -- a run that a put ended
+  -- a run that a failed put ended
   pub breaks_past : (pause : Pause) → pause ≡ pauses.Refused → n ≤ most →
       Passes o passed 0 (outputs_after o strike w n) (goes_on pause) left now old new →
       BreaksOff (output_lines o (drop passed (outputs_after o strike w most))) old new
@@ -96,7 +96,7 @@ module _ (o : Object) (strike : Option Strike) (w : List Wild) (n : ℕ) (spella
       (status_after o None w n)
   agrees = tolerant o strike w n spellable accepted
 
-  -- what the struck run committed begins the whole output
+  -- the outputs of the struck run are a prefix of the whole output
   front : IsPrefix (outputs_after o strike w n) (outputs_after o None w n)
   front = begins (outputs_after o strike w n) (outputs_after o None w n) (status_after o strike w n)
       (status_after o None w n) agrees
@@ -118,7 +118,7 @@ module _ (o : Object) (strike : Option Strike) (w : List Wild) (n : ℕ) (spella
   breaks_early h = subst (λ ls. BreaksOff ls old mid) both_lines
       (breaks_before (output_lines o (outputs_after o strike w n)) (output_lines o front.0) old mid h)
 
-  -- the second run puts what is left
+  -- the second run writes the rest
   pub puts_again : {A E : Type 0} (r : Result A E) (committed : ℕ) (new : SinkLog) → committed
       ≡ length (outputs_after o strike w n) → mid ≡ with_lines (output_lines o (outputs_after o strike w n)) old
       → Puts (end_of_puts r) (output_lines o (drop committed (outputs_after o None w n))) mid new →

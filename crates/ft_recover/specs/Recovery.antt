@@ -26,21 +26,22 @@ restart_output o strike w n = count_at (status_after o strike w n) (outputs_afte
 abbrev pub whole_output : Object → List Wild → ℕ → List (List ℕ)
 whole_output o w n = output_lines o (outputs_after o None w n)
 
--- a recovery with this end, if the run without a fault has this status
+-- the end of a recovery is that of the run without a fault, which has this status; a failed write and running out of
+-- memory say nothing about it
 abbrev pub EndsAs : RecoverEnd → Status → Type 0
 EndsAs (Done again) s = s ≡ status.Done
 EndsAs (OutOfSteps again) s = s ≡ status.Running
 EndsAs WriteFault s = Unit {0}
 EndsAs NoMemory s = Unit {0}
 
--- a recovery reports this restart, or none
+-- a recovery that ends as a run does reports this restart, or none if there was none
 abbrev pub Restarts : RecoverEnd → Option ℕ → Type 0
 Restarts (Done again) restart = again ≡ restart
 Restarts (OutOfSteps again) restart = again ≡ restart
 Restarts WriteFault restart = Unit {0}
 Restarts NoMemory restart = Unit {0}
 
--- how the puts of a recovery with this end ended
+-- how the lines of a recovery with this end were written
 abbrev pub put_end : RecoverEnd → PutEnd
 put_end (Done again) = AllPut
 put_end (OutOfSteps again) = AllPut

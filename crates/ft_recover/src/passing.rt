@@ -1,4 +1,4 @@
-//! An outlet that puts a line for each output but the first ones.
+//! An outlet that writes a line for each output but the first ones.
 ghost use Rattle.std.specs.Prelude.{◌≡◌};
 ghost use Rattle.ft_types.specs.Spellable.{IsSpellable};
 ghost use Rattle.ft_machine.specs.Drives.{IsOfCell};
@@ -9,16 +9,16 @@ use ft_isa::Output;
 use ft_machine::{Outlet, put_output};
 use ft_types::Program;
 
-/// Counts the outputs of a program, and puts a line for each but the first ones.
+/// Counts the outputs of a program, and writes a line for each but the first ones.
 #[derive(Drop)]
 pub(crate) struct Passing<'a, P, K> {
     /// The program.
     pub(crate) program: &'a P,
-    /// How many outputs still get no line.
+    /// How many more outputs are left out.
     pub(crate) passed: u64,
     /// How many outputs there were.
     pub(crate) count: u64,
-    /// Where the lines are put.
+    /// Where the lines are written.
     pub(crate) out: &'a mut K,
 }
 

@@ -4,7 +4,7 @@
 /// and so the number that the second run left out; `None` if there was no second run.
 #[derive(Clone, Copy, Debug, PartialEq, Eq)]
 pub enum RecoverEnd {
-    /// The program came to its end.
+    /// The program ended.
     Done { again: Option<u64> },
     /// The program is still running after the last step.
     OutOfSteps { again: Option<u64> },

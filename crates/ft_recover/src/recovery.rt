@@ -16,8 +16,8 @@ use std::alloc::Global;
 /// Runs an accepted program from its start under a plan, for at most `steps` steps, and writes a line for each output,
 /// each with one put. If a fault is detected, it starts the program again without the strike, for at most `steps`
 /// steps, and leaves out as many outputs as were committed. So the lines and the end are those of the run without a
-/// fault, whatever is struck. Both machines are made first, so `NoMemory` puts nothing. `WriteFault` comes only if a
-/// put failed, and nothing is put after it.
+/// fault, whatever is struck. Both machines are made first, so nothing is written if it returns `NoMemory`. It returns
+/// `WriteFault` only after a failed put, which was the last.
 pub fn recover<'a, P: Program, K: Sink>(
     alloc: Global,
     checked: &Checked<'a, P>,

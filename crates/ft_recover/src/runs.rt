@@ -17,7 +17,7 @@ use ft_machine::{Machine, Pause, run_under};
 use ft_semantics::Status;
 use ft_types::Program;
 
-/// Whether a put failed, from how a run ended.
+/// Whether a run ended because a put failed.
 fn broke_off(pause: Pause) -> bool
     ensures { Decides result (pause ≡ Pause.Refused) }
 {
@@ -29,8 +29,8 @@ fn broke_off(pause: Pause) -> bool
     }
 }
 
-/// Runs a machine from its start under a plan, for at most `steps` steps, and puts a line for each output but the first
-/// `passed`. Returns how many outputs there were.
+/// Runs a machine from its start under a plan, for at most `steps` steps, and writes a line for each output but the
+/// first `passed`. Returns how many outputs there were.
 fn run_past<P: Program, K: Sink>(
     machine: &mut Machine,
     program: &P,
@@ -58,8 +58,8 @@ fn run_past<P: Program, K: Sink>(
     Ok(passing.count)
 }
 
-/// Runs a machine from its start without a fault, for at most `steps` steps, and puts a line for each
-/// output but the first `committed`.
+/// Runs a machine from its start without a fault, for at most `steps` steps, and writes a line for each output but the
+/// first `committed`.
 fn run_again<P: Program, K: Sink>(
     machine: &mut Machine,
     program: &P,
@@ -112,7 +112,7 @@ fn run_both<P: Program, K: Sink>(
     }
 }
 
-/// Like `run_both`, with a failed put as an end.
+/// Like `run_both`, but a failed put is one of the ends.
 pub(crate) fn recover_on<P: Program, K: Sink>(
     first: &mut Machine,
     second: &mut Machine,

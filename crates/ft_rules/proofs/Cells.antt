@@ -1,4 +1,4 @@
--- Cells by their heads, and the types of those of a run.
+-- Cells and their heads, and the types of the cells of a run.
 use Rattle.std.proofs.Common.{◌≡◌, ◌+◌, ◌<◌, ◌≤◌, ℕ, true, false, List, ◌∷◌, length, map, slice_get, slice_range}
 use Rattle.std.proofs.Common.{Option, None, Some, arith, refl, ap, ◌∙◌, subst}
 use Rattle.std.specs.List.{list_all}
@@ -14,7 +14,7 @@ use Rattle.ft_types.specs.Spellable.{IsBase, IsCell, IsSpellable}
 use Rattle.ft_typing.specs.TypedWord.{common_type, run_type, same_basic}
 use Rattle.ft_contexts.proofs.Lists.{range_there}
 
--- the cell in a place, by what it is without its name
+-- the cell whose head was found
 pub cell_found : (o : Object) (k : ℕ) (h : CellHead) → option_map cell_head_of (slice_get o.cells k) ≡ Some h →
     (x : Cell) × ((slice_get o.cells k ≡ Some x) × (cell_head_of x ≡ h))
 cell_found o k h e = found (slice_get o.cells k) refl e
@@ -24,7 +24,7 @@ cell_found o k h e = found (slice_get o.cells k) refl e
     found None f e = cc
     found (Some x) f e = (x, (f, (let same : cell_head_of x ≡ h = cc in same)))
 
--- the types of the cells from one
+-- the types of the cells from number k on
 pub types_there : (o : Object) (k past : ℕ) (h : CellHead) → k < past → option_map cell_head_of (slice_get o.cells k)
     ≡ Some h → map basic_of (slice_range o.cells k past) ≡ h.basic ∷ map basic_of (slice_range o.cells (k + 1) past)
 types_there o k past h l e =
@@ -40,11 +40,11 @@ base_there o k h s e =
     let c = all_there (IsCell (length o.types)) o.cells k x.0 s.cells x.1.0 in
     subst (λ (z : CellHead). IsBase (length o.types) z.basic.base) x.1.1 c.basic.base
 
--- the types of the others of a run
+-- the types of the other cells of a run
 abbrev others_of : Object → ℕ → ℕ → List Basic
 others_of o first m = map basic_of (slice_range o.cells (first + 1) (first + m))
 
--- a run whose cells differ from the first one has no type
+-- a run with a cell whose type differs from the first one's has no type
 pub run_differs : (o : Object) (first m : ℕ) (h : CellHead) → 1 ≤ m → option_map cell_head_of (slice_get o.cells first)
     ≡ Some h → list_all (same_basic h.basic) (others_of o first m) ≡ false → run_type o first m ≡ None
 unfolding run_type common_type

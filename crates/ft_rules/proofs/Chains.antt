@@ -26,17 +26,17 @@ use Rattle.ft_contexts.proofs.Registers.{apart}
 use Rattle.ft_norm.specs.declared.form.Form.{Form}
 use Rattle.ft_norm.proofs.HeldForms.{integer_from, memory_from}
 
--- a refusal of what comes after the premises that hold is one of the whole
+-- a refusal after some premises that hold is a refusal of the whole row
 pub refused : (x y : Outcome) (e : RuleError) → x ≡ y → IsRefusal y e → IsRefusal x e
 refused x y e s h = subst (λ z. IsRefusal z e) (sym s) h
 
--- the exit of some premises at one that fails
+-- leaving some premises at one that fails
 pub passes_exit : {A : Type 0} (r : Result A RuleError) (e : RuleError) (x y : Outcome) (after : A → Outcome) →
     IsErrAnd r (λ f. f ≡ e) → x ≡ y → IsRefusal y e → Passes x after r
 passes_exit (Ok a) e x y after h s k = absurd h
 passes_exit (Err f) e x y after h s k = subst (λ (g : RuleError). IsRefusal x g) (sym h) (refused x y e s k)
 
--- the exit of some premises when out of memory
+-- leaving some premises when memory runs out
 pub passes_stop : {A : Type 0} (r : Result A RuleError) (x : Outcome) (after : A → Outcome) →
     IsErrAnd r (λ f. f ≡ NoMemory) → Passes x after r
 passes_stop (Ok a) x after h = absurd h
@@ -49,7 +49,7 @@ passes_after r x y after e h = subst (λ z. Passes z after r) (sym e) h
 
 -- WHOLE ROWS
 
--- the context stays
+-- the context is unchanged
 grows_none : (fs gs : List Normal) (c : Context) → Keeps fs gs → HoldsForms fs c → Grows fs gs c c
 grows_none fs gs c keeps held =
     let e = context_stays fs gs c keeps held in
@@ -57,7 +57,7 @@ grows_none fs gs c keeps held =
     let q = ap (λ (k : Defined). length k.queue) e in
     record { memory = omega (arith, m); queue = λ l. omega (arith, q, l) }
 
--- its memory and its static queue stay
+-- the sizes of its memory and its static queue are unchanged
 pub grows_same : (fs gs : List Normal) (c d : Context) → Keeps fs gs → HoldsForms fs c →
     updates (context_in gs d).memory ≡ updates (context_in gs c).memory → length (context_in gs d).queue
     ≡ length (context_in gs c).queue → Grows fs gs c d
@@ -65,7 +65,7 @@ grows_same fs gs c d keeps held a b =
     let g = grows_none fs gs c keeps held in
     record { memory = omega (arith, g.memory, a); queue = λ l. let h = g.queue l in omega (arith, h, b) }
 
--- the exit of a row at a premise that fails
+-- leaving a row at a premise that fails
 pub does_exit : (r : Result Next RuleError) (e : RuleError) (x y : Outcome) (o : Object) (fs gs : List Normal)
     (c : Context) → IsErrAnd r (λ f. f ≡ e) → x ≡ y → IsRefusal y e → Keeps fs gs → HoldsForms fs c → NamesTypes o c →
     Does x o fs gs c c r
@@ -79,7 +79,7 @@ does_exit (Err f) e x y o fs gs c h s k keeps held types = record {
   grows = grows_none fs gs c keeps held;
 }
 
--- the exit of a row when out of memory
+-- leaving a row when memory runs out
 pub does_stop : (r : Result Next RuleError) (x : Outcome) (o : Object) (fs gs : List Normal) (c : Context) →
     IsErrAnd r (λ f. f ≡ NoMemory) → Keeps fs gs → HoldsForms fs c → NamesTypes o c → Does x o fs gs c c r
 does_stop (Ok n) x o fs gs c h keeps held types = absurd h
@@ -92,7 +92,7 @@ does_stop (Err f) x o fs gs c h keeps held types = record {
   grows = grows_none fs gs c keeps held;
 }
 
--- a row that goes on with this context
+-- a row that continues with this context
 pub does_go : (x : Outcome) (o : Object) (fs gs : List Normal) (c d : Context) → x ≡ Goes (context_in gs d) →
     Keeps fs gs → HoldsForms gs d → NamesTypes o d → Grows fs gs c d → Does x o fs gs c d (Ok On)
 does_go x o fs gs c d h keeps held types g = record {
@@ -139,7 +139,7 @@ does_note x o fs gs c d rd k p goes made base keeps held types noted still named
 
 -- THE STATIC QUEUE
 
--- the queue is empty if it has no pair
+-- the queue is empty exactly if it has no pair
 pub empty_is : (q : List FormPair) (n : ℕ) → length q ≡ n → eqb n 0 ≡ is_empty q
 unfolding is_empty
 empty_is [] n e = rw (sym e) refl
@@ -171,12 +171,12 @@ does_commit x o fs gs c d m u goes made more keeps held types committed still na
           omega (arith, w, z, l));
     })
 
--- the row of an instruction that is this one
+-- equal instructions have the same row
 pub row_of : (o : Object) (k : Defined) (gs : List Normal) (d : Context) (r : Result Next RuleError) (i j : Instr) → i
     ≡ j → Answers (row o k j) gs d r → Answers (row o k i) gs d r
 row_of o k gs d r i j e h = subst (λ (x : Instr). Answers (row o k x) gs d r) (sym e) h
 
--- the steps of an instruction that is this one
+-- equal instructions have the same bound on their steps
 pub steps_of : (o : Object) (k : Defined) (i j : Instr) (s t : ℕ) → i ≡ j → t ≤ s + rule_cost o k j →
     t ≤ s + rule_cost o k i
 steps_of o k i j s t e h = subst (λ (x : Instr). t ≤ s + rule_cost o k x) (sym e) h
@@ -194,13 +194,13 @@ grows_pair fs c d p n e l h =
 
 -- OVER MORE FORMS
 
--- a row from a context that stays if the list of forms has grown
+-- a context has the same row after the list of forms has grown
 pub row_on : (o : Object) (fs gs hs : List Normal) (c d : Context) (i : Instr) (r : Result Next RuleError) →
     Keeps fs gs → HoldsForms fs c → Answers (row o (context_in gs c) i) hs d r →
     Answers (row o (context_in fs c) i) hs d r
 row_on o fs gs hs c d i r k h a = subst (λ (x : Defined). Answers (row o x i) hs d r) (context_stays fs gs c k h) a
 
--- what a context grows to stays if the list of forms has grown
+-- `Grows` from a list of forms gs also holds from a shorter list fs
 pub grows_on : (fs gs hs : List Normal) (c d : Context) → Keeps fs gs → HoldsForms fs c → Grows gs hs c d →
     Grows fs hs c d
 grows_on fs gs hs c d k h g =
@@ -209,7 +209,7 @@ grows_on fs gs hs c d k h g =
     let q = ap (λ (x : Defined). length x.queue) e in
     record { memory = omega (arith, m, g.memory); queue = λ l. g.queue (omega (arith, q, l)) }
 
--- a bound on the steps of such a row stays
+-- a bound on the steps of the row remains one, too
 pub steps_on : (o : Object) (fs gs : List Normal) (c : Context) (i : Instr) (s t : ℕ) → Keeps fs gs → HoldsForms fs c →
     t ≤ s + rule_cost o (context_in gs c) i → t ≤ s + rule_cost o (context_in fs c) i
 steps_on o fs gs c i s t k h l = subst (λ (x : Defined). t ≤ s + rule_cost o x i) (context_stays fs gs c k h) l

@@ -39,7 +39,7 @@ pub record IsInstrOf (o : Object) (i : Instr) : Type 0 where
   pub index : ℕ
   pub found : slice_get o.instrs index ≡ Some i
 
--- the memory has at most one update more, and the static queue no more than 8 pairs if it had no more before
+-- the memory has at most one more update, and the static queue still has at most 8 pairs if it had at most 8 before
 pub record Grows (fs gs : List Normal) (c d : Context) : Type 0 where
   pub memory : updates (context_in gs d).memory ≤ updates (context_in fs c).memory + 1
   pub queue : length (context_in fs c).queue ≤ 8 → length (context_in gs d).queue ≤ 8

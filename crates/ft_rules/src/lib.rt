@@ -1,8 +1,8 @@
 //! The typing rules, one instruction at a time.
 //!
-//! The crate promises that `apply_rule` is exactly one typing rule, with the first failing premise in a
-//! refusal (`specs/Answers.antt`). The rules are those of `TypingRow` in `ft_typing/specs`, and contexts
-//! those of `ft_contexts`.
+//! The crate promises that `apply_rule` applies exactly one typing rule, and that a refusal names the first failing
+//! premise (`specs/Answers.antt`). The rules are those of `TypingRow` in `ft_typing/specs`, and contexts those of
+//! `ft_contexts`.
 #![tactic(auto)]
 
 mod premises;

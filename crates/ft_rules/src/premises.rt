@@ -1,4 +1,4 @@
-//! The premises that need no new form: each is a word of the typing rows.
+//! The premises that need no new form: each is one of the definitions from which the typing rows are built.
 ghost use Rattle.std.specs.Prelude.{◌≡◌, ◌<◌, IfOk, IsTrue, OnOk, List, ℕ, drop, length};
 ghost use Rattle.ft_static.specs.Form.{Form as Normal, Polynomial};
 ghost use Rattle.ft_norm.specs.Held.{IsInteger, polynomial};
@@ -56,7 +56,7 @@ pub fn referred(basic: Basic) -> Result<Basic, RuleError>
     })
 }
 
-/// The code type of which a word is an address.
+/// The code type that the basic type of a code address names.
 #[tactic(auto, unfolding(ft_typing::specs::RowWords::for_code_over))]
 pub fn code_type(basic: Basic) -> Result<u16, RuleError>
     ensures passes { (next : ℕ → Outcome) → Passes (for_code basic next) next result }
@@ -71,7 +71,7 @@ pub fn code_type(basic: Basic) -> Result<u16, RuleError>
     }
 }
 
-/// Nothing, if d is 0.
+/// Passes if d is 0.
 #[tactic(auto, unfolding(ft_typing::specs::RowWords::for_zero))]
 pub fn zero(context: &Context) -> Result<(), RuleError>
     ensures { (fs : List Normal) (next : Outcome) → Passes (for_zero (context_in fs context.now).d next) (λ _. next) result }

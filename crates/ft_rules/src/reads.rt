@@ -1,4 +1,4 @@
-//! What typing rows read from a context, and the premises that each read has, in order.
+//! What typing rows read from a context, and the premises of each read, in order.
 ghost use Rattle.std.specs.Prelude.{◌≡◌, ◌<◌, ◌==◌, ◌&&◌, IfOk, List, ℕ, length};
 ghost use Rattle.ft_static.specs.Form.{Form as Normal, Polynomial, same_polynomial};
 ghost use Rattle.ft_norm.specs.Held.{IsInteger, polynomial};
@@ -18,7 +18,7 @@ use ft_isa::{Colour, Reg};
 use ft_norm::{Form, Interner};
 use ft_typing::{Why, is_seen_as, same_colour};
 
-/// A register of this colour.
+/// What is known of a register of this colour.
 pub fn one(context: &Context, r: Reg, colour: Colour) -> Result<RegForm, RuleError>
     ensures passes { (fs : List Normal) (next : Typed → Outcome)
         → Passes (for_typed (typed (context_in fs context.now) r.number) (λ s. need premise.Colour (same_colour s.colour colour) (next s))) (λ s. next (typed_in fs s)) result }
@@ -37,7 +37,7 @@ fn are_coloured(a: RegForm, b: RegForm, colour: Colour) -> bool
     same_colour(a.colour, colour) && same_colour(b.colour, colour)
 }
 
-/// Two registers of this colour.
+/// What is known of two registers of this colour.
 pub fn two(
     context: &Context,
     a: Reg,

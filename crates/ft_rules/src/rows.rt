@@ -132,7 +132,7 @@ fn load<L: Ledger>(
     Ok(Next::On)
 }
 
-/// A green store: its pair becomes the newest that is pending.
+/// A green store: its pair becomes the newest pending one.
 fn store_green(context: &mut Context, rd: Reg, rs: Reg, forms: &Interner) -> Result<Next, RuleError>
     requires { HoldsForms forms.now context.old }
     ensures { (o : Object) → NamesTypes o context.old → Does (row o (context_in forms.now context.old) (Instr.St Colour.Green rd rs)) o forms.now forms.now context.old context.new result }
@@ -143,7 +143,7 @@ fn store_green(context: &mut Context, rd: Reg, rs: Reg, forms: &Interner) -> Res
     Ok(Next::On)
 }
 
-/// A blue store: its pair is the oldest that is pending.
+/// A blue store: its pair is the oldest pending one.
 fn store_blue(
     context: &mut Context,
     rd: Reg,
@@ -250,7 +250,7 @@ fn branch_green(
     Ok(Next::On)
 }
 
-/// A blue branch, after which the block goes on.
+/// A blue branch, after which the block continues.
 fn branch_blue<P: Program, L: Ledger>(
     context: &mut Context,
     shared: &mut Shared,
@@ -301,9 +301,9 @@ fn halt(context: &Context, forms: &Interner) -> Result<Next, RuleError>
     Ok(Next::Ends)
 }
 
-/// Types one instruction. `On` is returned if the block goes on after it, and the context is then that of the next
-/// instruction; `Ends` if the block ends with it, a blue jump or `halt`. `Refused` names the first failing premise,
-/// never `BlockEnd`, and leaves the context unchanged. If memory runs out, the context stays unchanged, too.
+/// Types one instruction. It returns `On` if the block continues after it, and the context is then that of the next
+/// instruction; `Ends` if the instruction, a blue jump or `halt`, ends the block. `Refused` names the first failing
+/// premise, never `BlockEnd`, and leaves the context unchanged. If memory runs out, the context is unchanged, too.
 pub fn apply_rule<P: Program, L: Ledger>(
     ctx: &mut Context,
     forms: &mut Interner,
@@ -327,7 +327,7 @@ pub fn apply_rule<P: Program, L: Ledger>(
     apply_rule_over(ctx, &mut shared, forms, program, instr, steps)
 }
 
-/// The same, over what the blocks share, which other instructions may have used before.
+/// The same, with what the blocks share. Other instructions may have used it before.
 pub fn apply_rule_over<P: Program, L: Ledger>(
     ctx: &mut Context,
     shared: &mut Shared,

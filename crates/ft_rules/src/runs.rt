@@ -40,7 +40,7 @@ fn are_all<P: Program>(program: &P, basic: Basic, from: u32, past: u32) -> bool
     true
 }
 
-/// The type of the cells of a run, if they are all of one and a `ref` can refer to it.
+/// The type of the cells of a run, if they all have the same one and a `ref` can refer to it.
 fn run_type<P: Program>(program: &P, first: u32, count: u32) -> Option<Basic>
     requires spellable { IsSpellable (P.object program.now) }
     requires run { IsRun (length (P.object program.now).cells) first count }
@@ -85,7 +85,7 @@ fn array<P: Program>(program: &P, first: u32, count: u32) -> Result<Basic, RuleE
     }
 }
 
-/// The form of the address of the cell of a run that a word selects, by the form of that word.
+/// The form of the address of the run's cell that a word selects, given the form of that word.
 fn run_form(forms: &mut Interner, first: u32, count: u32, named: Form) -> Result<Form, NoMemory>
     requires named { IsInteger forms.old named }
     requires some { 1 ≤ count }

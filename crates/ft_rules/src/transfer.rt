@@ -1,4 +1,4 @@
-//! The premises on the target of a transfer: what holds here is as the target's code type requires, after the
+//! The premises on the target of a transfer: the context meets the requirements of the target's code type, after the
 //! substitution.
 ghost use Rattle.std.specs.Prelude.{◌+◌, ◌*◌, ◌<◌, ◌≤◌, length};
 ghost use Rattle.ft_norm.specs.Held.{Keeps};

@@ -24,7 +24,7 @@ impl From<OutOfMemory> for RuleError {
     }
 }
 
-/// The result of a row: the block goes on after the instruction, or it ends with it.
+/// The result of a row: the block continues after the instruction, or ends with it.
 #[derive(Clone, Copy, Debug, PartialEq, Eq)]
 pub enum Next {
     On,

@@ -24,9 +24,9 @@ use Rattle.ft_runs.specs.Runs.{CleanRun, IsClean, StruckRun, struck_now, IsStruc
 use Rattle.ft_tolerance.proofs.Whole.{along, accepted_fits}
 use Rattle.ft_tolerance.proofs.Masking.{before, alike_at_once, alike_next, follows_along}
 
--- WHAT A STEP TELLS
+-- THE RESULT OF A STEP
 
--- a state that was detected gives this result
+-- a step from a detected state has this result
 detected_told : (o : Object) (t : State) (v : List Wild) → t.status ≡ Detected → told (step o t v) ≡ stepped.Detected
 detected_told o t v d = ap told (stays_at o t.status t v (subst HasStopped (sym d) tt)) ∙ ap told_status d
 
@@ -50,13 +50,13 @@ told_next c o p s t w v spelled acc fits (has_stopped d) = inr (detected_told o 
 abbrev struck_colour : StruckRun → Colour
 struck_colour r = colour_of_site (state_after r.object None r.wild r.strike.step) r.strike.site
 
--- after a step since the strike, the state in which the next step is taken is that after the steps taken
+-- if a step was taken since the strike, the next one is taken in the state after the steps taken
 pub struck_later : (r : StruckRun) → r.strike.step < r.taken → struck_now r
     ≡ state_after r.object (Some r.strike) r.wild r.taken
 struck_later r lt = spared r.strike r.taken (λ e. omega (arith, e))
     (state_after r.object (Some r.strike) r.wild r.taken)
 
--- the strike of a run without a fault
+-- striking a run without a fault
 pub struck_begins : (r : CleanRun) (s t : State) (site : Site) (v : ℕ) (w : List Wild) → IsClean r s → is_there s site
     ≡ true → t ≡ struck_state s site v
     → IsStruckRun (record {

@@ -34,8 +34,8 @@ pub record StruckRun : Type 0 where
 abbrev pub struck_now : StruckRun → State
 struck_now r = struck_before (Some r.strike) r.taken (state_after r.object (Some r.strike) r.wild r.taken)
 
--- the machine of a run that was struck, at an existing site, and the answers that are left; the machine is like that of
--- the run without the strike after the same number of steps, or it is detected
+-- the machine of a run that was struck at an existing site, and the answers left; the machine is like that of the run
+-- without the strike after the same number of steps, or it is detected
 pub record IsStruckRun (r : StruckRun) (s : State) (left : List Wild) : Type 0 where
   pub spellable : IsSpellable r.object
   pub accepted : IsAccepted r.object

@@ -15,8 +15,8 @@ use ft_types::Program;
 use std::alloc::Global;
 use std::marker::Model;
 
-/// The run of an accepted program without a fault. It takes no answers to wild loads, since it meets
-/// none. Contracts see it as the program's object and the number of steps that were taken.
+/// The run of an accepted program without a fault. It takes no answers to wild loads, since none of its loads is wild.
+/// Contracts see it as the program's object and the number of steps taken.
 #[derive(Drop)]
 pub struct Clean<'a, P: Program> {
     pub(crate) program: &'a P,
@@ -48,7 +48,7 @@ impl<'a, P: Program> Clean<'a, P> {
         })
     }
 
-    /// Takes one step, which never detects a fault. A run that is done does not change.
+    /// Takes one step, which never detects a fault. If the run is done, only the number of steps taken changes.
     pub fn step(&mut self) -> Stepped
         requires { self.old.taken < 2 ^ 63 }
         ensures taken { self.new ≡ record self.old { taken = self.old.taken + 1 } }
@@ -61,8 +61,9 @@ impl<'a, P: Program> Clean<'a, P> {
         stepped
     }
 
-    /// Strikes the run before its next step: the word at the site becomes `value`. `Idle` exactly if the run has
-    /// stopped or the site does not exist, with the run unchanged. The struck run takes these answers to wild loads.
+    /// Strikes the run before its next step: the word at the site becomes `value`. Returns `Idle`, with the run
+    /// unchanged, exactly if the run has stopped or the site does not exist. The struck run takes these answers to wild
+    /// loads.
     pub fn strike<'w>(self, site: Site, value: u64, wild: &'w [Wild]) -> Hit<'a, 'w, P>
         ensures struck { (s : _) → result ≡ Hit.Struck s →
             (s ≡ record { object = self.entry.object; strike = record { step = self.entry.taken; site = site; value = value }; wild = wild.now; taken = self.entry.taken })
@@ -98,7 +99,7 @@ impl<'a, P: Program> Clean<'a, P> {
         }
     }
 
-    /// The machine after the steps that were taken.
+    /// The machine after the steps taken.
     pub fn machine(&self) -> &Machine
         ensures { (w : List Answer) → result.now ≡ state_after self.now.object None w self.now.taken }
     {

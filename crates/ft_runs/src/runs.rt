@@ -15,8 +15,8 @@ use ft_machine::{Gone, Outlet, Pause, RunEnd, drive, run_under};
 use ft_types::Program;
 
 /// Runs an accepted program from its start under a plan, for at most `steps` steps, and writes a line for each output,
-/// each with one put. `WriteFault` comes only if a put failed, and nothing is put after it; `Detected` only if the plan
-/// has a strike.
+/// each with one put. It returns `WriteFault` only after a failed put, which was the last, and `Detected` only if the
+/// plan has a strike.
 pub fn run<'a, P: Program, K: Sink>(
     start: Clean<'a, P>,
     plan: Plan,
@@ -48,7 +48,7 @@ pub fn run<'a, P: Program, K: Sink>(
 }
 
 /// Runs an accepted program from its start without a fault, for at most `steps` steps, and passes each output to an
-/// outlet. Ends early if the program ends or the outlet does not go on.
+/// outlet. Ends early if the program ends or the outlet stops it.
 pub fn run_clean<'a, P: Program, T: Outlet>(start: Clean<'a, P>, steps: u64, outlet: &mut T) -> Gone
     requires taken { start.taken ≡ 0 }
     requires may { (output : Committed) → IsOfCell start.object output → T.may outlet.old output }

@@ -14,7 +14,7 @@ use std::marker::Model;
 
 /// The run of an accepted program that was struck once. It cannot be struck again. By its invariant, its machine is
 /// like the unstruck run's after the same number of steps, or detected. Contracts see it as the program's object, the
-/// strike, the answers to wild loads and the number of steps that were taken.
+/// strike, the answers to wild loads and the number of steps taken.
 #[derive(Drop)]
 pub struct Struck<'a, 'w, P: Program> {
     pub(crate) program: &'a P,
@@ -36,8 +36,8 @@ impl<'a, 'w, P: Program> Model for Struck<'a, 'w, P> {
 }
 
 impl<'a, 'w, P: Program> Struck<'a, 'w, P> {
-    /// Takes one step. A stopped run does not change. The result is that of the run without the strike after the same
-    /// number of steps, or `Detected`.
+    /// Takes one step. If the run has stopped, only the number of steps taken changes. The result is that of the run
+    /// without the strike after the same number of steps, or `Detected`.
     pub fn step(&mut self) -> Stepped
         requires { self.old.taken < 2 ^ 63 }
         ensures taken { self.new ≡ record self.old { taken = self.old.taken + 1 } }
@@ -50,8 +50,8 @@ impl<'a, 'w, P: Program> Struck<'a, 'w, P> {
         stepped
     }
 
-    /// The machine: after the strike and before the next step if none was taken since, else after the steps that were
-    /// taken. The site that was struck existed.
+    /// The machine: right after the strike if no step was taken since, else after the steps taken. The site that was
+    /// struck existed.
     pub fn machine(&self) -> &Machine
         ensures now { result.now ≡ struck_now self.now }
         ensures there { is_there (state_after self.now.object None self.now.wild self.now.strike.step) self.now.strike.site ≡ true }

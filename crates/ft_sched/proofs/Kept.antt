@@ -1,4 +1,4 @@
--- What is kept of those that wait, as one more waits and as one is taken.
+-- What is recorded of the waiting instructions, as one is added and as one is taken.
 use Rattle.std.proofs.Common.{◌≡◌, ℕ, suc, ◌+◌, ◌<◌, Bool, true, false, cond, not, ◌&&◌, ◌||◌, ◌==◌, nat_lt, List, []}
 use Rattle.std.proofs.Common.{◌∷◌, ◌++◌, length, drop, Option, Some, None, refl, sym, ap, ◌∙◌, subst, arith}
 use Rattle.std.specs.Prelude.{slice_index_or}
@@ -17,7 +17,7 @@ use Rattle.ft_sched.proofs.LastMet.{last_more, below_none, is_behind, marked_at}
 
 -- MARKS
 
--- the place of register q after a register is marked, if one is given
+-- the place of register q after a register, if one is given, is marked
 marked_one : (ps : List ℕ) (u : Option Reg) (p q : ℕ) → length ps ≡ 64 → slice_index_or (marked ps (number_of u) p) q 0
     ≡ cond (is_register (number_of u) q) p (slice_index_or ps q 0)
 marked_one ps None p q l = refl
@@ -37,7 +37,7 @@ or_none : (b : Bool) → b ≡ (b || false)
 or_none true = refl
 or_none false = refl
 
--- an instruction reads its first register and its second one
+-- an instruction reads its first register and its second, and no other
 pub reads_two : (i : Instr) (r : ℕ) → reads i r ≡ (is_register (first_read i) r || is_register (second_read i) r)
 reads_two (OpWord op rd rs value) r = or_none (rs.number == r)
 reads_two (Ld k rd rs) r = or_none (rs.number == r)
@@ -104,7 +104,7 @@ module _ (is : List Instr) (front : ℕ) (writers touchers : List ℕ) (blue : �
     blue_last = (λ j. cond (is_blue_store i) (at j) (kept.blue_last j)) ∙ sym (last_more is_blue_store is i);
   }
 
--- one more instruction, with what its marks gave
+-- one more instruction, with the marks set for it
 pub kept_pushed : (is new : List Instr) (front : ℕ) (writers writers_new touchers first_marked then_marked touchers_new
     : List ℕ) (blue blue_new : ℕ) (i : Instr) (w f s : Option Reg) (place : ℕ) → IsKept is front writers touchers blue
     → new ≡ is ++ i ∷ [] → number_of w ≡ written i → number_of f ≡ first_read i → number_of s ≡ second_read i → place
@@ -157,14 +157,14 @@ kept_taken is front writers touchers blue l k = record {
   blue_last = k.blue_last;
 }
 
--- LOOKS
+-- LOOKUPS
 
--- no place is behind a front, and none passes a test that none passes
+-- place 0 is never above the front, just as no instruction passes a test that always fails
 none_behind : (front : ℕ) (is : List Instr) → nat_lt front 0 ≡ list_any (λ (i : Instr). false) is
 none_behind front [] = below_none front
 none_behind front (i ∷ is) = none_behind front is
 
--- one that waits writes a register, if one is given
+-- whether a waiting instruction writes a register, if one is given
 pub writes_behind : (is : List Instr) (front : ℕ) (writers touchers : List ℕ) (blue : ℕ) (u : Option Reg) →
     IsKept is front writers touchers blue → nat_lt front (place_of writers (number_of u))
     ≡ list_any (writes (number_of u)) (drop front is)
@@ -172,7 +172,7 @@ writes_behind is front writers touchers blue None k = none_behind front (drop fr
 writes_behind is front writers touchers blue (Some r) k = ap (nat_lt front) (k.written_last r.number r.in_range)
     ∙ is_behind (writes (Some r.number)) is front
 
--- one that waits reads or writes a register, if one is given
+-- whether a waiting instruction reads or writes a register, if one is given
 pub meets_behind : (is : List Instr) (front : ℕ) (writers touchers : List ℕ) (blue : ℕ) (u : Option Reg) →
     IsKept is front writers touchers blue → nat_lt front (place_of touchers (number_of u))
     ≡ list_any (meets (number_of u)) (drop front is)
@@ -180,14 +180,14 @@ meets_behind is front writers touchers blue None k = none_behind front (drop fro
 meets_behind is front writers touchers blue (Some r) k = ap (nat_lt front) (k.touched_last r.number r.in_range)
     ∙ is_behind (meets (Some r.number)) is front
 
--- one that waits is a blue store
+-- whether a waiting instruction is a blue store
 pub blue_behind : (is : List Instr) (front : ℕ) (writers touchers : List ℕ) (blue : ℕ) →
     IsKept is front writers touchers blue → nat_lt front blue ≡ list_any is_blue_store (drop front is)
 blue_behind is front writers touchers blue k = ap (nat_lt front) k.blue_last ∙ is_behind is_blue_store is front
 
 -- CONFLICTS
 
--- two tests of each
+-- whether some instruction passes one of two tests
 either_any : (s t u : Instr → Bool) (is : List Instr) → ((i : Instr) → u i ≡ (s i || t i)) → list_any u is
     ≡ (list_any s is || list_any t is)
 either_any s t u [] h = refl
@@ -201,7 +201,7 @@ either_any s t u (i ∷ is) h = (λ j. h i j || either_any s t u is h j)
     crossed false false true d = refl
     crossed false false false d = refl
 
--- an instruction does not use a register that is written, by the registers that it reads and writes
+-- whether an instruction leaves a written register alone, in terms of the registers that it reads and writes
 alone_by : Option ℕ → Option ℕ → Option ℕ → Option ℕ → Bool
 alone_by f s v None = true
 alone_by f s v (Some q) = not ((is_register f q || is_register s q) || is_register v q)
@@ -211,7 +211,7 @@ unfolding alone_by
 alone_read i None = refl
 alone_read i (Some q) = ap (λ b. not (b || is_register (written i) q)) (reads_two i q)
 
--- whether a register is given and written
+-- whether two registers are both given and equal
 hits : Option ℕ → Option ℕ → Bool
 hits u None = false
 hits u (Some r) = is_register u r
@@ -239,7 +239,7 @@ not_alone : (b : Bool) → not (true && not b) ≡ (false || b)
 not_alone true = refl
 not_alone false = refl
 
--- what is read, what both write, and what the one that waits touches
+-- three tests: of what is read, of what both write, and of what the waiting one touches
 all_three : (a c t : Bool) → (c ≡ true → t ≡ true) → not (not (a || c) && not t) ≡ (a || t)
 all_three true c t h = refl
 all_three false false true h = refl
@@ -271,7 +271,7 @@ conflict_tests i w =
     ∙ conflict_by (first_read i) (second_read i) (written i) (written w) w refl
     ∙ sym (λ j. (hits_writes (first_read i) w j || hits_writes (second_read i) w j) || meets (written i) w)
 
--- whether one of those that wait conflicts, by three looks
+-- whether a waiting instruction conflicts, by three lookups
 pub conflict_behind : (i : Instr) (is : List Instr) → list_any (conflicts i) is
     ≡ ((list_any (writes (first_read i)) is || list_any (writes (second_read i)) is) || list_any (meets (written i)) is)
 conflict_behind i is =

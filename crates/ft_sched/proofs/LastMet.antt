@@ -1,4 +1,4 @@
--- The last place of what passes a test, as the list grows and as its front goes on.
+-- The last place of an element that passes a test, as the list grows and as its front advances.
 use Rattle.std.proofs.Common.{◌≡◌, ℕ, zero, suc, ◌<◌, Bool, true, false, cond, ◌||◌, ◌==◌, nat_lt, List, [], ◌∷◌, ◌++◌}
 use Rattle.std.proofs.Common.{length, drop, refl, sym, ap, ◌∙◌, subst, arith}
 use Rattle.std.specs.Prelude.{slice_index_or}
@@ -20,7 +20,7 @@ last_more test [] i = refl
 last_more test (j ∷ is) i = ap (λ n. or_first n (test j)) (last_more test is i)
     ∙ or_more (length is) (test i) (test j) (last_place test is)
 
--- one order of numbers for another
+-- equivalent comparisons are equal
 same_order : (a b c d : ℕ) → (a < b → c < d) → (c < d → a < b) → nat_lt a b ≡ nat_lt c d
 same_order a b c d f g = by_tests (nat_lt a b) (nat_lt c d) refl refl
   where
@@ -39,7 +39,7 @@ below_none f = by_test (nat_lt f 0) refl
 above_none : (n : ℕ) → nat_lt 0 (suc n) ≡ true
 above_none n = lt-ltb 0 (suc n) (omega arith)
 
--- whether the last place is behind the front
+-- whether the last place is above the front
 behind_first : (n : ℕ) (t a : Bool) → nat_lt 0 n ≡ a → nat_lt 0 (or_first n t) ≡ (t || a)
 behind_first zero true a e = above_none 0
 behind_first zero false a e = e

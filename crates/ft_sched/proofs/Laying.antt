@@ -1,4 +1,4 @@
--- What laying an instruction down, or letting it wait, does to the order so far.
+-- How writing an instruction, or letting it wait, changes the order so far.
 use Rattle.std.proofs.Common.{◌≡◌, ℕ, suc, ◌+◌, ◌-◌, ◌<◌, ◌≤◌, Bool, true, false, cond, not, ◌&&◌, List, [], ◌∷◌, ◌++◌}
 use Rattle.std.proofs.Common.{length, drop, Ok, Err, refl, sym, ap, ◌∙◌, subst, arith, append-nil, append_assoc}
 use Rattle.std.specs.Prelude.{OnOk, Result}
@@ -42,7 +42,7 @@ leading_trails i h = ap (λ b. not (is_fixed i) && not b) h ∙ and_none (not (i
 neither_trails : (i : Instr) → is_leading i ≡ false → is_fixed i ≡ false → is_trailing i ≡ true
 neither_trails i l f = (λ j. not (f j) && not (l j))
 
--- if the last that is written isn't trailing, nothing is stuck behind it
+-- if the last written instruction isn't trailing, no instruction may pass it
 pub stuck_settled : (rows start : ℕ) (laid : List Instr) (i : Instr) → IsSettled start laid → Stuck rows start laid i
 unfolding Stuck
 stuck_settled rows start laid i settled = λ front l e low may. (let t = (permits _ l i may).first_trails in
@@ -52,7 +52,7 @@ settled_by : (start : ℕ) (laid : List Instr) (i : Instr) → is_trailing i ≡
 settled_by start laid i h = λ front l e low. subst (λ (z : Instr). is_trailing z
     ≡ false) (same_front laid front i l e).1 h
 
--- while a leading instruction waits for others that wait
+-- while waiting instructions are written before a leading one
 pub record Leading (i : Instr) (rows start past : ℕ) (base rest laid waiting : List Instr) (queued committed : ℕ) : Type
     0 where
   pub arranged : Arranges rows start past base (i ∷ rest) laid waiting queued committed
@@ -70,18 +70,18 @@ leading_begins i rows start past base rest laid waiting q c h a = record {
 
 -- LISTS
 
--- the first that waits becomes the last that is written
+-- the first waiting instruction becomes the last written one
 shifted : (laid : List Instr) (w : Instr) (ws : List Instr) → (laid ++ w ∷ []) ++ ws ≡ laid ++ w ∷ ws
 shifted laid w ws = append_assoc laid (w ∷ []) ws
 
--- the first of the rest is the last that waits
+-- the first of the rest becomes the last waiting one
 waiting_on : (laid ws : List Instr) (i : Instr) (rest : List Instr) → (laid ++ (ws ++ i ∷ [])) ++ rest ≡ (laid ++ ws)
     ++ i ∷ rest
 waiting_on laid ws i rest = ap (λ z. z ++ rest) (sym (append_assoc laid ws (i ∷ [])))
     ∙ append_assoc (laid ++ ws) (i ∷ []) rest
 
 module _ (rows start past : ℕ) (base : List Instr) where
-  -- one that trails waits
+  -- a trailing instruction waits
   pub arranged_trailing : (i : Instr) (rest laid ws : List Instr) (q c : ℕ) → is_leading i ≡ false → is_fixed i
       ≡ false → IsArranged rows start past base (i ∷ rest) laid ws q c →
       IsArranged rows start past base rest laid (ws ++ i ∷ []) q c
@@ -106,7 +106,7 @@ module _ (rows start past : ℕ) (base : List Instr) where
         settled = a.settled;
       }
 
-  -- what is queued and committed by what is written
+  -- the counts of what the written instructions queue and commit
   record Tallies (laid : List Instr) (q c : ℕ) : Type 0 where
     begins : start ≤ length laid
     queued_is : q ≡ rows + count_by is_green_store (drop start laid)
@@ -136,7 +136,7 @@ module _ (rows start past : ℕ) (base : List Instr) where
         committed_is = committed ∙ ap (λ z. count_by is_blue_store (drop start z)) (sym lays.laid_is);
       }
 
-  -- the first that waits is written
+  -- the first waiting instruction is written
   pub arranged_first : (rest laid laid' ws : List Instr) (w : Instr) (q q' c c' : ℕ) → Lays w laid laid' q q' c c' →
       Arranges rows start past base rest laid (w ∷ ws) q c → Arranges rows start past base rest laid' ws q' c'
   arranged_first rest laid laid' ws w q q' c c' lays x =
@@ -151,7 +151,7 @@ module _ (rows start past : ℕ) (base : List Instr) where
         committed_is = t.committed_is;
       }
 
-  -- a fixed one is written if none waits
+  -- a fixed instruction is written if none waits
   pub arranged_fixed : (i : Instr) (rest laid laid' : List Instr) (q q' c c' : ℕ) → is_fixed i ≡ true →
       Lays i laid laid' q q' c c' → Arranges rows start past base (i ∷ rest) laid [] q c →
       IsArranged rows start past base rest laid' [] q' c'
@@ -180,7 +180,7 @@ module _ (rows start past : ℕ) (base : List Instr) where
         settled = subst (IsSettled start) (sym lays.laid_is) (settled_by start laid i (fixed_trails i h));
       }
 
-  -- a leading one is written if nothing holds it back
+  -- a leading instruction is written if nothing holds it back
   pub arranged_leading : (i : Instr) (rest laid laid' ws : List Instr) (q q' c c' : ℕ) → is_leading i ≡ true →
       holds_back (q - c) ws i ≡ false → Lays i laid laid' q q' c c' → Leading i rows start past base rest laid ws q c →
       IsArranged rows start past base rest laid' ws q' c'
@@ -212,7 +212,7 @@ module _ (rows start past : ℕ) (base : List Instr) where
         settled = subst (IsSettled start) (sym lays.laid_is) (settled_by start laid i (leading_trails i l));
       }
 
-  -- the first that waits is written before a leading one that is held back
+  -- the first waiting instruction is written before a leading one that it or another holds back
   pub leading_on : (i : Instr) (rest laid laid' ws : List Instr) (w : Instr) (q q' c c' : ℕ) →
       Lays w laid laid' q q' c c' → holds_back (q - c) (w ∷ ws) i ≡ true →
       Leading i rows start past base rest laid (w ∷ ws) q c → Leading i rows start past base rest laid' ws q' c'
@@ -237,7 +237,7 @@ module _ (rows start past : ℕ) (base : List Instr) where
             ∙ ap (λ z. may_exchange (queue_after rows (drop start z)) l i) ends.0 ∙ may);
       }
 
--- the first of those that wait is written, by what the call says about it
+-- the first waiting instruction is written, as the call's clause says
 pub first_laid : (rows start past : ℕ) (base rest laid laid' ws ws' : List Instr) (q q' c c' : ℕ) →
     LaysFirst laid laid' ws ws' q q' c c' → Arranges rows start past base rest laid ws q c →
     Arranges rows start past base rest laid' ws' q' c'
@@ -253,7 +253,7 @@ first_led i rows start past base rest laid laid' ws ws' q q' c c' f held a =
     (subst (λ z. holds_back (q - c) z i ≡ true) f.waited held)
     (subst (λ z. Leading i rows start past base rest laid z q c) f.waited a)
 
--- an instruction is given its place
+-- an instruction gets its place
 
 pub led : (i : Instr) (laid ws laid1 ws1 laid2 ws2 : List Instr) (q c q1 c1 q2 c2 : ℕ) → is_leading i ≡ true →
     holds_back (q1 - c1) ws1 i ≡ false
@@ -279,7 +279,7 @@ trailing_waits i laid ws ws' q c l f same = λ rows start past base rest h a.
     subst (λ z. IsArranged rows start past base rest laid z q c) (sym same)
     (arranged_trailing rows start past base i rest laid ws q c l f a)
 
--- what two clauses of a call say together
+-- what follows from two clauses of a call
 pub on_both : {A E P Q S : Type 0} (r : Result A E) → (P → Q → S) → OnOk r P → OnOk r Q → OnOk r S
 on_both (Ok x) f p q = f p q
 on_both (Err e) f p q = tt

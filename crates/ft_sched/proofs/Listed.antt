@@ -1,4 +1,4 @@
--- Lists of instructions that are put together.
+-- Concatenated lists of instructions.
 use Rattle.std.proofs.Common.{◌≡◌, ℕ, zero, suc, ◌+◌, ◌-◌, ◌<◌, ◌≤◌, Bool, true, cond, List, [], ◌∷◌, ◌++◌, length}
 use Rattle.std.proofs.Common.{take, drop, Some, slice_get, refl, sym, ap, ◌∙◌, subst, arith}
 use Rattle.std.specs.List.{slice_range, count_by, list_all}
@@ -24,7 +24,7 @@ pub get_seam : (xs : List Instr) (y : Instr) (ys : List Instr) → slice_get (xs
 get_seam [] y ys = refl
 get_seam (x ∷ xs) y ys = get_seam xs y ys
 
--- a test that all pass is passed by one of them
+-- a test that all elements pass is passed by each of them
 pub all_at : (test : Instr → Bool) (xs : List Instr) (k : ℕ) (x : Instr) → list_all test xs ≡ true → slice_get xs k
     ≡ Some x → test x ≡ true
 all_at test [] k x h e = cc
@@ -32,7 +32,7 @@ all_at test (y ∷ xs) zero x h e = (let same : y ≡ x = cc in
     subst (λ (z : Instr). test z ≡ true) same (and_parts (test y) (list_all test xs) h).0)
 all_at test (y ∷ xs) (suc k) x h e = all_at test xs k x (and_parts (test y) (list_all test xs) h).1 e
 
--- the last of a list
+-- the last element of a list
 pub last_apart : (xs : List Instr) (k : ℕ) (x : Instr) → slice_get xs k ≡ Some x → suc k ≡ length xs → xs ≡ take k xs
     ++ x ∷ []
 last_apart [] k x e l = cc
@@ -40,7 +40,7 @@ last_apart (y ∷ []) zero x e l = (let same : y ≡ x = cc in ap (λ z. z ∷ [
 last_apart (y ∷ z ∷ xs) zero x e l = absurd (omega arith)
 last_apart (y ∷ xs) (suc k) x e l = ap (λ z. y ∷ z) (last_apart xs k x e (omega arith))
 
--- one list with two last elements
+-- the last element of a list, and the rest before it, are unique
 pub same_front : (xs ys : List Instr) (x y : Instr) → xs ++ x ∷ [] ≡ ys ++ y ∷ [] → (xs ≡ ys) × (x ≡ y)
 same_front xs ys x y e =
     let lengths : length (xs ++ x ∷ []) ≡ length (ys ++ y ∷ []) = ap length e in
@@ -68,7 +68,7 @@ take_whole (suc n) (x ∷ xs) h = ap (λ z. x ∷ z) (take_whole n xs (omega ari
 pub length_drop : (n : ℕ) (xs : List Instr) → length (drop n xs) ≡ length xs - n
 length_drop n xs = length-drop n xs
 
--- a part that ends in the front
+-- a part that ends within the front
 pub range_front : (xs ys : List Instr) (a e : ℕ) → a ≤ e → e ≤ length xs → slice_range (xs ++ ys) a e
     ≡ slice_range xs a e
 range_front xs ys a e l h =
@@ -84,7 +84,7 @@ pub rest_of_front : (xs : List Instr) (a e : ℕ) → a ≤ e → slice_range xs
 rest_of_front xs a e l = sym ((let q : e ≡ a + (e - a) = omega arith in ap (λ n. drop a (take n xs)) q)
     ∙ drop-take a (e - a) xs)
 
--- the exchange at a seam
+-- the exchange where two lists meet
 pub exchanged_seam : (xs : List Instr) (a b : Instr) (ys : List Instr) → exchanged (xs ++ a ∷ b ∷ ys) (length xs) ≡ xs
     ++ b ∷ a ∷ ys
 exchanged_seam [] a b ys = refl
@@ -92,7 +92,7 @@ exchanged_seam (x ∷ xs) a b ys = ap (λ z. x ∷ z) (exchanged_seam xs a b ys)
 
 -- COUNTS
 
--- one more in the part from a place
+-- one more element in the part from a place on
 pub count_more : (test : Instr → Bool) (xs : List Instr) (a : ℕ) (x : Instr) → a ≤ length xs →
     count_by test (drop a (xs ++ x ∷ [])) ≡ count_by test (drop a xs) + cond (test x) 1 0
 count_more test xs a x l =

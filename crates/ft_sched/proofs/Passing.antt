@@ -1,4 +1,4 @@
--- A leading instruction passes those that wait, and stops behind the last one that holds it back.
+-- A leading instruction passes the waiting ones, and stops behind the last one that holds it back.
 use Rattle.std.proofs.Common.{◌≡◌, ⊎_elim, ℕ, suc, ◌+◌, ◌-◌, ◌<◌, ◌≤◌, Bool, true, false, cond, not, ◌&&◌, ◌||◌, nat_lt}
 use Rattle.std.proofs.Common.{List, [], ◌∷◌, ◌++◌, length, take, drop, Some, slice_get, refl, sym, ap, ◌∙◌, subst}
 use Rattle.std.proofs.Common.{arith, append_assoc}
@@ -20,7 +20,7 @@ use Rattle.ft_sched.proofs.Listed.{rest_of_front, exchanged_seam, count_more}
 
 -- KINDS
 
--- a trailing one is not a green store
+-- a trailing instruction is not a green store
 pub trailing_store : (i : Instr) → is_trailing i ≡ true → is_green_store i ≡ false
 trailing_store (St Green rd rs) h = cc
 trailing_store i h = refl
@@ -40,7 +40,7 @@ room_of true true c h e f = h
 room_of true false c h e f = cc
 room_of false b c h e f = cc
 
--- THOSE THAT ARE PASSED
+-- PASSING
 
 -- each of these may be exchanged with an instruction, from the last to the first
 abbrev pub Passes : ℕ → ℕ → List Instr → Instr → Type 0
@@ -84,7 +84,7 @@ passes_all q c ws i t l h =
     let hs = or_parts (list_any (conflicts i) ws) _ h in
     passes_by q c ws i t l hs.0 (full_by (is_green_store i) (nat_lt (q - c) 8) (list_any is_blue_store ws) hs.1)
 
--- the instruction that it doesn't pass
+-- the instruction may not pass the last written one
 unfoldable pub Stuck : ℕ → ℕ → List Instr → Instr → Type 0
 Stuck rows start laid i = (front : List Instr) (l : Instr) → laid ≡ front ++ l ∷ [] → start ≤ length front →
     may_exchange (queue_after rows (drop start front)) l i ≡ true → ⊥
@@ -108,7 +108,7 @@ conflict_free true true h k = refl
 conflict_free true false h k = cc
 conflict_free false b h k = cc
 
--- if one that waits is the last that holds it back, it may not be passed
+-- the last waiting instruction that holds it back may not be passed
 pub stuck_behind : (q c : ℕ) (w : Instr) (ws : List Instr) (i : Instr) → holds_back (q - c) (w ∷ ws) i ≡ true →
     holds_back (q - (c + cond (is_blue_store w) 1 0)) ws i ≡ false → may_exchange (q - c) w i ≡ true → ⊥
 stuck_behind q c w ws i h k may =
@@ -162,7 +162,7 @@ reach_passed rows start past base front (w ∷ ws) i rest q c l h eq ec p r =
 
 -- NONE LEFT
 
--- two lists with one front
+-- two lists with the same front
 permitted_in : (rows start e e' : ℕ) (front xs ys : List Instr) (k : ℕ) → suc k < length front → suc k < e' →
     IsPermittedAt rows start e (front ++ xs) k → IsPermittedAt rows start e' (front ++ ys) k
 permitted_in rows start e e' front xs ys k l h p =
@@ -180,7 +180,7 @@ permitted_in rows start e e' front xs ys k l h p =
           p.may;
     }
 
--- behind one that doesn't lead
+-- up to an instruction that doesn't lead
 pub none_behind : (rows start : ℕ) (front : List Instr) (i : Instr) (rest : List Instr) → is_leading i ≡ false →
     HasNone rows start (length front) (front ++ i ∷ rest) → HasNone rows start (length front + 1) (front ++ i ∷ rest)
 none_behind rows start front i rest n h k p =
@@ -198,7 +198,7 @@ none_behind rows start front i rest n h k p =
     absurd (cc))
     (cases_lt (suc k) (length front))
 
--- behind one that leads, and those that it passed
+-- up to an instruction that leads, and those that it passed
 pub none_passed : (rows start : ℕ) (front ws : List Instr) (i : Instr) (rest : List Instr) → list_all is_trailing ws
     ≡ true → is_leading i ≡ true → Stuck rows start front i →
     HasNone rows start (length front + length ws) (front ++ (ws ++ i ∷ rest)) →

@@ -1,4 +1,4 @@
--- Lists that come from others by permitted exchanges between two places.
+-- Lists that come from others by permitted exchanges within a part.
 use Rattle.std.proofs.Common.{◌≡◌, ℕ, List, length, refl, ◌∙◌, arith}
 use Rattle.ft_isa.specs.declared.instr.Instr.{Instr}
 use Rattle.ft_exchange.proofs.Lists.{length-exchanged}

@@ -1,4 +1,4 @@
--- Blocks that are scheduled one after the other.
+-- Blocks that are scheduled one after another.
 use Rattle.std.proofs.Common.{◌≡◌, ℕ, suc, ◌+◌, ◌<◌, ◌≤◌, List, [], ◌∷◌, ◌++◌, length, drop, Some, Ok, Err, slice_get}
 use Rattle.std.proofs.Common.{refl, sym, ap, ◌∙◌, subst, arith, append-nil}
 use Rattle.std.specs.Prelude.{IfOk, Result}
@@ -142,7 +142,7 @@ module _ (o : Object) (spelled : IsSpellable o) (b start past rows : ℕ) (f : O
             reached none h.none_left;
       }
 
-  -- the block begins, by what the call says of it
+  -- the block begins, as the call's clauses say
   pub block_begun : (laid' ws : List Instr) (q c i : ℕ) → laid' ≡ laid → ws ≡ [] → q ≡ rows → c ≡ 0 → i ≡ start →
       IsArranged rows start past (laid_before o b laid) (drop i o.instrs) laid' ws q c
   block_begun laid' ws q c i el ew eq ec ei =

@@ -52,7 +52,7 @@ comes_on o s _ h itself = h
 comes_on o s _ h (exchange {s = t} b k g p) = exchange b k (comes_on o s t h g) p
 
 module _ (o : Object) (spelled : IsSpellable o) where
-  -- blocks end where they do, with as many instructions
+  -- blocks end at the same places if the number of instructions is the same
   end_is : (xs : List Instr) (b : ℕ) → length xs ≡ length o.instrs → block_end (with_instrs o xs) b ≡ block_end o b
   end_is xs b l = ap (unwrap_or (option_map start_of (slice_get o.blocks (suc b)))) l
 
@@ -121,7 +121,7 @@ module _ (o : Object) (spelled : IsSpellable o) where
       subst (λ z. ComesFrom (with_instrs o xs) (with_instrs o (exchanged js z))) q
       (exchange b (n - a) (comes_of b xs l h js g) (permitted_of js b n m h p))
 
-  -- an earlier block stays
+  -- an earlier block is unchanged
   range_reached : (rows start past a e : ℕ) (xs ys : List Instr) → a ≤ start → e ≤ start →
       Reaches rows start past xs ys → slice_range ys a e ≡ slice_range xs a e
   range_reached rows start past a e xs _ h l stays = refl
@@ -154,7 +154,7 @@ module _ (o : Object) (spelled : IsSpellable o) where
             p.first p.second ≡ true) same p.may;
       }
 
-  -- none is left up to one more block
+  -- no permitted exchange is left in one more block
   pub none_on : (xs ys : List Instr) (b : ℕ) (x : Block) → length xs ≡ length o.instrs → slice_get o.blocks b ≡ Some x →
       Reaches (length (queue_rows o (block_type o b))) (block_start o b) (block_end o b) xs ys →
       HasNone (length (queue_rows o (block_type o b))) (block_start o b) (block_end o b) ys →
@@ -172,7 +172,7 @@ module _ (o : Object) (spelled : IsSpellable o) where
       none (block_start o b + k) (permitted_at ys b k m p'))
       (cases_lt j b)
 
-  -- the end of a block, and its rows, are few
+  -- a block ends within the code
   pub end_few : (b : ℕ) (x : Block) → slice_get o.blocks b ≡ Some x → block_end o b ≤ length o.instrs
   end_few b x there = elim (slice_get_cases o.blocks (suc b)).1 [
     | inl y ↦ (let s : block_end o b ≡ y.0.start = ap (λ u. unwrap_or (option_map start_of u) (length o.instrs)) y.2 in
@@ -181,7 +181,7 @@ module _ (o : Object) (spelled : IsSpellable o) where
         n.1 in omega arith)
   ]
 
-  -- a block begins before it ends
+  -- a block doesn't end before it begins
   pub start_within : (b : ℕ) (x : Block) → slice_get o.blocks b ≡ Some x → x.start ≤ block_end o b
   start_within b x there = elim (slice_get_cases o.blocks (suc b)).1 [
     | inl y ↦ (let s : block_end o b ≡ y.0.start = ap (λ u. unwrap_or (option_map start_of u) (length o.instrs)) y.2 in
@@ -202,7 +202,7 @@ module _ (o : Object) (spelled : IsSpellable o) where
   pub type_is : (b : ℕ) (x : Block) → slice_get o.blocks b ≡ Some x → block_type o b ≡ x.code_type
   type_is b x e = ap (λ u. unwrap_or (option_map code_type_of u) 0) e
 
--- the number of queue rows that a code type's head gives
+-- a code type's head gives the number of its queue rows
 rows_of_head : (u : Option CodeType) (h : TypeHead) → option_map type_head_of u ≡ Some h → h.queue
     ≡ length (unwrap_or (option_map queue_of u) [])
 rows_of_head None h e = cc

@@ -1,13 +1,14 @@
--- The instructions of a block in the order so far: private to the code.
+-- How far the instructions of a block are arranged: private to the code.
 use Rattle.std.specs.Prelude.{◌≡◌, ℕ, ◌+◌, ◌<◌, ◌≤◌, true, false, cond, List, [], ◌∷◌, ◌++◌, length, drop}
 use Rattle.std.specs.List.{list_all, count_by}
 use Rattle.ft_isa.specs.declared.instr.Instr.{Instr}
 use Rattle.ft_exchange.specs.Exchange.{is_trailing, is_green_store, is_blue_store}
 use Rattle.ft_sched.specs.Inside.{Reaches, HasNone}
 
--- the block goes from one place up to another, its code type has `rows` queue rows, and the code was the base when it
--- began. What is written, what waits and the rest come from the base by permitted exchanges, and no permitted exchange
--- is left in the first two; this many pairs were queued and committed by what is written
+-- the block extends from `start` up to `past`, its code type has `rows` queue rows, and `base` was the code when the
+-- block began. What is written, what waits and the rest come from the base by permitted exchanges, and no permitted
+-- exchange is left in the first two. All that waits is trailing. `queued` counts the queue rows and the block's written
+-- green stores, and `committed` its written blue stores
 pub record Arranges (rows start past : ℕ) (base rest laid waiting : List Instr) (queued committed : ℕ) : Type 0 where
   pub begins : start ≤ length laid
   pub reached : Reaches rows start past base ((laid ++ waiting) ++ rest)
@@ -16,7 +17,7 @@ pub record Arranges (rows start past : ℕ) (base rest laid waiting : List Instr
   pub queued_is : queued ≡ rows + count_by is_green_store (drop start laid)
   pub committed_is : committed ≡ count_by is_blue_store (drop start laid)
 
--- the last instruction of the block that is written isn't trailing
+-- the last written instruction of the block, if any, isn't trailing
 abbrev pub IsSettled : ℕ → List Instr → Type 0
 IsSettled start laid = (front : List Instr) (i : Instr) → laid ≡ front ++ i ∷ [] → start ≤ length front → is_trailing i ≡ false
 
@@ -31,7 +32,7 @@ pub record Lays (i : Instr) (laid laid' : List Instr) (queued queued' committed 
   pub queued_is : queued' ≡ queued + cond (is_green_store i) 1 0
   pub committed_is : committed' ≡ committed + cond (is_blue_store i) 1 0
 
--- the first of those that wait is written
+-- the first waiting instruction is written
 pub record LaysFirst (laid laid' waiting waiting' : List Instr) (queued queued' committed committed' : ℕ) : Type 0 where
   pub first : Instr
   pub waited : waiting ≡ first ∷ waiting'

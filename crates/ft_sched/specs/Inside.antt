@@ -1,11 +1,11 @@
--- Exchanges between two places of one list: private to the code.
+-- Exchanges within a part of a list: private to the code.
 use Rattle.std.specs.Prelude.{◌≡◌, ℕ, suc, ◌<◌, ◌≤◌, true, List, Some, slice_get}
 use Rattle.std.specs.List.{slice_range}
 use Rattle.ft_isa.specs.declared.instr.Instr.{Instr}
 use Rattle.ft_exchange.specs.Exchange.{queue_after, may_exchange, exchanged}
 
--- the exchange of the instructions at places k and k + 1 of a list is permitted, if a block goes from one place up to
--- another and its code type has this many queue rows
+-- the exchange of the instructions at places k and k + 1 of a list is permitted, in a block from `start` up to `past`
+-- whose code type has `rows` queue rows
 pub record IsPermittedAt (rows start past : ℕ) (is : List Instr) (k : ℕ) : Type 0 where
   pub first : Instr
   pub second : Instr

@@ -11,12 +11,12 @@ use Rattle.ft_exchange.specs.Scheduled.{ComesFrom}
 abbrev pub boundary : Object → ℕ → ℕ
 boundary o b = unwrap_or (option_map start_of (slice_get o.blocks b)) (length o.instrs)
 
--- the code that is written, followed by the object's own
+-- the written code, followed by the rest of the object's own
 abbrev pub laid_before : Object → ℕ → List Instr → List Instr
 laid_before o b laid = laid ++ drop (boundary o b) o.instrs
 
--- the blocks below b are written: followed by the object's own code they come from the object by permitted exchanges,
--- and no permitted exchange is left in them
+-- the blocks below b are written: followed by the rest of the object's own code, they come from the object by permitted
+-- exchanges, and no permitted exchange is left in them
 pub record IsUpTo (o : Object) (b : ℕ) (laid : List Instr) : Type 0 where
   pub laid_to : length laid ≡ boundary o b
   pub comes : ComesFrom o (with_instrs o (laid_before o b laid))

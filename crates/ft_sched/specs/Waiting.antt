@@ -6,8 +6,8 @@ use Rattle.ft_exchange.specs.Exchange.{written, leaves_alone, is_green_store, is
 use Rattle.ft_sched.specs.Registers.{writes, meets}
 use Rattle.ft_sched.specs.LastPlaces.{last_place}
 
--- what is kept of a list whose waiting part begins at `front`: the last places of the instructions that write each
--- register, of those that read or write it, and of the blue stores
+-- what is recorded of a list whose waiting part begins at `front`: for each register, the last place of an instruction
+-- that writes it, and of one that reads or writes it; and the last place of a blue store
 pub record IsKept (is : List Instr) (front : ℕ) (written_at touched_at : List ℕ) (blue_at : ℕ) : Type 0 where
   pub front_within : front ≤ length is
   pub writers : length written_at ≡ 64
@@ -20,7 +20,7 @@ pub record IsKept (is : List Instr) (front : ℕ) (written_at touched_at : List 
 abbrev pub conflicts : Instr → Instr → Bool
 conflicts i w = not (leaves_alone i (written w) && leaves_alone w (written i))
 
--- whether one of those that wait holds an instruction back, if the static queue has n pairs before them: there is a
--- conflict; or a green store finds the queue full, and a blue store waits
+-- whether a waiting instruction holds another one back, if the static queue has n pairs before them: the two conflict;
+-- or the other is a green store, the queue is full, and a blue store waits
 abbrev pub holds_back : ℕ → List Instr → Instr → Bool
 holds_back n waiting i = list_any (conflicts i) waiting || (is_green_store i && not (nat_lt n 8) && list_any is_blue_store waiting)

@@ -8,7 +8,7 @@ use crate::order::Order;
 use ft_types::{Program, end_of};
 use std::alloc::AllocError;
 
-/// Writes the instructions of block `b`, ordered so that no exchange is permitted in it.
+/// Writes the instructions of block `b`, ordered so that no permitted exchange is left in it.
 pub fn schedule_block<P: Program>(program: &P, order: &mut Order, b: u32) -> Result<(), AllocError>
     requires spellable { IsSpellable (P.object program.now) }
     requires there { b < length (P.object program.now).blocks }

@@ -6,7 +6,7 @@ ghost use Rattle.ft_sched.specs.LastPlaces.{place_of, marked, unmet};
 use ft_isa::Reg;
 use std::marker::Model;
 
-/// A place for each of the 64 registers: the last one at which it was met, counted from 1, or 0.
+/// For each of the 64 registers, the last place at which it was seen, counted from 1, or 0 if there is none.
 #[derive(Drop)]
 pub struct LastPlaces {
     places: [usize; 64],
@@ -21,14 +21,14 @@ impl Model for LastPlaces {
 }
 
 impl LastPlaces {
-    /// No register was seen.
+    /// No register has been seen.
     pub fn new() -> LastPlaces
         ensures { result ≡ unmet }
     {
         LastPlaces { places: [0; 64] }
     }
 
-    /// The last place of a register, if one is given; 0 otherwise.
+    /// The last place of a register; 0 if none is given.
     pub fn at(&self, register: Option<Reg>) -> usize
         ensures { result ≡ place_of self.now (number_of register) }
     {
@@ -38,7 +38,7 @@ impl LastPlaces {
         }
     }
 
-    /// A register was seen at a place, if one is given.
+    /// Records that a register, if one is given, was seen at a place.
     pub fn mark(&mut self, register: Option<Reg>, place: usize)
         ensures { self.new ≡ marked self.old (number_of register) place }
     {

@@ -1,9 +1,9 @@
-//! The order in which a schedule has its instructions, made from left to right.
+//! The order of a schedule's instructions, made from left to right.
 //!
-//! Leading instructions keep their order, and so do trailing ones. So a trailing instruction waits until
-//! it is known that no leading one passes it. A leading instruction stops at the last one that it may not
-//! pass: what waits up to there is written, and then the leading instruction itself. Each instruction waits at most
-//! once, so the work grows with their number.
+//! Leading instructions keep their order, and so do trailing ones. So a trailing instruction waits until it is known
+//! that no leading one passes it. A leading instruction stops behind the last one that it may not pass: everything that
+//! waits up to that one is written, and then the leading instruction itself. Each instruction waits at most once, so
+//! the work is proportional to their number.
 ghost use Rattle.std.specs.Prelude.{◌≡◌, ◌+◌, ◌-◌, ◌<◌, ◌≤◌, ◌^◌, [], true, not, nat_lt, length, cond, OnOk};
 ghost use Rattle.ft_exchange.specs.Exchange.{is_leading, is_fixed};
 ghost use Rattle.ft_sched.specs.Waiting.{holds_back};
@@ -13,8 +13,8 @@ use crate::waiting::Waiting;
 use ft_isa::Instr;
 use std::alloc::{AllocError, Global};
 
-/// The instructions that have their final place, and those that wait after them. In the block that is being scheduled,
-/// `queued` counts the pairs that waited at its start and its green stores, and `committed` its blue stores.
+/// The instructions that have their final place, and those that wait after them. In the block being scheduled, `queued`
+/// counts the pairs in the queue at its start and its green stores, and `committed` its blue stores.
 #[derive(Drop)]
 pub struct Order {
     laid: Vec<Instr>,
@@ -54,7 +54,7 @@ impl Order {
         self.laid
     }
 
-    /// A block begins with this many pairs in the queue.
+    /// Begins a block with this many pairs in the queue.
     pub fn begin_block(&mut self, rows: u32)
         requires { rows ≤ 8 }
         ensures laid { self.new.laid.items ≡ self.old.laid.items }
@@ -79,7 +79,7 @@ impl Order {
         Ok(())
     }
 
-    /// Writes the oldest instruction that waits.
+    /// Writes the oldest waiting instruction.
     fn lay_first(&mut self) -> Result<(), AllocError>
         requires { 0 < length self.old.waiting }
         ensures { OnOk result (LaysFirst self.old.laid.items self.new.laid.items self.old.waiting self.new.waiting self.old.queued self.new.queued self.old.committed self.new.committed) }
@@ -88,14 +88,14 @@ impl Order {
         self.lay(first)
     }
 
-    /// Whether the static queue is full after what is written.
+    /// Whether the static queue is full after the written instructions.
     fn is_full(&self) -> bool
         ensures { result ≡ not (nat_lt (self.now.queued - self.now.committed) 8) }
     {
         self.queued.saturating_sub(self.committed) >= 8
     }
 
-    /// Whether an instruction has to wait for one that waits.
+    /// Whether an instruction must stay behind a waiting one.
     fn holds_back(&self, instr: &Instr) -> bool
         ensures { result ≡ holds_back (self.now.queued - self.now.committed) self.now.waiting instr.now }
     {
@@ -105,7 +105,7 @@ impl Order {
         instr.is_green_store() && self.is_full() && self.waiting.has_blue_store()
     }
 
-    /// Writes a leading instruction, after the last one that it may not pass.
+    /// Writes a leading instruction, behind the last waiting one that it may not pass.
     fn lead(&mut self, instr: Instr) -> Result<(), AllocError>
         requires { is_leading instr ≡ true }
         ensures { OnOk result (GetsPlace instr self.old.laid.items self.old.waiting self.old.queued self.old.committed self.new.laid.items self.new.waiting self.new.queued self.new.committed) }
@@ -116,7 +116,7 @@ impl Order {
         self.lay(instr)
     }
 
-    /// Writes all instructions that wait.
+    /// Writes all waiting instructions.
     pub fn lay_all(&mut self) -> Result<(), AllocError>
         ensures waiting { OnOk result (self.new.waiting ≡ []) }
         ensures lays { OnOk result (LaysAll self.old.laid.items self.old.waiting self.old.queued self.old.committed self.new.laid.items self.new.queued self.new.committed) }
@@ -127,7 +127,7 @@ impl Order {
         Ok(())
     }
 
-    /// Writes a fixed instruction, after all that wait.
+    /// Writes a fixed instruction, after all waiting ones.
     fn fix(&mut self, instr: Instr) -> Result<(), AllocError>
         requires { is_fixed instr ≡ true }
         ensures { OnOk result (GetsPlace instr self.old.laid.items self.old.waiting self.old.queued self.old.committed self.new.laid.items self.new.waiting self.new.queued self.new.committed) }
@@ -136,7 +136,7 @@ impl Order {
         self.lay(instr)
     }
 
-    /// Gives the next instruction of the block its place.
+    /// Places the next instruction of the block: writes it or lets it wait.
     pub fn place(&mut self, instr: Instr) -> Result<(), AllocError>
         ensures { OnOk result (GetsPlace instr self.old.laid.items self.old.waiting self.old.queued self.old.committed self.new.laid.items self.new.waiting self.new.queued self.new.committed) }
     {

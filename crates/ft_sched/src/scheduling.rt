@@ -26,16 +26,16 @@ fn schedule_program<P: Program>(alloc: Global, program: &P) -> Result<Object, No
     copy_with_instrs(alloc, program, Table::from_vec(order.into_laid()))
 }
 
-/// The schedule of a checked program: leading instructions, those of the green computation, moved ahead of independent
-/// trailing ones, by permitted exchanges of neighbours until none is left.
+/// The schedule of a checked program: leading instructions, those of the green computation, are moved ahead of
+/// independent trailing ones, by permitted exchanges of neighbours until none is left.
 ///
-/// No order of exchanges leads to another schedule. The schedule is spellable and accepted, so a run of it tolerates
-/// one fault. Without a fault its run has the status of the program's run after the same number of steps, and its
-/// outputs are a prefix of the program's outputs, are equal to them at the end, and come at most 131,072 steps later.
-/// The only error is `NoMemory`.
+/// Every order of exchanges leads to the same schedule. The schedule is spellable and accepted, so its run tolerates
+/// one fault. Without a fault, its run has the same status as the program's run after each number of steps; its outputs
+/// are a prefix of the program's outputs, are equal to them at the end, and come at most 131,072 steps later. The only
+/// error is `NoMemory`.
 ///
-/// That the green computation leads and the blue one repeats it is the idea of Perry, Mackey, Reis, Ligatti, August and
-/// Walker, "Fault-tolerant Typed Assembly Language", PLDI 2007.
+/// The idea that the green computation leads and the blue one repeats it is that of Perry, Mackey, Reis, Ligatti,
+/// August and Walker, "Fault-tolerant Typed Assembly Language", PLDI 2007.
 pub fn schedule<'a, P: Program>(alloc: Global, checked: &Checked<'a, P>) -> Result<Object, NoMemory>
     ensures scheduled { IfOk result (λ s. IsScheduled (P.object checked.now) s) }
     ensures one { IfOk result (λ s. (t : Object) → IsScheduled (P.object checked.now) t → t ≡ s) }

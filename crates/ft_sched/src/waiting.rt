@@ -10,8 +10,8 @@ use ft_isa::{Instr, Reg};
 use std::alloc::{AllocError, Global};
 use std::marker::Model;
 
-/// Instructions that wait after what is written, the oldest first. Those that no longer wait stay in the list, before
-/// the front, so that a place never changes. An instruction waits if its place, counted from 1, is above the front.
+/// The instructions that wait after the written ones, oldest first. Those that no longer wait stay in the list, before
+/// the front, so that places never change. An instruction waits if its place, counted from 1, is above the front.
 #[derive(Drop)]
 pub struct Waiting {
     instrs: Vec<Instr>,
@@ -37,7 +37,7 @@ impl Model for Waiting {
     ghost invariant = { λ w. IsKept w.instrs.items w.front w.written w.touched w.blue_store };
 }
 
-/// Whether one of three tests is passed.
+/// Whether any of three tests passes.
 fn any_of(first: bool, second: bool, third: bool) -> bool
     ensures { result ≡ ((first || second) || third) }
 {
@@ -65,7 +65,7 @@ impl Waiting {
         self.front == self.instrs.len()
     }
 
-    /// One more instruction waits.
+    /// Adds a waiting instruction.
     pub fn push(&mut self, instr: Instr) -> Result<(), AllocError>
         ensures { OnOk result (self.new ≡ self.old ++ instr ∷ []) }
     {
@@ -85,7 +85,7 @@ impl Waiting {
         Ok(())
     }
 
-    /// Removes the oldest instruction, which no longer waits.
+    /// Removes the oldest waiting instruction.
     pub fn take(&mut self) -> Instr
         requires { 0 < length self.old }
         ensures { self.old ≡ result ∷ self.new }
@@ -95,14 +95,14 @@ impl Waiting {
         instr
     }
 
-    /// Whether an instruction that waits writes this register, if one is given.
+    /// Whether a waiting instruction writes this register, if one is given.
     fn is_written(&self, register: Option<Reg>) -> bool
         ensures { result ≡ list_any (writes (number_of register)) self.now }
     {
         self.front < self.written.at(register)
     }
 
-    /// Whether an instruction that waits reads or writes this register, if one is given.
+    /// Whether a waiting instruction reads or writes this register, if one is given.
     fn is_touched(&self, register: Option<Reg>) -> bool
         ensures { result ≡ list_any (meets (number_of register)) self.now }
     {
@@ -116,8 +116,8 @@ impl Waiting {
         self.front < self.blue_store
     }
 
-    /// Whether an instruction that waits writes a register that this one reads or writes, or reads one that
-    /// this one writes.
+    /// Whether a waiting instruction writes a register that this one reads or writes, or reads one that this one
+    /// writes.
     pub fn has_conflict(&self, instr: &Instr) -> bool
         ensures { result ≡ list_any (conflicts instr.now) self.now }
     {

@@ -1,10 +1,10 @@
--- The names of statements in a row exist if those of each do.
+-- Statements in sequence fit if each part does.
 use Rattle.std.proofs.Common.{ℕ}
 use Rattle.ft_syntax.specs.Plain.{StatementList, none, assign, assign_at, loop, choose, follow}
 use Rattle.ft_scope.specs.declared.slot.Slot.{Slot}
 use Rattle.ft_scope.specs.Size.{StatementsFit}
 
--- statements in a row fit if the first ones and the others do
+-- statements followed by others fit if both do
 pub fits_follow : (c v : ℕ) (a b : StatementList Slot) → StatementsFit c v a → StatementsFit c v b →
     StatementsFit c v (follow a b)
 fits_follow c v none b h g = g

@@ -14,13 +14,13 @@ use Rattle.ft_syntax.specs.declared.source_error.SourceError.{SourceError}
 use Rattle.ft_syntax.specs.declared.source_error.SourceError.TheVariants.{Twice, NoMemory}
 use Rattle.ft_scope.specs.Held.{narrow, DeclareFails, TwiceFails}
 
--- the slot of a declaration before which c cells and v variables are declared
+-- the slot of a declaration that comes after c cells and v variables
 abbrev pub slot_at : ℕ → ℕ → Declared → Slot
 slot_at c v (cell n w) = Cell c
 slot_at c v (var n) = Var v
 slot_at c v (array n l at w) = Run c l
 
--- the first of two that is there
+-- the first of two slots that exists
 abbrev or_else : Option Slot → Option Slot → Option Slot
 or_else (Some s) o = Some s
 or_else None o = o
@@ -30,7 +30,7 @@ cond_or : (b : Bool) (s : Slot) (x y o : Option Slot) → x ≡ or_else y o → 
 cond_or true s x y o h = refl
 cond_or false s x y o h = h
 
--- a declaration of a name, or nothing
+-- the slot of a declaration, if it declares this name
 abbrev last : ℕ → ℕ → Declared → List ℕ → Option Slot
 last c v d text = cond (bytes_eq (declared_name d).text text) (Some (slot_at c v d)) None
 
@@ -65,12 +65,12 @@ found_push c v (var m ∷ ds) d text =
     (found_push c (v + 1) ds d text ∙ ap (λ k. or_else (found_after c (v + 1) ds text)
     (last (c + cell_count ds) k d text)) e)
 
--- a name that the table lacks is not declared
+-- a name that is missing from the table is not declared
 pub none_mapped : (o : Option Slot) → option_map narrow o ≡ None → o ≡ None
 none_mapped None h = refl
 none_mapped (Some s) h = cc
 
--- a name is there or not, whatever the table has of its number
+-- narrowing a slot's numbers does not change whether it is found
 pub some_mapped : (o : Option Slot) → is_some (option_map narrow o) ≡ is_some o
 some_mapped None = refl
 some_mapped (Some s) = refl
@@ -81,7 +81,7 @@ mapped_or true o s h = ap (λ x. option_map narrow (or_else x (Some s))) (sym (h
 mapped_or false None s h = refl
 mapped_or false (Some x) s h = refl
 
--- the table after one more name, which it did not have
+-- once a new name is added, the table agrees with the declarations again
 pub table_push : (ds : List Declared) (d : Declared) (s : Slot) (old new : List ℕ → Option Slot) →
     s ≡ narrow (slot_at (cell_count ds) (variable_count ds) d) →
     ((t : List ℕ) → old t ≡ option_map narrow (find ds t)) → old (declared_name d).text ≡ None →
@@ -106,7 +106,7 @@ table_push ds d s old new is held fresh noted t =
         ap (λ k. or_else (find ds t) (last k (0 + variable_count ds) d t)) e
         ∙ ap (λ k. or_else (find ds t) (last (cell_count ds) k d t)) f
 
--- one more declaration
+-- adding a declaration adds its cells and variables to the counts
 pub count_push : (ds : List Declared) (d : Declared) → cell_count (ds ++ d ∷ []) ≡ cell_count ds + cell_count (d ∷ [])
 count_push [] d = omega arith
 count_push (cell m u ∷ ds) d = omega (arith, count_push ds d)
@@ -120,7 +120,7 @@ variables_push (cell m u ∷ ds) d = variables_push ds d
 variables_push (var m ∷ ds) d = omega (arith, variables_push ds d)
 variables_push (array m l at u ∷ ds) d = variables_push ds d
 
--- no more variables than declarations
+-- there are at most as many variables as declarations
 pub counts_within : (ds : List Declared) → variable_count ds ≤ length ds
 counts_within [] = omega arith
 counts_within (cell n w ∷ ds) = omega (arith, counts_within ds)
@@ -135,7 +135,7 @@ fits_cond true p q c v x s o e h g = subst (AnyFits p q) (the_same e) h
     the_same e = cc
 fits_cond false p q c v x s o e h g = g e
 
--- a length that is not wrong
+-- if there is no wrong length, this one is right and none after it is wrong
 pub length_fine : (l at : ℕ) (o : Option ℕ) → cond (is_length l) o (Some at) ≡ None → (is_length l ≡ true) × (o ≡ None)
 length_fine l at o h = by (is_length l) refl h
   where
@@ -149,7 +149,7 @@ length_some l h = grind arith
 pub length_few : (l : ℕ) → is_length l ≡ true → l ≤ 1024
 length_few l h = grind arith
 
--- arrays of 1,024 cells at most
+-- if no length is wrong, there are at most 1,024 cells for each declaration
 pub count_within : (ds : List Declared) → wrong_length ds ≡ None → cell_count ds ≤ 1024 * length ds
 count_within [] h = omega arith
 count_within (cell n w ∷ ds) h = omega (arith, count_within ds h)
@@ -183,7 +183,7 @@ found_fits c v (array n l at w ∷ ds) text s ok h =
     (length_some l fine.0, length_few l fine.0, omega arith)
     (λ g. subst (λ k. AnyFits k (v + variable_count ds) s) e (found_fits (c + l) v ds text s fine.1 g))
 
--- a name that was not declared before
+-- if a declaration's name is new, the first repeated name is that of the later declarations
 pub repeated_step : (before : List Declared) (d : Declared) (ds : List Declared) → find before (declared_name d).text
     ≡ None → repeated before (d ∷ ds) ≡ repeated (before ++ d ∷ []) ds
 repeated_step before d ds h = ap (λ o. cond (is_some o) (Some (declared_name d).at) (repeated (before ++ d ∷ []) ds)) h
@@ -193,7 +193,7 @@ repeated_here : (before : List Declared) (d : Declared) (ds : List Declared) (at
 repeated_here before d ds at h e = ap (λ b. cond b (Some (declared_name d).at) (repeated (before ++ d ∷ []) ds)) h
     ∙ ap Some (sym e)
 
--- a declaration that fails is the first that was declared before
+-- a declaration that fails has the first repeated name
 pub twice_fails : (e : SourceError) (before : List Declared) (d : Declared) (ds : List Declared) (found : Option Slot) →
     found ≡ option_map narrow (find before (declared_name d).text) → DeclareFails e (declared_name d).at found →
     TwiceFails e (repeated before (d ∷ ds))

@@ -1,4 +1,4 @@
--- The names of a text's cells are lawful, and differ.
+-- The names of a text's cells are lawful and distinct.
 use Rattle.std.proofs.Common.{◌≡◌, ◌≢◌, ℕ, zero, suc, ◌+◌, ◌^◌, ◌<◌, ◌≤◌, Bool, true, false, cond, ◌||◌, ◌==◌, List, []}
 use Rattle.std.proofs.Common.{◌∷◌, ◌++◌, length, Option, Some, None, refl, sym, ap, ◌∙◌, subst, arith, get_or, decimal}
 use Rattle.std.proofs.Common.{length-append}
@@ -27,11 +27,11 @@ use Rattle.ft_scope.proofs.Found.{length_fine, length_few}
 
 -- LAWFUL NAMES
 
--- a byte of a declared name is allowed in a name of a cell
+-- a byte that a declared name may have is allowed in a cell's name
 cell_byte : (b : ℕ) → is_name_byte b ≡ true → is_cell_byte b ≡ true
 cell_byte b e = ap (λ x. x || (b == 91 || b == 93)) e
 
--- lists of such bytes are allowed in a name of a cell
+-- a list of such bytes is allowed in a cell's name
 cell_bytes : (bs : List ℕ) → list_all is_name_byte bs ≡ true → list_all is_cell_byte bs ≡ true
 cell_bytes [] e = refl
 cell_bytes (b ∷ bs) e =
@@ -50,21 +50,21 @@ digit_bytes (c ∷ cs) d =
     let range = digit_from_value c d.0 in
     and_from (is_name_byte c) (list_all is_name_byte cs) (digit_byte c range.0 range.1) (digit_bytes cs d.1)
 
--- the bytes of a word are bytes of names
+-- the bytes of a word are allowed in a name
 word_bytes : (t : List ℕ) → is_word t ≡ true → list_all is_name_byte t ≡ true
 word_bytes [] e = refl
 word_bytes (b ∷ bs) e =
     let p = and_parts (is_letter b) (list_all is_name_byte bs) e in
     and_from (is_name_byte b) (list_all is_name_byte bs) (ap (λ x. x || is_digit b) p.0) p.1
 
--- a word is the text of a cell's name
+-- a word is a valid text of a cell's name
 word_text : (t : List ℕ) → is_word t ≡ true → is_cell_text t ≡ true
 word_text [] e = e
 word_text (b ∷ bs) e =
     let p = and_parts (is_letter b) (list_all is_name_byte bs) e in
     and_from (is_letter b) (list_all is_cell_byte bs) p.0 (cell_bytes bs p.1)
 
--- the bytes of a name with a place
+-- the bytes of a name with a place are allowed in a cell's name
 place_bytes : (bs : List ℕ) (k : ℕ) → k < 2 ^ 64 → list_all is_name_byte bs ≡ true →
     list_all is_cell_byte (cell_name bs (Some k)) ≡ true
 place_bytes bs k small e =
@@ -77,7 +77,7 @@ place_bytes bs k small e =
     (cell_bytes (decimal k) (digit_bytes (decimal k) (decimal_is_IsNumeral k small).0.1)))
     refl
 
--- a word with a place is the text of a cell's name
+-- a word with a place is a valid text of a cell's name
 place_text : (t : List ℕ) (k : ℕ) → k < 2 ^ 64 → is_word t ≡ true → is_cell_text (cell_name t (Some k)) ≡ true
 place_text [] k small e = absurd (true≢false (sym e))
 place_text (b ∷ bs) k small e =
@@ -96,7 +96,7 @@ place_short t k small h =
       h,
     )
 
--- the names of an array's cells
+-- the names of an array's cells are lawful
 array_lawful : (t : List ℕ) (k l : ℕ) → k + l ≤ 1024 → IsNameText t → All IsCellName (array_names t k l)
 array_lawful t k zero few h = All-nil IsCellName
 array_lawful t k (suc l) few h =
@@ -104,7 +104,7 @@ array_lawful t k (suc l) few h =
     (record { bytes = place_text t k (omega arith) h.word; short = place_short t k (omega arith) h.short })
     (array_lawful t (k + 1) l (omega arith) h)
 
--- the names of the cells of fit declarations
+-- the cell names of fit declarations are lawful
 pub names_lawful : (ds : List Declared) → AllByRecursion IsFitDeclaration ds → wrong_length ds ≡ None →
     All IsCellName (cell_names ds)
 names_lawful [] h ok = All-nil IsCellName
@@ -134,14 +134,14 @@ no_bracket b e = by (b == 91) refl
     by true f = absurd (true≢false (sym e ∙ ap is_name_byte (eqb-true b 91 f)))
     by false f = refl
 
--- the declared name of a plain cell
+-- the declared name of a plain cell is its name
 base_plain : (t : List ℕ) → list_all is_name_byte t ≡ true → base t ≡ t
 base_plain [] e = refl
 base_plain (b ∷ bs) e =
     let p = and_parts (is_name_byte b) (list_all is_name_byte bs) e in
     ap (λ x. cond x [] (b ∷ base bs)) (no_bracket b p.0) ∙ ap (λ v. b ∷ v) (base_plain bs p.1)
 
--- the declared name of a cell of an array
+-- the declared name of a cell of an array is the array's
 base_place : (t : List ℕ) (k : ℕ) → list_all is_name_byte t ≡ true → base (cell_name t (Some k)) ≡ t
 base_place [] k e = refl
 base_place (b ∷ bs) k e =
@@ -155,31 +155,31 @@ array_based q t k zero e h = All-nil (λ x. q (base x))
 array_based q t k (suc l) e h = All-cons (λ x. q (base x)) (cell_name t (Some k)) (array_names t (k + 1) l)
     (subst q (sym (base_place t k e)) h) (array_based q t (k + 1) l e h)
 
--- NAMES THAT DIFFER
+-- DISTINCT NAMES
 
--- texts that differ by the test differ
+-- texts differ if the test says so
 not_equal : (x y : List ℕ) → bytes_eq x y ≡ false → x ≢ y
 not_equal x y e f = true≢false (sym ((bytes_eq-Decides x y).1 f) ∙ e)
 
--- names with unlike declared names differ
+-- names with different declared names differ
 apart : (x y t : List ℕ) → base x ≡ t → bytes_eq t (base y) ≡ false → x ≢ y
 apart x y t e f g = not_equal t (base y) f (sym e ∙ ap base g)
 
--- names with unlike places differ
+-- names with different places differ
 places_differ : (t : List ℕ) (k j : ℕ) → k < j → j < 2 ^ 64 → cell_name t (Some k) ≢ cell_name t (Some j)
 places_differ t k j less small e =
     let digits = append_cancel_left (t ++ codes "[") (decimal k) (decimal j) (append_cancel_right (t ++ codes "["
     ++ decimal k) (t ++ codes "[" ++ decimal j) (codes "]") e) in
     omega (arith, decimal_injective k j (omega arith) small digits)
 
--- the name of a cell of an array differs from those of later ones
+-- the name of a cell of an array differs from those of the array's later cells
 later_differ : (t : List ℕ) (k j l : ℕ) → k < j → j + l ≤ 1024 → All (λ y. cell_name t (Some k) ≢ y) (array_names t j l)
 later_differ t k j zero less few = All-nil (λ y. cell_name t (Some k) ≢ y)
 later_differ t k j (suc l) less few =
     All-cons (λ y. cell_name t (Some k) ≢ y) (cell_name t (Some j)) (array_names t (j + 1) l)
     (places_differ t k j less (omega arith)) (later_differ t k (j + 1) l (omega arith) (omega arith))
 
--- the names of an array's cells differ, also from others with other declared names
+-- the names of an array's cells differ from each other, and from names with other declared names
 array_differs : (t : List ℕ) (k l : ℕ) (rest : List (List ℕ)) → k + l ≤ 1024 → list_all is_name_byte t ≡ true →
     All (λ y. bytes_eq t (base y) ≡ false) rest → AllPairs (λ x y. x ≢ y) rest →
     AllPairs (λ x y. x ≢ y) (array_names t k l ++ rest)
@@ -196,12 +196,12 @@ abbrev is_seen : List Declared → List ℕ → Bool
 is_seen [] t = false
 is_seen (d ∷ ds) t = bytes_eq (declared_name d).text t || is_seen ds t
 
--- what is found first, or later, is found
+-- a text is found if it is found here or later
 seen_or : (b : Bool) (s : Slot) (o : Option Slot) (c : Bool) → is_some o ≡ c → is_some (cond b (Some s) o) ≡ (b || c)
 seen_or true s o c e = refl
 seen_or false s o c e = e
 
--- a text is found if it is declared
+-- a text is found exactly when it is declared
 found_is_seen : (c v : ℕ) (ds : List Declared) (t : List ℕ) → is_some (found_after c v ds t) ≡ is_seen ds t
 found_is_seen c v [] t = refl
 found_is_seen c v (cell n w ∷ ds) t = seen_or (bytes_eq n.text t) (Cell c) (found_after (c + 1) v ds t) (is_seen ds t)
@@ -211,7 +211,7 @@ found_is_seen c v (var n ∷ ds) t = seen_or (bytes_eq n.text t) (Var v) (found_
 found_is_seen c v (array n l at w ∷ ds) t = seen_or (bytes_eq n.text t) (Run c l) (found_after (c + l) v ds t)
     (is_seen ds t) (found_is_seen (c + l) v ds t)
 
--- a text that is not among declarations is among none of them
+-- a text that is not declared even with one more declaration was not declared before, and is not the new name
 seen_push : (xs : List Declared) (d : Declared) (t : List ℕ) → is_seen (xs ++ d ∷ []) t ≡ false → (is_seen xs t ≡ false)
     × (bytes_eq (declared_name d).text t ≡ false)
 seen_push [] d t e = (refl, (or_parts (bytes_eq (declared_name d).text t) false e).0)
@@ -220,17 +220,17 @@ seen_push (x ∷ xs) d t e =
     let q = seen_push xs d t p.1 in
     (or_from (bytes_eq (declared_name x).text t) (is_seen xs t) p.0 q.0, q.1)
 
--- if no name was declared before, the cells' names differ from each other, and their declared names from those before
+-- the cells' names differ from each other, and none of their declared names was declared before
 record AreNew (before ds : List Declared) : Type 0 where
   unseen : All (λ x. is_seen before (base x) ≡ false) (cell_names ds)
   differ : AllPairs (λ x y. x ≢ y) (cell_names ds)
 
--- a test that fails on the way to nothing
+-- if the choice gives nothing, the test fails and the other branch gives nothing
 unrepeated : (b : Bool) (at : ℕ) (o : Option ℕ) → cond b (Some at) o ≡ None → (b ≡ false) × (o ≡ None)
 unrepeated true at o e = cc
 unrepeated false at o e = (refl, e)
 
--- names that are not repeated are new
+-- if no name is repeated, the cells' names are new
 are_new : (before ds : List Declared) → AllByRecursion IsFitDeclaration ds → wrong_length ds ≡ None → repeated before ds
     ≡ None → AreNew before ds
 are_new before [] fit ok e = record {
@@ -269,7 +269,7 @@ are_new before (array n l at w ∷ ds) fit ok e =
           (seen_push before (array n l at w) (base (get_or (cell_names ds) k d)) (r.unseen k d lt)).1) r.differ;
     }
 
--- the names of the cells of fit declarations, none of which is declared twice, differ
+-- the cell names of fit declarations are distinct if no name is declared twice
 pub names_differ : (ds : List Declared) → AllByRecursion IsFitDeclaration ds → wrong_length ds ≡ None → repeated [] ds
     ≡ None → AllPairs (λ x y. x ≢ y) (cell_names ds)
 names_differ ds fit ok e = (are_new [] ds fit ok e).differ

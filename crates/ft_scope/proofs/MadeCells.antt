@@ -1,4 +1,4 @@
--- Cells one after the other.
+-- The cells that declarations make, as declarations and cells are added.
 use Rattle.std.proofs.Common.{◌≡◌, true, false, add-one, ℕ, suc, zero, ◌+◌, List, [], ◌∷◌, ◌++◌, length, map, replicate}
 use Rattle.std.proofs.Common.{Option, Some, None, refl, sym, ap, ◌∙◌, arith, append_assoc, append-nil, length-append}
 use Rattle.std.proofs.Common.{cond, Bor, Result, Ok, Err}
@@ -10,7 +10,7 @@ use Rattle.ft_scope.specs.Scope.{cell_texts, cell_places, cell_words, cell_count
 use Rattle.ft_scope.specs.declared.making.Cells.{Cells}
 use Rattle.ft_scope.specs.Made.{Made}
 
--- one more declaration
+-- adding a declaration appends its declared names, places and initial words
 pub texts_push : (ds : List Declared) (d : Declared) → cell_texts (ds ++ d ∷ []) ≡ cell_texts ds ++ cell_texts (d ∷ [])
 texts_push [] d = refl
 texts_push (cell m u ∷ ds) d = ap (λ v. m.text ∷ v) (texts_push ds d)
@@ -33,7 +33,7 @@ words_push (var m ∷ ds) d = words_push ds d
 words_push (array m l at u ∷ ds) d = ap (λ v. replicate l u ++ v) (words_push ds d)
     ∙ sym (append_assoc (replicate l u) (cell_words ds) (cell_words (d ∷ [])))
 
--- one more cell of an array
+-- one more cell of an array appends one declared name, one place and one initial word
 alike_next : {A : Type 0} (x : A) (l : ℕ) → replicate (suc l) x ≡ replicate l x ++ x ∷ []
 alike_next x zero = refl
 alike_next x (suc l) = ap (λ v. x ∷ v) (alike_next x l)
@@ -78,7 +78,7 @@ words_grow ds n l at w =
     ∙ ap (λ v. v ++ w ∷ []) (ap (λ v. cell_words ds ++ v) (sym (append-nil (replicate l w)))
     ∙ sym (words_push ds (array n l at w)))
 
--- as many of each
+-- there are as many declared names, places, initial words and names as cells
 alike_length : {A : Type 0} (x : A) (l : ℕ) → length (replicate l x) ≡ l
 alike_length x zero = refl
 alike_length x (suc l) = ap suc (alike_length x l)
@@ -135,7 +135,7 @@ count_names (array n l at w ∷ ds) = omega (
   length-append (array_names n.text 0 l) (cell_names ds),
 )
 
--- the declared names and the places make the names
+-- joining the declared names and the places gives the cells' names
 array_joined : (t : List ℕ) (k l : ℕ) (ts : List (List ℕ)) (ps : List (Option ℕ)) →
     joined_names (replicate l t ++ ts) (places_from k l ++ ps) ≡ array_names t k l ++ joined_names ts ps
 array_joined t k zero ts ps = refl
@@ -148,13 +148,13 @@ names_joined (var n ∷ ds) = names_joined ds
 names_joined (array n l at w ∷ ds) = array_joined n.text 0 l (cell_texts ds) (cell_places ds)
     ∙ ap (λ v. array_names n.text 0 l ++ v) (names_joined ds)
 
--- so do those of cells that were made
+-- so does joining those of the cells that were made
 pub made_names : (c : Cells) (ds : List Declared) → Made c ds →
     joined_names (map (λ r. r.now) c.names.items) c.places.items ≡ cell_names ds
 made_names c ds m = ap (λ v. joined_names v c.places.items) m.names ∙ ap (joined_names (cell_texts ds)) m.places
     ∙ names_joined ds
 
--- lengths that are not wrong, one after the other
+-- if the first declaration's length is not wrong, the first wrong length is that of the rest
 pub wrong_first : (d : Declared) (ds : List Declared) → wrong_length (d ∷ []) ≡ None → wrong_length (d ∷ ds)
     ≡ wrong_length ds
 wrong_first (cell n w) ds h = refl
@@ -185,7 +185,7 @@ wrong_parts (array n l at w) ds h = by (is_length l) h
     by true g = (refl, g)
     by false g = cc
 
--- an array none of whose cells is made yet
+-- an array of which no cell is made yet adds nothing
 pub made_none : (c : Cells) (ds : List Declared) (n : Named) (at w : ℕ) → Made c ds → Made c (ds ++ array n 0 at w ∷ [])
 made_none c ds n at w m = record {
   names = m.names ∙ sym (texts_push ds (array n 0 at w) ∙ append-nil (cell_texts ds));
@@ -215,7 +215,7 @@ made_cell c e ds n name w is names places inits m = record {
   inits = inits ∙ ap (λ v. v ++ w ∷ []) m.inits ∙ sym (words_push ds (cell n w));
 }
 
--- a variable makes none
+-- a variable makes no cell
 pub made_var : (c : Cells) (ds : List Declared) (n : Named) → Made c ds → Made c (ds ++ var n ∷ [])
 made_var c ds n m = record {
   names = m.names ∙ sym (texts_push ds (var n) ∙ append-nil (cell_texts ds));
@@ -223,7 +223,7 @@ made_var c ds n m = record {
   inits = m.inits ∙ sym (words_push ds (var n) ∙ append-nil (cell_words ds));
 }
 
--- three facts of a success
+-- a fact that follows from three facts about a success
 pub ok_from : {A E P Q R S : Type 0} (r : Result A E) → OnOk r P → OnOk r Q → OnOk r R → (P → Q → R → S) → OnOk r S
 ok_from (Ok x) p q r f = f p q r
 ok_from (Err e) p q r f = tt

@@ -1,4 +1,4 @@
--- Needs and weights of statements in a row, and how large they can be.
+-- Needs and weights of statements in sequence, and bounds on them.
 use Rattle.std.proofs.Common.{◌≡◌, ◌+◌, ◌*◌, ◌≤◌, [], max, ap, arith}
 use Rattle.ft_syntax.specs.Plain.{Expression, literal, name, indexed, operation, StatementList, none, assign, assign_at}
 use Rattle.ft_syntax.specs.Plain.{loop, choose, follow, plain_list}
@@ -8,15 +8,15 @@ use Rattle.ft_scope.specs.declared.slot.Slot.{Slot}
 use Rattle.ft_scope.specs.declared.slot.Slot.TheVariants.{Cell, Var, Run}
 use Rattle.ft_scope.specs.Size.{same_slot, need, most_need, slot_weight, expression_weight, statements_weight}
 
--- no statement needs nothing
+-- an empty list of statements needs nothing
 pub nothing_needed : most_need (plain_list same_slot []) ≡ 0
 nothing_needed = ap most_need (list_empty same_slot)
 
--- no statement weighs nothing
+-- an empty list of statements weighs nothing
 pub nothing_weighed : statements_weight (plain_list same_slot []) ≡ 0
 nothing_weighed = ap statements_weight (list_empty same_slot)
 
--- the greater need of statements in a row
+-- the need of statements in sequence is the larger of the two needs
 pub need_follow : {N : Type 0} → (a b : StatementList N) → most_need (follow a b) ≡ max (most_need a) (most_need b)
 need_follow none b = omega arith
 need_follow (assign to e rest) b = omega (arith, need_follow rest b)
@@ -24,7 +24,7 @@ need_follow (assign_at to i e rest) b = omega (arith, need_follow rest b)
 need_follow (loop e body rest) b = omega (arith, need_follow rest b)
 need_follow (choose e if_so if_not rest) b = omega (arith, need_follow rest b)
 
--- statements in a row weigh what they weigh by themselves
+-- the weight of statements in sequence is the sum of the two weights
 pub weight_follow : (a b : StatementList Slot) → statements_weight (follow a b)
     ≡ statements_weight a + statements_weight b
 weight_follow none b = omega arith
@@ -33,7 +33,7 @@ weight_follow (assign_at to i e rest) b = omega (arith, weight_follow rest b)
 weight_follow (loop e body rest) b = omega (arith, weight_follow rest b)
 weight_follow (choose e if_so if_not rest) b = omega (arith, weight_follow rest b)
 
--- the nodes of statements in a row
+-- statements in sequence have as many nodes as both parts together
 pub nodes_follow : {N : Type 0} → (a b : StatementList N) → statement_nodes (follow a b)
     ≡ statement_nodes a + statement_nodes b
 nodes_follow none b = omega arith

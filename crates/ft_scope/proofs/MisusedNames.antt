@@ -1,4 +1,4 @@
--- Misused names, one statement after the other, and what names refer to if none is misused.
+-- The first misused name of statements in sequence, and what names refer to if none is misused.
 use Rattle.std.proofs.Common.{◌≡◌, Vec, Global, subst, ℕ, List, [], ◌∷◌, ◌++◌, Option, Some, None, Ok, refl, sym, ap}
 use Rattle.std.proofs.Common.{◌∙◌}
 use Rattle.ft_syntax.specs.Plain.{Expression, plain_expression, plain_statement, plain_list, StatementList, none}
@@ -14,17 +14,17 @@ use Rattle.ft_scope.specs.Scope.{found, first_of, bare_misuse, index_misuse, mis
 use Rattle.ft_scope.specs.Size.{same_slot, SlotFits, RunFits, ExpressionFits, StatementsFit}
 use Rattle.ft_scope.specs.Renames.{AnyFits}
 
--- the first of three
+-- `first_of` is associative
 pub first_three : (a b c : Option ℕ) → first_of (first_of a b) c ≡ first_of a (first_of b c)
 first_three (Some at) b c = refl
 first_three None b c = refl
 
--- nothing after it
+-- `first_of` with nothing as its second argument gives its first
 pub first_end : (a : Option ℕ) → first_of a None ≡ a
 first_end (Some at) = refl
 first_end None = refl
 
--- neither of two
+-- if the first of two is nothing, both are
 pub first_left : (a b : Option ℕ) → first_of a b ≡ None → a ≡ None
 first_left (Some at) b h = h
 first_left None b h = refl
@@ -33,7 +33,7 @@ pub first_right : (a b : Option ℕ) → first_of a b ≡ None → b ≡ None
 first_right (Some at) b h = cc
 first_right None b h = h
 
--- statements in a row
+-- the first misused name of statements in sequence is that of the first part, or otherwise that of the second
 pub misused_follow : (look : List ℕ → Option Slot) (a b : StatementList Named) → misused look (follow a b)
     ≡ first_of (misused look a) (misused look b)
 misused_follow look none b = refl
@@ -51,17 +51,17 @@ misused_follow look (choose e if_so if_not rest) b =
     let x = first_of (misused_expression look e) (first_of (misused look if_so) (misused look if_not)) in
     ap (first_of x) (misused_follow look rest b) ∙ sym (first_three x (misused look rest) (misused look b))
 
--- what is noted of two parts, one after the other
+-- noting two parts in turn notes the first misuse in either
 pub two_notes : (first now new x y : Option ℕ) → now ≡ first_of first x → new ≡ first_of now y → new
     ≡ first_of first (first_of x y)
 two_notes first now new x y before more = more ∙ ap (λ v. first_of v y) before ∙ first_three first x y
 
--- what is noted of no statements
+-- an empty list of statements leaves the note unchanged
 pub misuse_none : (look : List ℕ → Option Slot) (first : Option ℕ) → first
     ≡ first_of first (misused look (plain_list named []))
 misuse_none look first = sym (ap (λ v. first_of first (misused look v)) (list_empty named) ∙ first_end first)
 
--- what is noted of one more statement
+-- what is noted after one more statement
 pub misuse_more : (look : List ℕ → Option Slot) (first now new : Option ℕ) (xs : List (Stmt Spot)) (s : Stmt Spot) → now
     ≡ first_of first (misused look (plain_list named xs)) → new
     ≡ first_of now (misused look (plain_statement named s none)) → new
@@ -73,7 +73,7 @@ misuse_more look first now new xs s before more =
     ∙ ap (first_of first) (sym (ap (misused look) (list_push named xs s)
     ∙ misused_follow look (plain_list named xs) (plain_statement named s none)))
 
--- what exists and is not misused without an index is not a run
+-- a slot that exists and is not misused without an index is not a run
 pub bare_fits : (c v at : ℕ) (o : Option Slot) (s : Slot) → found at o ≡ Ok s → AnyFits c v s → bare_misuse at o
     ≡ None → SlotFits c v s
 bare_fits c v at None s e h g = cc
@@ -82,7 +82,7 @@ bare_fits c v at (Some (Var x)) (Var y) e h g = h
 bare_fits c v at (Some (Run f l)) s e h g = cc
 bare_fits c v at (Some x) _ e h g = cc
 
--- what is there and is not misused with an index is a run
+-- a slot that exists and is not misused with an index is a run
 pub index_fits : (c v at : ℕ) (o : Option Slot) (s : Slot) → found at o ≡ Ok s → AnyFits c v s → index_misuse at o
     ≡ None → RunFits c s
 index_fits c v at None s e h g = cc
@@ -91,14 +91,14 @@ index_fits c v at (Some (Cell k)) s e h g = cc
 index_fits c v at (Some (Var x)) s e h g = cc
 index_fits c v at (Some x) _ e h g = cc
 
--- both operands
+-- both operands fit if neither has a misused name
 pub both_fit : (c v : ℕ) (a b : Option ℕ) (x y : Expression Slot) → first_of a b ≡ None →
     (a ≡ None → ExpressionFits c v x) → (b ≡ None → ExpressionFits c v y) → ExpressionFits c v x × ExpressionFits c v y
 both_fit c v a b x y h f g = (f (first_left a b h), g (first_right a b h))
 
 module _ (table : List ℕ → Option Slot) (c v : ℕ) (s : Stmt Spot) (h : misused table (plain_statement named s none)
     ≡ None) where
-  -- an assignment to a name without an index
+  -- an assignment to a name without an index fits
   pub assign_fits : (to : Spot) (e : Expr Spot) (x : Slot) (y : Expr Slot) → s ≡ Assign to e →
       found to.at (table to.text.now) ≡ Ok x → AnyFits c v x →
       (misused_expression table (plain_expression named e) ≡ None → ExpressionFits c v (plain_expression same_slot y)) →
@@ -112,7 +112,7 @@ module _ (table : List ℕ → Option Slot) (c v : ℕ) (s : Stmt Spot) (h : mis
       subst (StatementsFit c v) (sym (assign_form same_slot x y none))
       (bare_fits c v to.at (table to.text.now) x there fit (first_left p q parts), value (first_right p q parts), tt)
 
-  -- an assignment to a name with an index
+  -- an assignment to a name with an index fits
   pub assign_at_fits : (to : Spot) (i e : Expr Spot) (x : Slot) (j y : Expr Slot) → s ≡ AssignAt to i e →
       found to.at (table to.text.now) ≡ Ok x → AnyFits c v x →
       (misused_expression table (plain_expression named i) ≡ None → ExpressionFits c v (plain_expression same_slot j)) →
@@ -135,7 +135,7 @@ module _ (table : List ℕ → Option Slot) (c v : ℕ) (s : Stmt Spot) (h : mis
         tt,
       )
 
-  -- a choice
+  -- a choice fits
   pub choose_fits : (e : Expr Spot) (one other : Vec (Stmt Spot) Global) (y : Expr Slot)
       (if_so if_not : Vec (Stmt Slot) Global) → s ≡ If e one other →
       (misused_expression table (plain_expression named e) ≡ None → ExpressionFits c v (plain_expression same_slot y)) →
@@ -159,12 +159,12 @@ module _ (table : List ℕ → Option Slot) (c v : ℕ) (s : Stmt Spot) (h : mis
       )
 
 module _ (table : List ℕ → Option Slot) (s : Stmt Spot) (old : Option ℕ) where
-  -- what is noted of a statement, by its plain form
+  -- what is noted for a statement, in terms of its plain form
   noted : (m : StatementList Named) (new x : Option ℕ) → plain_statement named s none ≡ m → new ≡ first_of old x →
       misused table m ≡ first_of x None → new ≡ first_of old (misused table (plain_statement named s none))
   noted m new x is by same = by ∙ ap (first_of old) (sym (ap (misused table) is ∙ same ∙ first_end x))
 
-  -- what is noted of an assignment to a name without an index
+  -- what is noted for an assignment to a name without an index
   pub assign_noted : (to : Spot) (e : Expr Spot) (one new : Option ℕ) → s ≡ Assign to e → one
       ≡ first_of old (bare_misuse to.at (table to.text.now)) → new
       ≡ first_of one (misused_expression table (plain_expression named e)) → new
@@ -175,7 +175,7 @@ module _ (table : List ℕ → Option Slot) (s : Stmt Spot) (old : Option ℕ) w
       noted (assign (named to) (plain_expression named e) none) new (first_of p q)
       (ap (λ w. plain_statement named w none) is ∙ assign_form named to e none) (two_notes old one new p q a b) refl
 
-  -- what is noted of an assignment to a name with an index
+  -- what is noted for an assignment to a name with an index
   pub assign_at_noted : (to : Spot) (i e : Expr Spot) (one two new : Option ℕ) → s ≡ AssignAt to i e → one
       ≡ first_of old (index_misuse to.at (table to.text.now)) → two
       ≡ first_of one (misused_expression table (plain_expression named i)) → new
@@ -189,7 +189,7 @@ module _ (table : List ℕ → Option Slot) (s : Stmt Spot) (old : Option ℕ) w
       (first_of p (first_of q r)) (ap (λ w. plain_statement named w none) is ∙ assign_at_form named to i e none)
       (two_notes old one new p (first_of q r) a (two_notes one two new q r b c)) refl
 
-  -- what is noted of a loop
+  -- what is noted for a loop
   pub loop_noted : (e : Expr Spot) (body : Vec (Stmt Spot) Global) (one new : Option ℕ) → s ≡ While e body → one
       ≡ first_of old (misused_expression table (plain_expression named e)) → new
       ≡ first_of one (misused table (plain_list named body.items)) → new
@@ -200,7 +200,7 @@ module _ (table : List ℕ → Option Slot) (s : Stmt Spot) (old : Option ℕ) w
       noted (loop (plain_expression named e) (plain_list named body.items) none) new (first_of p q)
       (ap (λ w. plain_statement named w none) is ∙ while_form named e body none) (two_notes old one new p q a b) refl
 
-  -- what is noted of a choice
+  -- what is noted for a choice
   pub choose_noted : (e : Expr Spot) (if_so if_not : Vec (Stmt Spot) Global) (one two new : Option ℕ) → s
       ≡ If e if_so if_not → one ≡ first_of old (misused_expression table (plain_expression named e)) → two
       ≡ first_of one (misused table (plain_list named if_so.items)) → new

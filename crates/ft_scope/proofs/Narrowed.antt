@@ -1,5 +1,5 @@
--- The table's numbers are the definition's, if there are at most 255 variables; and they never change need, weight or
--- place.
+-- The table's slots are those of the definition if there are at most 1,024 cells and 255 variables. Capping their
+-- numbers never changes a need, a weight or a place.
 use Rattle.std.proofs.Common.{◌≡◌, ℕ, ◌+◌, ◌-◌, ◌^◌, ◌≤◌, List, Option, Some, None, Result, Ok, Err, min, refl, sym, ap}
 use Rattle.std.proofs.Common.{◌∙◌, arith, subst}
 use Rattle.std.specs.Option.{option_map}
@@ -15,7 +15,7 @@ use Rattle.ft_scope.specs.Renames.{AnyFits}
 use Rattle.ft_scope.specs.Held.{narrow}
 use Rattle.ft_scope.proofs.Found.{found_fits}
 
--- with each slot as the table has it
+-- expressions and statements with each slot as the table holds it
 abbrev narrowed_expression : Expression Slot → Expression Slot
 narrowed_expression (literal w) = literal w
 narrowed_expression (name s) = name (narrow s)
@@ -30,7 +30,7 @@ narrowed (loop e body rest) = loop (narrowed_expression e) (narrowed body) (narr
 narrowed (choose e if_so if_not rest) = choose (narrowed_expression e) (narrowed if_so) (narrowed if_not)
     (narrowed rest)
 
--- a map goes through what is done next
+-- a map before a step can be moved after it
 moved : {A C B D : Type 0} → (r : Result A ℕ) (q : Result C ℕ) (m : C → A) (f : A → Result B ℕ) (g : C →
     Result D ℕ) (k : D → B) → r ≡ q >>= (λ x. Ok (m x)) → ((x : C) → f (m x) ≡ g x >>= λ y. Ok (k y)) → r >>= f
     ≡ (q >>= g) >>= λ y. Ok (k y)
@@ -201,12 +201,12 @@ statements_narrowed (choose e if_so if_not rest) = omega (
   statements_narrowed rest,
 )
 
--- the table by what it is at each text
+-- the table is determined by what it gives for each text
 same_table : (ds : List Declared) (table : List ℕ → Option Slot) →
     ((t : List ℕ) → table t ≡ option_map narrow (find ds t)) → table ≡ (λ t. option_map narrow (find ds t))
 same_table ds table h = λ i t. h t i
 
--- a failure by the table is one by the definition
+-- if renaming by the table fails, renaming by the definition fails at the same place
 pub fails_exactly : (ds : List Declared) (table : List ℕ → Option Slot) (b : StatementList Named) (at : ℕ) →
     ((t : List ℕ) → table t ≡ option_map narrow (find ds t)) → renamed table b ≡ Err at → renamed (find ds) b ≡ Err at
 fails_exactly ds table b at h e = by (renamed (find ds) b) (sym (ap (λ f. renamed f b) (same_table ds table h)
@@ -216,7 +216,7 @@ fails_exactly ds table b at h e = by (renamed (find ds) b) (sym (ap (λ f. renam
     by (Ok x) g = cc
     by (Err p) g = g
 
--- the definition's result if the table gives statements
+-- if renaming by the table gives statements, the definition gives some with the same need and weight
 pub record Exact (ds : List Declared) (b : StatementList Named) (by_table : StatementList Slot) : Type 0 where
   pub body : StatementList Slot
   pub is : renamed (find ds) b ≡ Ok body
@@ -241,7 +241,7 @@ gives_exactly ds table b out h e = by (renamed (find ds) b) refl (sym (ap (λ f.
         }
     by (Err p) w g = cc
 
--- the misused names by the table are those of the definition
+-- the first misused name by the table is the first by the definition
 pub misuse_exactly : (ds : List Declared) (table : List ℕ → Option Slot) (b : StatementList Named) →
     ((t : List ℕ) → table t ≡ option_map narrow (find ds t)) → misused table b ≡ misused (find ds) b
 misuse_exactly ds table b h = ap (λ f. misused f b) (same_table ds table h) ∙ misuses_moved (find ds) b
@@ -263,7 +263,7 @@ slots_within ds t ok few h = by (find ds t) refl
     by (Some s) w = ap Some (narrow_within (0 + cell_count ds) (0 + variable_count ds) s (omega arith) (omega arith)
         (found_fits 0 0 ds t s ok w))
 
--- with few cells and variables the table is the definition
+-- with few cells and variables, renaming by the table gives what the definition gives
 pub gives_the_same : (ds : List Declared) (table : List ℕ → Option Slot) (b : StatementList Named)
     (out : StatementList Slot) → ((t : List ℕ) → table t ≡ option_map narrow (find ds t)) → wrong_length ds ≡ None →
     cell_count ds ≤ 1024 → variable_count ds ≤ 255 → renamed table b ≡ Ok out → renamed (find ds) b ≡ Ok out
@@ -275,7 +275,7 @@ fits_narrow c v (Cell k) h = omega arith
 fits_narrow c v (Run f l) h = (omega (arith, h.0), omega (arith, h.1), omega (arith, h.2))
 fits_narrow c v (Var x) h = omega arith
 
--- what the table gives is there
+-- a slot that the table gives exists
 pub table_fits : (ds : List Declared) (table : List ℕ → Option Slot) (t : List ℕ) (s : Slot) → wrong_length ds ≡ None →
     ((t : List ℕ) → table t ≡ option_map narrow (find ds t)) → table t ≡ Some s →
     AnyFits (cell_count ds) (variable_count ds) s

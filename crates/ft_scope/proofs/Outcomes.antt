@@ -6,7 +6,7 @@ use Rattle.ft_syntax.specs.declared.source_error.SourceError.{SourceError}
 use Rattle.ft_scope.specs.Resolved.{Program, resolved}
 use Rattle.ft_scope.specs.Outcome.{IsOutcome}
 
--- the outcome that follows from the grammar's
+-- the outcome that follows from the grammar's answer
 abbrev pub judged : Result SyntaxTree SourceError → Result Program SourceError
 judged (Ok t) = resolved t
 judged (Err e) = Err e
@@ -17,7 +17,7 @@ answer_of text (Ok p) h = (Ok h.0, h.1, sym h.2)
 answer_of text (Err e) (inl h) = (Err e, h, refl)
 answer_of text (Err e) (inr h) = (Ok h.0, h.1, sym h.2)
 
--- two outcomes are the same
+-- any two outcomes of a text are the same
 pub one_outcome : (text : List ℕ) (one : (a b : Result SyntaxTree SourceError) → IsAnswer text a → IsAnswer text b → a
     ≡ b) (r s : Result Program SourceError) → IsOutcome text r → IsOutcome text s → r ≡ s
 one_outcome text one r s h g =
@@ -25,7 +25,7 @@ one_outcome text one r s h g =
     let b = answer_of text s g in
     a.2 ∙ ap judged (one a.0 b.0 a.1 b.1) ∙ sym b.2
 
--- a grammar's outcome gives an outcome
+-- the grammar's answer gives an outcome
 pub outcome_from : (text : List ℕ) (a : Result SyntaxTree SourceError) → IsAnswer text a → IsOutcome text (judged a)
 outcome_from text (Err e) h = inl h
 outcome_from text (Ok t) h = by (resolved t) refl

@@ -1,4 +1,4 @@
--- What holds of a text's program: of its cells, its statements and its size.
+-- Properties of a text's program: its cells, its statements and its size.
 use Rattle.std.proofs.Common.{◌≡◌, ℕ, ◌+◌, ◌≤◌, Bool, true, false, List, [], ◌∷◌, length, replicate, Option, Some, None}
 use Rattle.std.proofs.Common.{refl, sym, ◌∙◌, subst, arith}
 use Rattle.std.specs.Prelude.{All, Result, Ok, Err, if◌then◌else◌, nat_lt}
@@ -38,18 +38,17 @@ words_fit (array n l at w ∷ ds) h = All-append IsWord (replicate l w) (cell_wo
 
 -- SLOTS
 
--- what a result that goes on has given
+-- if two steps in turn succeed, each of them does
 ok_parts : {A B : Type 0} (r : Result A ℕ) (f : A → Result B ℕ) (y : B) → r >>= f ≡ Ok y → (x : A)
     × ((r ≡ Ok x) × (f x ≡ Ok y))
 ok_parts (Ok x) f y e = (x, (refl, e))
 ok_parts (Err at) f y e = cc
 
--- equal values of results
+-- equal successes have equal values
 ok_same : {A : Type 0} (x y : A) → ◌≡◌ {A = Result A ℕ} (Ok x) (Ok y) → x ≡ y
 ok_same x y e = cc
 
--- if each name that is found is of an existing cell or variable, and none is misused, so are the names of statements
--- with each name replaced
+-- if each name that is found refers to an existing cell or variable and no name is misused, the renamed statements fit
 module _ (look : List ℕ → Option Slot) (c v : ℕ) (there : (t : List ℕ) (s : Slot) → look t ≡ Some s →
     AnyFits c v s) where
   slot_fits : (at : ℕ) (t : List ℕ) (s : Slot) → found at (look t) ≡ Ok s → AnyFits c v s
@@ -155,7 +154,7 @@ module _ (look : List ℕ → Option Slot) (c v : ℕ) (there : (t : List ℕ) (
 
 -- PROGRAMS
 
--- a program that is not refused is itself, and within the limits
+-- a program that `limited` does not refuse is returned unchanged and is within the limits
 limited_program : (q p : Program) → limited q ≡ Ok p → (q ≡ p) × IsWithinLimits q
 limited_program q p e =
     let a = below 1024 (length q.inits) (errors.Cells (length q.inits)) _ p e in
@@ -174,8 +173,8 @@ limited_program q p e =
     same : ◌≡◌ {A = Result Program SourceError} (Ok q) (Ok p) → q ≡ p
     same f = cc
 
--- the program of a tree: no name is declared twice or misused, no length is wrong, its statements are the tree's, and
--- it is within the limits
+-- the program of a tree: no name is declared twice or misused, no length is wrong, its statements are the tree's after
+-- renaming, and it is within the limits
 record IsResolved (t : SyntaxTree) (p : Program) : Type 0 where
   body : StatementList Slot
   fresh : repeated [] t.decls ≡ None
@@ -185,13 +184,13 @@ record IsResolved (t : SyntaxTree) (p : Program) : Type 0 where
   is : record { names = cell_names t.decls; inits = cell_words t.decls; vars = variable_count t.decls; body = body } ≡ p
   limits : IsWithinLimits p
 
--- nothing is refused at a place on the way to a program
+-- if a program results, nothing was refused at this test
 unrefused : (e : ℕ → SourceError) (o : Option ℕ) (other : Result Program SourceError) (p : Program) →
     refused_at e o other ≡ Ok p → (o ≡ None) × (other ≡ Ok p)
 unrefused e (Some at) other p h = cc
 unrefused e None other p h = (refl, h)
 
--- what a tree is resolved to is its program
+-- if a tree resolves to a program, it is the program of the tree
 resolved_program : (t : SyntaxTree) (p : Program) → resolved t ≡ Ok p → IsResolved t p
 resolved_program t p e =
     let first = unrefused errors.Twice (repeated [] t.decls)
@@ -222,7 +221,7 @@ resolved_program t p e =
           limits = subst IsWithinLimits l.0 l.1;
         }
 
--- what a name names is there, of as many cells as there are initial words
+-- what a name refers to exists; there is one cell for each initial word
 found_there : (ds : List Declared) → wrong_length ds ≡ None → (t : List ℕ) (s : Slot) → find ds t ≡ Some s →
     AnyFits (length (cell_words ds)) (variable_count ds) s
 found_there ds ok t s e =

@@ -1,4 +1,4 @@
--- Statements in a row are renamed one after the other, and the first that fails is the failure of all.
+-- Statements in sequence are renamed one by one, and the first failure is the failure of all.
 use Rattle.std.proofs.Common.{◌≡◌, ℕ, List, [], ◌∷◌, ◌++◌, Option, Result, Ok, Err, refl, sym, ap, ◌∙◌}
 use Rattle.ft_syntax.specs.declared.spot.Spot.{Spot}
 use Rattle.ft_syntax.specs.declared.stmt.Stmt.{Stmt}
@@ -13,7 +13,7 @@ use Rattle.ft_scope.specs.Scope.{◌>>=◌, found, renamed_expression, renamed}
 use Rattle.ft_scope.specs.Size.{same_slot}
 use Rattle.ft_scope.specs.Renames.{Fails}
 
--- what is done after a result can be done after each of its values
+-- if a step splits in two for each value, it does so after a result too
 through : {A B C : Type 0} → (r : Result A ℕ) (f : A → Result B ℕ) (g : A → Result C ℕ) (k : C → Result B ℕ) →
     ((x : A) → f x ≡ g x >>= k) → r >>= f ≡ (r >>= g) >>= k
 through (Ok x) f g k h = h x
@@ -23,7 +23,7 @@ module _ (look : List ℕ → Option Slot) (b : StatementList Named) where
   abbrev then_b : StatementList Slot → Result (StatementList Slot) ℕ
   then_b x = renamed look b >>= λ y. Ok (follow x y)
 
-  -- the rest of a statement before b
+  -- building a statement from its rest commutes with appending b
   rest_step : (whole rest : Result (StatementList Slot) ℕ) (f : StatementList Slot → StatementList Slot) → whole
       ≡ rest >>= then_b → ((r y : StatementList Slot) → f (follow r y) ≡ follow (f r) y) → whole >>= (λ r. Ok (f r))
       ≡ (rest >>= λ r. Ok (f r)) >>= then_b
@@ -35,7 +35,7 @@ module _ (look : List ℕ → Option Slot) (b : StatementList Named) where
       by (Ok x) (Err at) = refl
       by (Err at) q = refl
 
-  -- statements in a row
+  -- renaming statements followed by b renames both in turn
   pub renamed_follow : (a : StatementList Named) → renamed look (follow a b) ≡ renamed look a >>= λ x.
       renamed look b >>= λ y. Ok (follow x y)
   renamed_follow none = by (renamed look b)
@@ -80,7 +80,7 @@ module _ (look : List ℕ → Option Slot) (b : StatementList Named) where
       (λ z. rest_step (renamed look (follow rest b)) (renamed look rest) (choose x y z) (renamed_follow rest) (λ r q.
       refl))))
 
--- one more statement
+-- renaming one more statement appends its result
 pub renamed_push : (look : List ℕ → Option Slot) (xs : List (Stmt Spot)) (s : Stmt Spot) (out : List (Stmt Slot))
     (r : Stmt Slot) (new : List (Stmt Slot)) →
     renamed look (plain_list named xs) ≡ Ok (plain_list same_slot out) → renamed look (plain_statement named s none)
@@ -93,7 +93,7 @@ renamed_push look xs s out r new h g e =
     ∙ ap (λ v. v >>= λ y. Ok (follow (plain_list same_slot out) y)) g
     ∙ ap Ok (sym (list_push same_slot out r)) ∙ ap (λ v. Ok (plain_list same_slot v)) (sym e)
 
--- the list is its first statements, the next one and the others
+-- a list is its first statements, followed by the next one, followed by the others
 parts : (xs ys : List (Stmt Spot)) (s : Stmt Spot) → plain_list named (xs ++ s ∷ ys)
     ≡ follow (plain_list named xs) (follow (plain_statement named s none) (plain_list named ys))
 parts [] ys s = list_first named s ys ∙ statement_first named s (plain_list named ys)
@@ -117,7 +117,7 @@ fails_at look xs ys s out at h g =
     ∙ ap (λ v. v >>= λ y. Ok (follow out y)) (renamed_follow look Y S
     ∙ ap (λ v. v >>= λ x. renamed look Y >>= λ y. Ok (follow x y)) g)
 
--- the first statement that fails
+-- the first statement that fails makes the whole list fail
 pub fails_front : (look : List ℕ → Option Slot) (all xs ys : List (Stmt Spot)) (s : Stmt Spot)
     (out : StatementList Slot) (e : SourceError) → xs ++ s ∷ ys ≡ all → renamed look (plain_list named xs) ≡ Ok out →
     Fails e (renamed look (plain_statement named s none)) → Fails e (renamed look (plain_list named all))

@@ -1,4 +1,4 @@
--- What a tree is, by what the code knows of it.
+-- What a tree resolves to, from what the code knows of it.
 use Rattle.std.proofs.Common.{◌≡◌, ◌≢◌, ℕ, ◌+◌, ◌<◌, ◌≤◌, Bool, true, false, List, [], length, map, Some, None, Result}
 use Rattle.std.proofs.Common.{Ok, Err, nat_lt, if◌then◌else◌, refl, sym, ap, ◌∙◌, subst, arith}
 use Rattle.std.proofs.lemmas.Bool.{lt-ltb, ltb-true}
@@ -41,13 +41,13 @@ within limit n e other h = by (nat_lt limit n) refl
     by true g = absurd (omega (arith, ltb-true limit n g))
     by false g = refl
 
--- a tree is small in each of its parts
+-- a small tree has few declarations and statement nodes together
 pub small_parts : (ds : List Decl) (ss : List (Stmt Spot)) → node_count ds ss ≤ 1048576 →
     length ds + statement_nodes (plain_list named ss) ≤ 1048576
 unfolding node_count
 small_parts ds ss h = h
 
--- no more variables than parts
+-- a small tree has few variables
 pub few_variables : (ds : List Decl) (ss : List (Stmt Spot)) (n : Names) → node_count ds ss ≤ 1048576 →
     Holds n (declared_list ds) → n.vars ≤ 1048576
 few_variables ds ss n tiny held = omega (
@@ -58,12 +58,12 @@ few_variables ds ss n tiny held = omega (
   small_parts ds ss tiny,
 )
 
--- as many nodes as parts at most
+-- the renamed statements of a small tree have few nodes
 pub few_nodes : (ds : List Decl) (ss : List (Stmt Spot)) (b : StatementList Slot) → node_count ds ss ≤ 1048576 →
     statement_nodes b ≡ statement_nodes (plain_list named ss) → statement_nodes b ≤ 1048576
 few_nodes ds ss b tiny same = omega (arith, same, small_parts ds ss tiny)
 
--- a tree with an unknown name
+-- a tree with an unknown name is refused for it
 pub unknown : (ds : List Decl) (ss : List (Stmt Spot)) (n : Names) (e : SourceError) → Holds n (declared_list ds) →
     repeated [] (declared_list ds) ≡ None → Fails e (renamed (look n) (plain_list named ss)) → e ≢ NoMemory →
     resolved (tree_from ds ss) ≡ Err e
@@ -94,7 +94,7 @@ module _ (t : SyntaxTree) (n : Names) (b : StatementList Slot) (r : Renamed t n 
       ∙ ap (program_with t.decls (misused (find t.decls) t.body)) h
       ∙ ap (λ o. program_with t.decls o (Ok x)) (sym (misuse_exactly t.decls (look n) t.body r.held.slots))
 
-  -- a misused name
+  -- a tree with a misused name is refused for it
   pub misuses : (at : ℕ) → misused (look n) t.body ≡ Some at → resolved t ≡ Err (Array at)
   misuses at h = after_names Y.body Y.is ∙ ap (λ o. program_with t.decls o (Ok Y.body)) h
 
@@ -107,7 +107,7 @@ module _ (t : SyntaxTree) (n : Names) (b : StatementList Slot) (r : Renamed t n 
     unfolding program
     after_use x h = after_names x h ∙ ap (λ o. program_with t.decls o (Ok x)) used
 
-    -- a wrong length
+    -- a tree with a wrong length is refused for it
     pub wrong : (at : ℕ) → wrong_length t.decls ≡ Some at → resolved t ≡ Err (Length at)
     wrong at h = after_use Y.body Y.is ∙ ap (λ o. refused_at Length o (limited (program Y.body))) h
 
@@ -126,7 +126,7 @@ module _ (t : SyntaxTree) (n : Names) (b : StatementList Slot) (r : Renamed t n 
       cells_of : n.cells ≡ length (cell_words t.decls)
       cells_of = omega (arith, r.held.cells, count_words t.decls, count_within t.decls lengths, small)
 
-      -- a limit that is broken
+      -- a tree that breaks a limit is refused for it
       pub breaks : (e : SourceError) → BreaksLimit e n.cells n.vars b → resolved t ≡ Err e
       unfolding program
       breaks (Cells m) h =
@@ -145,7 +145,7 @@ module _ (t : SyntaxTree) (n : Names) (b : StatementList Slot) (r : Renamed t n 
       breaks _ h = absurd h
 
       module _ (made : MadeOf) (is : Made made t.decls) where
-        -- a program
+        -- a tree within the limits resolves to the program that was made
         pub resolves : n.cells ≤ 1024 → whole_need n.vars b ≤ 32 → whole_weight n.vars b ≤ 65536 →
             resolved t ≡ Ok (record {
               names = joined_names (map (λ r. r.now) made.names.items) made.places.items;
@@ -179,14 +179,14 @@ module _ (t : SyntaxTree) (n : Names) (b : StatementList Slot) (r : Renamed t n 
               body = b;
             })) (sym r.held.vars)
 
-        -- what the table gives is there
+        -- a slot that the table gives exists
         pub all_fit : AllFit (look n) (length made.inits.items) n.vars
         all_fit text s h =
             let c : length made.inits.items ≡ cell_count t.decls = ap length is.inits ∙ count_words t.decls in
             subst (λ x. AnyFits x n.vars s) (sym c) (subst (λ y. AnyFits (cell_count t.decls) y s) (sym r.held.vars)
             (table_fits t.decls (look n) text s lengths r.held.slots h))
 
-        -- as many names and places as initial words
+        -- there are as many names and places as initial words
         pub as_many : length made.names.items ≡ length made.inits.items
         as_many = sym (length-map made.names.items (λ r. r.now)) ∙ ap length is.names ∙ count_texts t.decls
             ∙ sym (ap length is.inits ∙ count_words t.decls)

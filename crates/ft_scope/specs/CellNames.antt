@@ -2,12 +2,12 @@
 use Rattle.std.specs.Prelude.{ℕ, zero, suc, ◌+◌, List, [], ◌∷◌, ◌++◌, Option, Some, None, decimal, codes}
 use Rattle.ft_syntax.specs.Syntax.{Declared, cell, var, array}
 
--- the name of a cell: the declared name, and for a cell of an array its place there in square brackets
+-- the name of a cell: the declared name, followed by its place in square brackets if the cell belongs to an array
 abbrev pub cell_name : List ℕ → Option ℕ → List ℕ
 cell_name text None = text
 cell_name text (Some k) = text ++ codes "[" ++ decimal k ++ codes "]"
 
--- the names of n cells of an array, from this place
+-- the names of n cells of an array, from this place on
 abbrev pub array_names : List ℕ → ℕ → ℕ → List (List ℕ)
 array_names text k zero = []
 array_names text k (suc l) = cell_name text (Some k) ∷ array_names text (k + 1) l

@@ -1,11 +1,11 @@
--- What a text is: a program, or a refusal.
+-- The outcome of a text: a program or a refusal.
 use Rattle.std.specs.Prelude.{◌≡◌, ℕ, List, ◌⊎◌, Result, Ok, Err}
 use Rattle.ft_syntax.specs.Syntax.{SyntaxTree}
 use Rattle.ft_syntax.specs.Refusal.{IsSource, IsRefused}
 use Rattle.ft_syntax.specs.declared.source_error.SourceError.{SourceError}
 use Rattle.ft_scope.specs.Resolved.{Program, resolved}
 
--- the text is a source, and its tree is this program
+-- the text is a source, and its tree resolves to this program
 abbrev pub IsProgramOf : List ℕ → Program → Type 0
 IsProgramOf text p = (t : SyntaxTree) × IsSource text t × (resolved t ≡ Ok p)
 

@@ -1,4 +1,4 @@
--- The program that a value of the code stands for.
+-- The program that a value of the code represents.
 use Rattle.std.specs.Prelude.{map}
 use Rattle.ft_syntax.specs.Plain.{plain_list}
 use Rattle.ft_scope.specs.declared.prog.Prog.{Prog}

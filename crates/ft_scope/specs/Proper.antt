@@ -1,4 +1,4 @@
--- What holds for every program of a text.
+-- What holds of every text's program.
 use Rattle.std.specs.Prelude.{◌≡◌, ◌≢◌, ℕ, ◌≤◌, Bool, true, false, ◌&&◌, ◌||◌, ◌==◌, List, [], ◌∷◌, length, All}
 use Rattle.std.specs.List.{list_all, AllPairs}
 use Rattle.ft_isa.specs.Words.{IsWord}
@@ -15,7 +15,7 @@ abbrev pub is_cell_text : List ℕ → Bool
 is_cell_text [] = false
 is_cell_text (b ∷ bs) = is_letter b && list_all is_cell_byte bs
 
--- a name of a cell: such a text of at most 38 bytes, 32 of the declared name and 6 of a place in an array
+-- a name of a cell: such a text of at most 38 bytes, 32 for the declared name and 6 for a place in an array
 pub record IsCellName (t : List ℕ) : Type 0 where
   pub bytes : is_cell_text t ≡ true
   pub short : length t ≤ 38
@@ -26,8 +26,8 @@ pub record IsWithinLimits (p : Program) : Type 0 where
   pub need : program_need p ≤ 32
   pub weight : program_weight p ≤ 65536
 
--- the cells have different names, and as many initial words; statements name existing cells and variables, with an
--- index exactly for arrays, and have words as literals; and the program is within the limits
+-- the cells have lawful names, all different, and one initial word each; statements name existing cells and variables,
+-- with an index exactly for arrays; literals are words; and the program is within the limits
 pub record IsProper (p : Program) : Type 0 where
   pub names : All IsCellName p.names
   pub differ : AllPairs (λ x y. x ≢ y) p.names

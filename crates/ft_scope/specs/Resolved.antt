@@ -41,7 +41,7 @@ refused_at e (Some at) other = Err (e at)
 refused_at e None other = other
 
 -- the program with these declarations and with statements in which each name was replaced, or the place of the first
--- unknown name; before its limits, it is refused for the first misused name and the first wrong length
+-- unknown name; it is refused for the first misused name, then for the first wrong length, and last for a limit
 abbrev pub program_with : List Declared → Option ℕ → Result (StatementList Slot) ℕ → Result Program SourceError
 program_with ds misuse (Err at) = Err (Unknown at)
 program_with ds misuse (Ok body) =

@@ -6,7 +6,7 @@ use Rattle.ft_syntax.specs.Syntax.{Named, Declared, cell, var, array}
 use Rattle.ft_scope.specs.declared.slot.Slot.{Slot}
 use Rattle.ft_scope.specs.declared.slot.Slot.TheVariants.{Cell, Var, Run}
 
--- the name that is declared
+-- the name that a declaration declares
 abbrev pub declared_name : Declared → Named
 declared_name (cell n w) = n
 declared_name (var n) = n
@@ -26,7 +26,7 @@ cell_words (cell n w ∷ ds) = w ∷ cell_words ds
 cell_words (var n ∷ ds) = cell_words ds
 cell_words (array n l at w ∷ ds) = replicate l w ++ cell_words ds
 
--- n places of an array in order, from this one
+-- n places of an array in order, from this one on
 abbrev pub places_from : ℕ → ℕ → List (Option ℕ)
 places_from k zero = []
 places_from k (suc l) = Some k ∷ places_from (k + 1) l
@@ -52,19 +52,19 @@ variable_count (cell n w ∷ ds) = variable_count ds
 variable_count (var n ∷ ds) = variable_count ds + 1
 variable_count (array n l at w ∷ ds) = variable_count ds
 
--- what a name refers to: its first declaration, by its number among the cells or among the variables, of which c and v
--- were declared before
+-- what a name refers to: its first declaration, numbered among the cells or among the variables, of which c and v were
+-- declared before
 abbrev pub found_after : ℕ → ℕ → List Declared → List ℕ → Option Slot
 found_after c v [] text = None
 found_after c v (cell n w ∷ ds) text = cond (bytes_eq n.text text) (Some (Cell c)) (found_after (c + 1) v ds text)
 found_after c v (var n ∷ ds) text = cond (bytes_eq n.text text) (Some (Var v)) (found_after c (v + 1) ds text)
 found_after c v (array n l at w ∷ ds) text = cond (bytes_eq n.text text) (Some (Run c l)) (found_after (c + l) v ds text)
 
--- what a name refers to by these declarations
+-- what a name refers to, given these declarations
 abbrev pub find : List Declared → List ℕ → Option Slot
 find ds text = found_after 0 0 ds text
 
--- a length of an array: 1 to 1,024
+-- whether an array may have this length: 1 to 1,024
 abbrev pub is_length : ℕ → Bool
 is_length l = nat_lt 0 l && nat_lt l 1025
 
@@ -75,18 +75,18 @@ wrong_length (cell n w ∷ ds) = wrong_length ds
 wrong_length (var n ∷ ds) = wrong_length ds
 wrong_length (array n l at w ∷ ds) = cond (is_length l) (wrong_length ds) (Some at)
 
--- the place of the first name that was declared before, as cell or variable
+-- the place of the first name that was declared before
 abbrev pub repeated : List Declared → List Declared → Option ℕ
 repeated before [] = None
 repeated before (d ∷ ds) = cond (is_some (find before (declared_name d).text)) (Some (declared_name d).at) (repeated (before ++ d ∷ []) ds)
 
--- what follows from a result, or the failure itself
+-- the next step after a success, or the failure itself
 infixl 10 ◌>>=◌
 abbrev pub ◌>>=◌ : {A B : Type 0} → Result A ℕ → (A → Result B ℕ) → Result B ℕ
 (Ok x) >>= f = f x
 (Err at) >>= f = Err at
 
--- what was found for a name, or its place
+-- the slot found for a name, or the name's place if none was found
 abbrev pub found : ℕ → Option Slot → Result Slot ℕ
 found at (Some s) = Ok s
 found at None = Err at

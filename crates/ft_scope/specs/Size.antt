@@ -1,4 +1,4 @@
--- How many register pairs a program needs, what it weighs, and that its names exist.
+-- How many register pairs a program needs, what it weighs, and when its names exist.
 use Rattle.std.specs.Prelude.{ℕ, ◌+◌, ◌*◌, ◌<◌, ◌≤◌, max}
 use Rattle.ft_isa.specs.Words.{IsWord}
 use Rattle.ft_syntax.specs.Plain.{Expression, literal, name, indexed, operation, StatementList, none, assign, assign_at, loop, choose}
@@ -16,7 +16,7 @@ need (name n) = 1
 need (indexed n i) = need i
 need (operation o a b) = max (need a) (need b + 1)
 
--- the greatest need of an expression or of an assignment with an index, where the index is kept while the value is
+-- the largest need of an expression, or of an assignment with an index, where the index is kept while the value is
 -- computed; 0 if there is none
 abbrev pub most_need : {N : Type 0} → StatementList N → ℕ
 most_need none = 0
@@ -54,13 +54,13 @@ statements_weight (choose e if_so if_not rest) = expression_weight e + 16 + stat
 abbrev pub whole_weight : ℕ → StatementList Slot → ℕ
 whole_weight vars body = 5 + 2 * vars + statements_weight body
 
--- the cell or the variable exists, with c cells and v variables; a run of cells is neither
+-- a slot is one of c cells or v variables, and not a run
 abbrev pub SlotFits : ℕ → ℕ → Slot → Type 0
 SlotFits c v (Cell k) = k < c
 SlotFits c v (Var x) = x < v
 SlotFits c v (Run f l) = ⊥
 
--- a run of 1 to 1,024 existing cells, with c cells
+-- a slot is a run of 1 to 1,024 existing cells, with c cells in all
 abbrev pub RunFits : ℕ → Slot → Type 0
 RunFits c (Run f l) = (0 < l) × (l ≤ 1024) × (f + l ≤ c)
 RunFits c _ = ⊥

@@ -8,7 +8,7 @@ use ft_isa::NoMemory;
 use itoa::Buffer;
 use std::alloc::{AllocError, Global};
 
-/// A name with a place in square brackets after it.
+/// A name followed by a place in square brackets.
 fn with_place(mut name: Vec<u8>, place: u32) -> Result<Vec<u8>, AllocError>
     ensures { IfOk result (λ v. v.items ≡ cell_name name.items (Some place)) }
 {
@@ -19,7 +19,7 @@ fn with_place(mut name: Vec<u8>, place: u32) -> Result<Vec<u8>, AllocError>
     Ok(name)
 }
 
-/// The name of a cell: the declared name, and for a cell of an array its place there in square brackets.
+/// The name of a cell: the declared name, followed by its place in square brackets if the cell belongs to an array.
 fn cell_name(alloc: Global, text: &[u8], place: Option<u32>) -> Result<Vec<u8>, AllocError>
     ensures { IfOk result (λ v. v.items ≡ cell_name text.now place) }
 {
@@ -30,7 +30,7 @@ fn cell_name(alloc: Global, text: &[u8], place: Option<u32>) -> Result<Vec<u8>, 
     }
 }
 
-/// The names of cells with these declared names and as many places.
+/// The names of cells with these declared names and places, one place for each name.
 fn joined_names(
     alloc: Global,
     texts: &[&[u8]],
@@ -47,8 +47,8 @@ fn joined_names(
 }
 
 impl Prog<'_> {
-    /// The cells' names in order: the declared name, and for a cell of an array its place there in square brackets
-    /// after it. The only error is out of memory.
+    /// The cells' names in order: the declared name, followed by its place in square brackets if the cell belongs to an
+    /// array. The only error is out of memory.
     pub fn cell_names(&self, alloc: Global) -> Result<Vec<Vec<u8>>, NoMemory>
         ensures { IfOk result (λ v. map (λ n. n.items) v.items ≡ (program_of self.now).names) }
     {

@@ -15,8 +15,8 @@ pub fn one_text_has_one_outcome()
     one_text_has_one_answer();
 }
 
-/// In the program of a text the cells have different names, of at most 38 bytes, and as many initial words; each name
-/// in a statement refers to an existing cell or variable; and the program is within the limits.
+/// In a text's program, the cells have different names, of at most 38 bytes, and one initial word each; each name in a
+/// statement refers to an existing cell or variable; and the program is within the limits.
 pub fn programs_are_proper()
     ensures { (text : List ℕ) (p : Program) → IsProgramOf text p → IsProper p }
 {}

@@ -27,7 +27,7 @@ fn exact_measure(all: &[Stmt<Slot>]) -> Measure
     measure_statements(all)
 }
 
-/// The first limit that this many cells and variables and these statements break, if they break one.
+/// Fails with the first limit that this many cells and variables and these statements exceed, if they exceed one.
 pub fn within_limits(cells: u64, vars: usize, body: &[Stmt<Slot>]) -> Result<(), SourceError>
     requires few { vars ≤ 1048576 }
     requires small { statement_nodes (plain_list same_slot body.now) ≤ 1048576 }

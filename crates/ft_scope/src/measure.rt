@@ -6,7 +6,7 @@ ghost use Rattle.ft_scope.specs.Size.{same_slot, slot_weight, need, most_need, e
 use crate::slot::Slot;
 use ft_syntax::{Expr, Stmt};
 
-/// The greatest need of an expression, in register pairs, and the weight. Both saturate at 2^64 - 1.
+/// The largest need of an expression, in register pairs, and the weight. Both saturate at 2^64 - 1.
 #[derive(Clone, Copy)]
 pub struct Measure {
     pub need: u64,
@@ -14,7 +14,7 @@ pub struct Measure {
 }
 
 impl Measure {
-    /// Both parts: the greater need, and the sum of the weights.
+    /// Both parts together: the larger need, and the sum of the weights.
     fn and(self, other: Measure) -> Measure
         ensures need { result.need ≡ max self.need other.need }
         ensures weight { result.weight ≡ min (self.weight + other.weight) (2 ^ 64 - 1) }

@@ -1,4 +1,4 @@
-//! The names that are declared.
+//! The table of declared names.
 ghost use Rattle.std.specs.Prelude.{◌≡◌, ◌<◌, ◌^◌, ◌-◌, ◌++◌, ℕ, List, [], ◌∷◌, Some, None, cond, length, IfOk, OnOk, IfErr, min};
 ghost use Rattle.std.specs.Str.{bytes_eq};
 ghost use Rattle.ft_syntax.specs.Syntax.{Declared, cell, var, array, named, declared, declared_list};
@@ -19,7 +19,7 @@ pub struct Names<'a> {
     pub vars: usize,
 }
 
-/// The slot of the variable of this number; numbers above 255 are never used.
+/// The slot of the variable with this number; numbers above 255 are never used.
 fn variable(number: usize) -> Slot
     ensures { result ≡ Slot.Var (min number 255) }
 {
@@ -34,7 +34,7 @@ fn narrow(number: u64) -> u32
 }
 
 impl<'a> Names<'a> {
-    /// No name.
+    /// An empty table.
     #[tactic(auto, unfolding(crate::specs::Held::look))]
     pub fn new(alloc: Global) -> Names<'a>
         ensures { Holds result [] }
@@ -54,7 +54,7 @@ impl<'a> Names<'a> {
         self.slots.get(text).copied()
     }
 
-    /// Notes what a name refers to, unless the name was declared before.
+    /// Notes what a name refers to, or refuses the name if it was declared before.
     fn name(&mut self, name: Spot<'a>, slot: Slot) -> Result<(), SourceError>
         ensures fresh { OnOk result (look self.old name.entry.text.now ≡ None) }
         ensures noted { OnOk result ((text : List ℕ) → look self.new text ≡ cond (bytes_eq name.entry.text.now text) (Some slot) (look self.old text)) }
@@ -127,7 +127,7 @@ impl<'a> Names<'a> {
     }
 }
 
-/// The names of declarations, none of which is declared twice.
+/// The table of the declared names, or a refusal at the first name that was declared before.
 pub fn declared_names<'a>(alloc: Global, decls: &[Decl<'a>]) -> Result<Names<'a>, SourceError>
     requires { length decls.now < 2 ^ 32 }
     ensures ok { IfOk result (λ n. Holds n (declared_list decls.now)) }

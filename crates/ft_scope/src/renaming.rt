@@ -1,4 +1,4 @@
-//! Each name replaced by what it refers to.
+//! Replaces each name by what it refers to.
 ghost use Rattle.std.specs.Prelude.{◌≡◌, ℕ, None, Some, Ok, IfOk, IfErr, OnOk};
 ghost use Rattle.ft_syntax.specs.Plain.{none, plain_expression, plain_statement, plain_list};
 ghost use Rattle.ft_syntax.specs.Syntax.{named};

@@ -58,11 +58,11 @@ fn resolve_parts<'a>(
 
 /// The program of a tree: each name is replaced by the cell, the array or the variable that it refers to.
 ///
-/// Any other tree is refused with its first refusal, in this order: `Twice` at the first name that was declared before;
-/// `Unknown` at the first name in a statement that is not declared; `Array` at the first name in a statement that is an
-/// array's and has no index, or has one and is not an array's; `Length` at the first length of an array that is 0 or
-/// above 1,024; `Cells`, `Registers` and `Weight` with what is above the limit. No cell is made before these tests. The
-/// tree is consumed in every case.
+/// A tree without a program is refused with its first refusal, in this order: `Twice` at the first name that was
+/// declared before; `Unknown` at the first name in a statement that is not declared; `Array` at the first name in a
+/// statement that is an array's and has no index, or has one and is not an array's; `Length` at the first length of an
+/// array that is 0 or above 1,024; `Cells`, `Registers` and `Weight` with the number that exceeds the limit. No cell is
+/// made before these tests. The tree is consumed in every case.
 pub fn resolve<'a>(alloc: Global, tree: Tree<'a>) -> Result<Prog<'a>, SourceError>
     ensures ok { IfOk result (λ p. resolved (tree_of tree.entry) ≡ Ok (program_of p)) }
     ensures slices { IfOk result (λ p. map (λ r. r.now) p.names.items ≡ cell_texts (tree_of tree.entry).decls) }

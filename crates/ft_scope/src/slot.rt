@@ -8,6 +8,6 @@ pub enum Slot {
     Cell(u32),
     /// A variable.
     Var(u8),
-    /// The cells of an array, `length` of them from `first`.
+    /// The cells of an array, `length` of them from `first` on.
     Run { first: u32, length: u32 },
 }

@@ -1,4 +1,4 @@
--- A line gives a command: some command's text is the line, or none's is.
+-- Each line gives a command: it is the text of some command, or of none.
 use Rattle.std.proofs.Common.{◌≡◌, ◌≢◌, ◌⊎◌, inl, inr, ℕ, ◌<◌, ◌≤◌, Bool, true, false, List, [], ◌∷◌, ◌++◌, length}
 use Rattle.std.proofs.Common.{Option, Some, None, decimal, codes, refl, ap, sym, ◌∙◌, arith}
 use Rattle.std.specs.Prelude.{position}
@@ -24,7 +24,7 @@ use Rattle.ft_script.proofs.Spaces.{decimal_no_space, site_no_space}
 abbrev IsAny : {A : Type 0} → A → Type 0
 IsAny x = Unit {0}
 
--- by what the test says of two texts
+-- cases: what the test says of two texts
 same_at : (line text : List ℕ) (b : Bool) → bytes_eq line text ≡ b → (line ≡ text) ⊎ (line ≢ text)
 same_at line text true e = inl ((bytes_eq-Decides line text).0 e)
 same_at line text false e = inr (λ h. true≢false (sym ((bytes_eq-Decides line text).1 h) ∙ e))
@@ -141,7 +141,7 @@ IsCell line = IsOf IsLineWord (λ name. codes "cell " ++ itself name) line
 abbrev IsBreak : List ℕ → ℕ × ℕ → Type 0
 IsBreak line = IsOf (BothGood IsWord IsWord) (λ p. codes "break " ++ with_space decimal decimal p) line
 
--- a line of no kind spells no command
+-- a line of none of these kinds spells no command
 no_text : (line : List ℕ) → ((n : ℕ) → ¬ (IsCounted (codes "step ") line n)) →
     ((n : ℕ) → ¬ (IsCounted (codes "go ") line n)) → ((n : ℕ) → ¬ (IsCounted (codes "back ") line n)) →
     ((p : Site × ℕ) → ¬ (IsZap line p))
@@ -158,7 +158,7 @@ no_text line s g b z r q n w k commands.Where h = w h
 no_text line s g b z r q n w k (commands.Break block index) h = k (block, index) ((h.0, h.1), h.2)
 no_text line s g b z r q n w k commands.Bad h = h
 
--- the kinds are tried one after the other
+-- the kinds are tried one after another
 by_kinds : (line : List ℕ) → IsDecided (IsCounted (codes "step ") line) → IsDecided (IsCounted (codes "go ") line) →
     IsDecided (IsCounted (codes "back ") line) → IsDecided (IsZap line)
     → IsDecided (IsReg line) → (line ≡ codes "queue") ⊎ (line ≢ codes "queue") → IsDecided (IsCell line) →

@@ -1,4 +1,4 @@
--- A line gives one command.
+-- A line gives only one command.
 use Rattle.std.proofs.Common.{◌≡◌, ◌⊎◌, inl, inr, ⊎_elim, ℕ, ◌^◌, ◌<◌, ◌≤◌, ◌==◌, List, [], ◌∷◌, ◌++◌, Some, decimal}
 use Rattle.std.proofs.Common.{codes, refl, ap, sym, ◌∙◌, lit<, arith}
 use Rattle.std.specs.Prelude.{if◌then◌else◌}
@@ -19,7 +19,7 @@ use Rattle.ft_script.proofs.Spaces.{decimal_no_space, site_no_space}
 
 -- SITES AND REGISTERS
 
--- a text is one site's
+-- a text spells only one site
 one_site : (s t : Site) → IsSite s → IsSite t → site_text s ≡ site_text t → s ≡ t
 one_site s t hs ht e =
     let x : Strike = record { step = 0; site = s; value = 0 } in
@@ -140,7 +140,7 @@ told line (Cell name) h = inl h
 told line Where h = inl h
 told line (Break block index) h = inl h
 
--- a line gives one command
+-- a line gives only one command
 one_command : (line : List ℕ) (c d : Command) → Gives line c → Gives line d → c ≡ d
 one_command line c d h i =
     ⊎_elim
@@ -152,7 +152,7 @@ one_command line c d h i =
     (λ (too : (d ≡ Bad) × ((e : Command) → ¬ (IsText e line))). bad.0 ∙ sym too.0) (told line d i))
     (told line c h)
 
--- lines give one list of commands
+-- lines give only one list of commands
 pub one_list : (lines : List (List ℕ)) (cs ds : List Command) → AllZip Gives lines cs → AllZip Gives lines ds → cs ≡ ds
 one_list [] [] [] h i = refl
 one_list [] [] (d ∷ ds) h i = absurd i

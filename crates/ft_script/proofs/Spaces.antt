@@ -1,4 +1,4 @@
--- What has no space: numbers and sites.
+-- Texts without a space: numbers and sites.
 use Rattle.std.proofs.Common.{◌≡◌, ◌≢◌, ℕ, ◌+◌, ◌%◌, ◌^◌, ◌<◌, List, [], ◌∷◌, ◌++◌, Option, Some, None, decimal, codes}
 use Rattle.std.proofs.Common.{sym, ◌∙◌, arith}
 use Rattle.std.specs.List.{AllByRecursion}
@@ -45,7 +45,7 @@ site_no_space (sites.QVal n) h =
     absurd (omega arith)) (All-cons (λ byte. byte ≢ 32) 118 (decimal n) (λ is.
     absurd (omega arith)) (decimal_no_space n (omega arith)))
 
--- no number was read, so the text is none
+-- if no number was read, the text is not a number
 pub no_number : (text : List ℕ) (r : Option ℕ) → r ≡ None → ((n : ℕ) → IsNumberText text n → r ≡ Some n) → (n : ℕ) →
     IsWord n → text ≢ decimal n
 no_number text r is exact n word e = let none : None ≡ Some n = sym is ∙ exact n (word, e) in absurd (cc)

@@ -1,4 +1,4 @@
--- The commands of a debugger session, each by the line that spells it.
+-- The commands of a debugger session, each with the line that spells it.
 use Rattle.std.specs.Prelude.{◌≡◌, ◌≢◌, ℕ, ◌<◌, ◌≤◌, List, ◌++◌, length, decimal, codes, All}
 use Rattle.std.specs.List.{AllZip}
 use Rattle.ft_isa.specs.Words.{IsWord}
@@ -11,9 +11,9 @@ use Rattle.ft_script.specs.declared.register.Register.TheVariants as registers
 
 -- the command of a line
 pub data Command : Type 0 where
-  -- n steps, up to the stop
+  -- n steps, or fewer if the machine stops
   Step : ℕ → Command
-  -- n steps, up to the stop or a breakpoint
+  -- n steps, or fewer if the machine stops or comes to a breakpoint
   Go : ℕ → Command
   -- n steps back
   Back : ℕ → Command
@@ -23,7 +23,7 @@ pub data Command : Type 0 where
   Reg : Register → Command
   -- the pending stores
   Queue : Command
-  -- the word of the cell of this name
+  -- the word of the cell with this name
   Cell : List ℕ → Command
   -- where the machine is
   Where : Command
@@ -65,11 +65,11 @@ IsText Where line = line ≡ codes "where"
 IsText (Break block index) line = IsWord block × IsWord index × (line ≡ codes "break " ++ decimal block ++ codes " " ++ decimal index)
 IsText Bad line = ⊥
 
--- the line is read as the command: it spells it, or it spells no command and is a bad command
+-- how a line is read: as the command that it spells, or as a bad command if it spells none
 abbrev pub Gives : List ℕ → Command → Type 0
 Gives line Bad = (command : Command) → ¬ (IsText command line)
 Gives line command = IsText command line
 
--- the lines of a script give these commands, one each
+-- the lines of a script give these commands, one for each line
 abbrev pub AreCommands : List ℕ → List Command → Type 0
 AreCommands script commands = AllZip Gives (lines_of script) commands

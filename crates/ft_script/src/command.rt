@@ -5,9 +5,9 @@ use ft_isa::Site;
 /// The command of a line.
 #[derive(Clone, Copy)]
 pub enum Command<'s> {
-    /// Takes this many steps, up to the stop.
+    /// Takes this many steps, or fewer if the machine stops.
     Step(u64),
-    /// Takes this many steps, up to the stop or a breakpoint.
+    /// Takes this many steps, or fewer if the machine stops or comes to a breakpoint.
     Go(u64),
     /// Goes back this many steps.
     Back(u64),
@@ -17,7 +17,7 @@ pub enum Command<'s> {
     Reg(Register),
     /// Shows the pending stores.
     Queue,
-    /// Shows the cell of a name.
+    /// Shows the cell with this name.
     Cell(&'s [u8]),
     /// Shows where the machine is.
     Where,

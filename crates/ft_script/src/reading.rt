@@ -44,7 +44,7 @@ fn read_zap(line: &[u8]) -> Option<(Site, u64)>
     Some((site, value))
 }
 
-/// The register that is to be shown.
+/// The register to show.
 fn read_reg(line: &[u8]) -> Option<Register>
     ensures some { IfSome result (λ r. line.now ≡ codes "reg " ++ register_text r) }
     ensures none { IfNone result ((r : register.Register) → line.now ≢ codes "reg " ++ register_text r) }
@@ -55,7 +55,7 @@ fn read_reg(line: &[u8]) -> Option<Register>
     }
 }
 
-/// The name of the cell that is to be shown.
+/// The name of the cell to show.
 fn read_cell(line: &[u8]) -> Option<&[u8]>
     ensures some { IfSome result (λ name. IsLineWord name.now × (line.now ≡ codes "cell " ++ name.now)) }
     ensures none { IfNone result ((name : List ℕ) → IsLineWord name → line.now ≢ codes "cell " ++ name) }

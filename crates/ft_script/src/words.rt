@@ -27,7 +27,7 @@ pub fn is_line_word(text: &[u8]) -> bool
     }
 }
 
-/// A number of steps: a number text of at most 1,000,000.
+/// A number of steps, at most 1,000,000.
 pub fn read_count(text: &[u8]) -> Option<u64>
     ensures some { IfSome result (λ n. IsCount n × (text.now ≡ decimal n)) }
     ensures none { IfNone result ((n : ℕ) → IsCount n → text.now ≢ decimal n) }

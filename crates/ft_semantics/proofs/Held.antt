@@ -6,7 +6,7 @@ use Rattle.ft_isa.specs.declared.colour.Coloured.{Coloured}
 use Rattle.ft_types.proofs.Maps.{get-insert}
 use Rattle.ft_semantics.specs.State.{Registers, held, with_held, green_zero}
 
--- what a register holds after one is written
+-- what register q holds after register r is written
 pub held-with_held : (m : Registers) (r : ℕ) (x : Coloured) (q : ℕ) → held (with_held m r x) q
     ≡ cond (q == r) x (held m q)
 unfolding held

@@ -22,19 +22,19 @@ HasStopped Running = ⊥
 HasStopped Done = Unit {0}
 HasStopped Detected = Unit {0}
 
--- a status that is not running is a stop
+-- a machine whose status is not Running has stopped
 pub stop_of : (v : Status) → ¬ (v ≡ Running) → HasStopped v
 stop_of Running h = absurd (h refl)
 stop_of Done h = tt
 stop_of Detected h = tt
 
--- a step of a machine that has stopped
+-- a step of a stopped machine changes nothing
 pub stays_at : (o : Object) (v : Status) (s : State) (w : List Wild) → HasStopped v → step_at o v s w ≡ quiet s w
 stays_at o Running s w h = absurd h
 stays_at o Done s w h = refl
 stays_at o Detected s w h = refl
 
--- is not running
+-- a stopped machine is not running
 pub is_not_running : (v : Status) → HasStopped v → is_running v ≡ false
 is_not_running Running h = absurd h
 is_not_running Done h = refl
@@ -44,7 +44,7 @@ same_if : (b : Bool) (s t : State) → t ≡ s → (if b then t else s) ≡ s
 same_if true s t h = h
 same_if false s t h = refl
 
--- a strike leaves a machine that has stopped
+-- a strike does not change a stopped machine
 struck-stopped : (strike : Option Strike) (k : ℕ) (s : State) → HasStopped s.status → struck_before strike k s ≡ s
 struck-stopped None k s h = refl
 struck-stopped (Some x) k s h =
@@ -68,16 +68,16 @@ module _ (o : Object) (strike : Option Strike) (w : List Wild) where
   unfolding run
   stops k h = after_step-stopped o strike k (run o strike w k) h
 
-  -- a run that has stopped stays
+  -- a run that has stopped stays as it is
   pub run_stays : (n m : ℕ) → n ≤ m → HasStopped (status_after o strike w n) → run o strike w m ≡ run o strike w n
   run_stays = stays (run o strike w) Stopped stops
 
-  -- two stops are one
+  -- a run that has stopped after n steps and after m steps is the same after both
   pub run_stops_once : (n m : ℕ) → HasStopped (status_after o strike w n) → HasStopped (status_after o strike w m)
       → run o strike w n ≡ run o strike w m
   run_stops_once = ends_once (run o strike w) Stopped stops
 
-  -- if a run is running, it has not stopped before
+  -- if a run has not stopped after n steps but has after m, n is less than m
   pub run_goes_on : (n m : ℕ) → (HasStopped (status_after o strike w n) → ⊥) → HasStopped (status_after o strike w m)
       → n < m
   run_goes_on = goes_on (run o strike w) Stopped stops

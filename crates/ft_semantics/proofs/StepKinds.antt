@@ -1,4 +1,5 @@
--- A claim about each step, by the few kinds of steps that there are: no claim has to go by all instructions again.
+-- Proves a claim about every step from the few kinds of steps, so that no such proof goes through all instructions
+-- again.
 use Rattle.std.proofs.Common.{◌≡◌, ℕ, ◌==◌, nat_lt, Bool, true, false, not, ◌&&◌, if◌then◌else◌, List, [], ◌∷◌, ◌++◌}
 use Rattle.std.proofs.Common.{length, Option, Some, None, ap, refl}
 use Rattle.ft_isa.specs.declared.colour.Colour.{Colour}
@@ -15,15 +16,15 @@ use Rattle.ft_semantics.specs.Step.{transfers, found, load, commit, commits, jum
 use Rattle.ft_types.specs.declared.object.Object.{Object}
 use Rattle.ft_types.specs.Objects.{instr_at}
 
--- P is claimed of a step as a function of the answers to wild loads. It has to hold of a step without an output, to any
--- state with the same cells; of a commit; and, for each instruction, of its load, if it is one.
+-- P is the claim about a step, taken as a function of the answers to wild loads. It must hold for a step without an
+-- output to any state with the same cells, for a commit, and for the load of each instruction that is a load.
 module _ (s : State) (P : (List Wild → Stepping) → Type 0) (quiets : (t : State) → t.cells ≡ s.cells →
     P (quiet t)) (committed : (a v : ℕ) → commits a v s ≡ true → P (commit a v s)) where
   by_test : (b : Bool) (x y : List Wild → Stepping) → (b ≡ true → P x) → P y → P (λ w. if b then x w else y w)
   by_test true x y p q = p refl
   by_test false x y p q = q
 
-  -- a step without an output, if a test holds
+  -- a step that has no output if a test holds, and otherwise goes to Detected
   checked : (b : Bool) (t : State) → t.cells ≡ s.cells → P (λ w. if b then quiet t w else detected s w)
   checked b t e = by_test b (quiet t) (detected s) (λ _. quiets t e) (quiets _ refl)
 

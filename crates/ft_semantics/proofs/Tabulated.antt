@@ -7,15 +7,15 @@ use Rattle.ft_isa.specs.Words.{cell_address}
 use Rattle.ft_types.proofs.Maps.{get-insert}
 use Rattle.ft_semantics.specs.State.{tabulate}
 
--- keys that determine their numbers
+-- different numbers have different keys
 abbrev pub Tells : (ℕ → ℕ) → Type 0
 Tells key = (i j : ℕ) → (key i == key j) ≡ (i == j)
 
--- a cell's address determines its number
+-- different cells have different addresses
 pub cells_tell : Tells cell_address
 cells_tell i j = grind (arith, nat_tests)
 
--- the value at a key that is there
+-- the value at the key of entry k
 pub tabulated : {X : Type 0} (n : ℕ) (key : ℕ → ℕ) → Tells key → (f : ℕ → X) (k : ℕ) → k < n →
     get (tabulate n key f) (key k) ≡ Some (f k)
 unfolding tabulate
@@ -32,7 +32,7 @@ tabulated (suc n) key tells f k h =
     below : (k n : ℕ) → k < suc n → (k ≡ n → ⊥) → k < n
     below k n h apart = omega arith
 
--- no value at a key that no number has
+-- a key that belongs to no entry has no value
 pub untabulated : {X : Type 0} (n : ℕ) (key : ℕ → ℕ) (f : ℕ → X) (q : ℕ) → ((i : ℕ) → i < n → (q == key i) ≡ false) →
     get (tabulate n key f) q ≡ None
 unfolding tabulate

@@ -1,4 +1,4 @@
--- Runs under a plan, which has a strike or none, and the answers to wild loads.
+-- Runs under a plan, which holds at most one strike and the answers to wild loads.
 use Rattle.std.specs.Prelude.{◌≡◌, ℕ, zero, suc, ◌+◌, Bool, ◌&&◌, nat_lt, false, List, [], ◌++◌, Option, Some, None}
 use Rattle.std.proofs.Common.{refl, add-one}
 use Rattle.std.specs.Option.{option_to_list}

@@ -33,7 +33,7 @@ green_zero = record { colour = Green; word = 0 }
 unfoldable pub held : Registers → ℕ → Coloured
 held m r = unwrap_or (map.get m r) green_zero
 
--- the registers with another word and colour in register r
+-- the registers with this colour and word in register r
 abbrev pub with_held : Registers → ℕ → Coloured → Registers
 with_held m r x = map.insert m r x
 
@@ -45,11 +45,12 @@ cell_at m a = map.get m a
 abbrev pub is_cell : Cells → ℕ → Bool
 is_cell m a = is_some (cell_at m a)
 
--- the cells with another word at an address
+-- the cells with this word at an address
 abbrev pub with_cell : Cells → ℕ → ℕ → Cells
 with_cell m a v = map.insert m a v
 
--- a state: the registers, d, the two program counters, the store queue, the cells, what is fetched, and the status
+-- a state: the registers, d, the two program counters, the store queue, the cells, the fetched instruction if any, and
+-- the status
 pub record State : Type 0 where
   pub registers : Registers
   pub d : ℕ
@@ -60,7 +61,7 @@ pub record State : Type 0 where
   pub fetched : Option Instr
   pub status : Status
 
--- what a register of the state holds, its word and its colour
+-- what a register of the state holds; its word alone, and its colour alone
 abbrev pub register : State → Reg → Coloured
 register s r = held s.registers r.number
 
@@ -70,7 +71,7 @@ word s r = (register s r).word
 abbrev pub colour : State → Reg → Colour
 colour s r = (register s r).colour
 
--- the map with n entries, where entry i has this key and this value
+-- the map after n insertions: number i, from 0, inserts the value of i at the key of i
 unfoldable pub tabulate : {X : Type 0} → ℕ → (ℕ → ℕ) → (ℕ → X) → FinMap nat_cmp X
 tabulate zero key value = map.empty
 tabulate (suc n) key value = map.insert (tabulate n key value) (key n) (value n)
@@ -96,6 +97,6 @@ start o = record {
   status = Running;
 }
 
--- the state's cells are those of an object with n cells
+-- the state's cells are at exactly the addresses of cells 0 to n - 1
 abbrev pub HasCells : ℕ → State → Type 0
 HasCells n s = (a : ℕ) → is_cell s.cells a ≡ (nat_le (cell_address 0) a && nat_lt a (cell_address n))

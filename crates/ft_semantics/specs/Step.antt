@@ -1,5 +1,5 @@
--- One step of the machine, by an equation for each row of the table of steps; and that table, row by row: for each row
--- what is fetched, the condition, and the effect.
+-- One step of the machine, defined as a function; and the table of steps, row by row: what is fetched, the condition,
+-- and the effect.
 use Rattle.std.specs.Prelude.{ℕ, ◌+◌, ◌%◌, ◌^◌, Bool, ◌&&◌, not, ◌==◌, nat_lt, if◌then◌else◌, List, [], ◌∷◌, ◌++◌, length, drop, Option, Some, None, ◌≡◌, nat_le, is_some, filter_map, ◌⊎◌}
 use Rattle.std.specs.Option.{option_or, unwrap_or}
 use Rattle.ft_isa.specs.declared.colour.Colour.{Colour}
@@ -19,7 +19,7 @@ use Rattle.ft_types.specs.declared.object.Object.{Object}
 use Rattle.ft_types.specs.Objects.{instr_at}
 use Rattle.ft_semantics.specs.State.{State, word, colour, with_held, cell_at, is_cell, with_cell, Cells}
 
--- the result of a step: the state after it, the answers left to wild loads, and its output
+-- the result of a step: the state after it, the remaining answers to wild loads, and its output
 pub record Stepping : Type 0 where
   pub state : State
   pub wild : List Wild
@@ -53,12 +53,12 @@ put r x s = record s { registers = with_held s.registers r.number x }
 abbrev pub writes : Reg → Colour → ℕ → State → List Wild → Stepping
 writes rd c v s w = quiet (goes_on (put rd (record { colour = c; word = v }) s)) w
 
--- an instruction that was looked up is fetched; if there is none, the status becomes Detected
+-- the instruction that a look-up found is fetched; if it found none, the status becomes Detected
 abbrev pub fetch : Option Instr → State → List Wild → Stepping
 fetch (Some i) s w = quiet (record s { fetched = Some i }) w
 fetch None s w = detected s w
 
--- what a load finds without the plan: green looks at the pending stores first, and blue only at the cells
+-- what a load finds without the plan: green looks at the pending stores first, blue only at the cells
 abbrev pub found : Colour → State → ℕ → Option ℕ
 found Green s a = option_or (newest_at s.queue a) (cell_at s.cells a)
 found Blue s a = cell_at s.cells a
@@ -81,7 +81,7 @@ store_green a v s w =
     then quiet (goes_on (record s { queue = s.queue ++ (a, v) ∷ [] })) w
     else detected s w
 
--- the oldest entry leaves, its cell gets its value, and the pair is the output
+-- the oldest entry leaves the queue, its cell gets its value, and the pair is the output
 abbrev pub commit : ℕ → ℕ → State → List Wild → Stepping
 commit a v s w = record {
   state = goes_on (record s { queue = drop 1 s.queue; cells = with_cell s.cells a v });
@@ -93,11 +93,11 @@ commit a v s w = record {
 abbrev pub commits : ℕ → ℕ → State → Bool
 commits a v s = is_oldest s.queue a v && is_cell s.cells a
 
--- a blue store commits the oldest entry, if that is its own pair and goes to a cell
+-- a blue store commits the oldest entry, if that is the store's own pair and its address is a cell's
 abbrev pub store_blue : ℕ → ℕ → State → List Wild → Stepping
 store_blue a v s w = if commits a v s then commit a v s w else detected s w
 
--- a store by its colour
+-- a store of either colour
 abbrev pub store : Colour → ℕ → ℕ → State → List Wild → Stepping
 store Green a v s w = store_green a v s w
 store Blue a v s w = store_blue a v s w
@@ -145,7 +145,7 @@ step o s w = step_at o s.status s w
 
 -- THE TABLE
 
--- a row: its step, by what is fetched; if the row does not apply, there is none
+-- a row: the step that it gives for what is fetched, or none if it does not apply
 abbrev pub Row : Type 0
 Row = Option Instr → Object → State → List Wild → Option Stepping
 
@@ -161,11 +161,11 @@ is_code o a = is_some (instr_at o a)
 abbrev pub is_pending : Pending → ℕ → Bool
 is_pending queue a = is_some (newest_at queue a)
 
--- the value of the newest entry with an address that is pending
+-- the value of the newest pending entry with an address
 abbrev pub pending_value : Pending → ℕ → ℕ
 pending_value queue a = unwrap_or (newest_at queue a) 0
 
--- the word of the cell at a cell's address
+-- the word of the cell at an address
 abbrev pub cell_word : Cells → ℕ → ℕ
 cell_word cells a = unwrap_or (cell_at cells a) 0
 
@@ -215,12 +215,12 @@ abbrev pub load_blue_cell_row : Row
 load_blue_cell_row (Some (Ld Blue rd rs)) o s w = given (is_cell s.cells (word s rs)) (writes rd Blue (cell_word s.cells (word s rs)) s w)
 load_blue_cell_row other o s w = None
 
--- ld_c rd, rs | none of the above: a wild load; the plan's next answer is a word w | rd gets c and w; goes on
+-- ld_c rd, rs | none of the above (a wild load), and the plan's next answer is a word w | rd gets c and w; goes on
 abbrev pub load_wild_word_row : Row
 load_wild_word_row (Some (Ld c rd rs)) o s (Word v ∷ w) = given (is_wild c s (word s rs)) (writes rd c v s w)
 load_wild_word_row other o s w = None
 
--- ld_c rd, rs | a wild load; the plan's next answer is a stop or nothing is left | Detected
+-- ld_c rd, rs | a wild load, and the plan's next answer is a stop or none is left | Detected
 abbrev pub load_wild_stop_row : Row
 load_wild_stop_row (Some (Ld c rd rs)) o s (Stop ∷ w) = given (is_wild c s (word s rs)) (detected s w)
 load_wild_stop_row (Some (Ld c rd rs)) o s [] = given (is_wild c s (word s rs)) (detected s [])
@@ -232,17 +232,18 @@ store_green_row (Some (St Green rd rs)) o s w =
     given (nat_lt (length s.queue) 8) (quiet (goes_on (record s { queue = s.queue ++ (word s rd, word s rs) ∷ [] })) w)
 store_green_row other o s w = None
 
--- st_G rd, rs | 8 entries (here: 8 or more, since a state may have any list) | Detected
+-- st_G rd, rs | 8 entries or more (a state's queue may have any length) | Detected
 abbrev pub store_green_full_row : Row
 store_green_full_row (Some (St Green rd rs)) o s w = given (nat_le 8 (length s.queue)) (detected s w)
 store_green_full_row other o s w = None
 
--- st_B rd, rs | the oldest entry is (rd, rs), and rd is a cell's address | the entry leaves, the cell's word becomes rs, the pair is the step's output; goes on
+-- st_B rd, rs | the oldest entry is (rd, rs), and rd is a cell's address | the entry leaves, the cell's word becomes
+-- rs, the pair is the step's output; goes on
 abbrev pub store_blue_row : Row
 store_blue_row (Some (St Blue rd rs)) o s w = given (is_oldest s.queue (word s rd) (word s rs) && is_cell s.cells (word s rd)) (commit (word s rd) (word s rs) s w)
 store_blue_row other o s w = None
 
--- st_B rd, rs | otherwise (an empty queue too) | Detected
+-- st_B rd, rs | otherwise, including an empty queue | Detected
 abbrev pub store_blue_otherwise_row : Row
 store_blue_otherwise_row (Some (St Blue rd rs)) o s w = given (not (is_oldest s.queue (word s rd) (word s rs) && is_cell s.cells (word s rd))) (detected s w)
 store_blue_otherwise_row other o s w = None
@@ -328,7 +329,7 @@ steps_table =
     ∷ branch_blue_row ∷ branch_blue_passes_row ∷ branch_blue_otherwise_row
     ∷ halt_row ∷ index_row ∷ []
 
--- the steps that the table's rows give here
+-- the steps that the rows of the table give here
 abbrev pub given_steps : Option Instr → Object → State → List Wild → List Stepping
 given_steps fetched o s w = filter_map (λ row. row fetched o s w) steps_table
 
@@ -336,6 +337,6 @@ given_steps fetched o s w = filter_map (λ row. row fetched o s w) steps_table
 abbrev pub IsTheTable : Object → State → List Wild → Type 0
 IsTheTable o s w = given_steps s.fetched o s w ≡ step o s w ∷ []
 
--- a machine that is Done or Detected does not change, takes no answer and has no output
+-- the machine is Done or Detected
 abbrev pub IsStopped : State → Type 0
 IsStopped s = (s.status ≡ Done) ⊎ (s.status ≡ Detected)

@@ -1,4 +1,4 @@
--- Faults.
+-- Faults: which sites exist, and what a strike changes.
 use Rattle.std.specs.Prelude.{ℕ, Bool, true, false, ◌&&◌, ◌==◌, nat_lt, if◌then◌else◌, length, Option, Some, None}
 use Rattle.ft_isa.specs.declared.plan.Site.{Site}
 use Rattle.ft_isa.specs.declared.plan.Site.TheVariants.{R, D, PcG, PcB, QAddr, QVal}
@@ -9,7 +9,7 @@ use Rattle.ft_semantics.specs.declared.status.Status.TheVariants.{Running, Done,
 use Rattle.ft_semantics.specs.State.{State, colour}
 use Rattle.ft_semantics.specs.Step.{put}
 
--- whether a machine takes steps
+-- whether a machine with this status takes steps
 abbrev pub is_running : Status → Bool
 is_running Running = true
 is_running Done = false
@@ -24,11 +24,11 @@ is_site PcB entries = true
 is_site (QAddr i) entries = nat_lt i entries
 is_site (QVal i) entries = nat_lt i entries
 
--- the machine runs, and the site exists
+-- the machine is running, and the site exists
 abbrev pub is_there : State → Site → Bool
 is_there s site = is_running s.status && is_site site (length s.queue)
 
--- the state with another word at an existing site; every colour stays
+-- the state with this word at an existing site; no colour changes
 abbrev pub with_word : Site → ℕ → State → State
 with_word (R r) v s = put r (record { colour = colour s r; word = v }) s
 with_word D v s = record s { d = v }
@@ -41,7 +41,7 @@ with_word (QVal i) v s = record s { queue = with_value s.queue i v }
 abbrev pub struck_state : State → Site → ℕ → State
 struck_state s site v = if is_there s site then with_word site v s else s
 
--- the state in which step k is taken: struck first if the plan strikes at k
+-- the state from which step k is taken, struck first if the plan strikes at k
 abbrev pub struck_before : Option Strike → ℕ → State → State
 struck_before None k s = s
 struck_before (Some strike) k s = if strike.step == k then struck_state s strike.site strike.value else s

@@ -7,8 +7,8 @@ ghost use Rattle.ft_semantics.specs.declared.status.Status.TheVariants.{Running}
 ghost use Rattle.ft_semantics.specs.State.{State};
 ghost use Rattle.ft_semantics.specs.Step.{step, quiet, IsTheTable, IsStopped};
 
-/// The step of a running machine is the table of steps: whatever the object, the state and the
-/// answers left to wild loads, exactly one row of the table applies, and the step is that row's.
+/// The step of a running machine agrees with the table of steps: for every object, state and remaining answers to wild
+/// loads, exactly one row of the table applies, and the step is that row's.
 pub fn steps_are_the_table()
     ensures { (o : Object) (s : State) (w : List Wild) → s.status ≡ Running → IsTheTable o s w }
 {}

@@ -1,9 +1,9 @@
 //! What the machine does, as definitions: states, steps, strikes and runs.
 //!
-//! The crate promises that the machine's step is the table of steps, one row for each kind of instruction,
-//! and that a stopped machine does not change. Its definitions: states (`specs/State.antt`), steps and the
-//! same as a table of rows (`specs/Step.antt`), strikes and runs (`specs/Strike.antt`, `specs/Run.antt`),
-//! and when one run agrees with another (`specs/Agrees.antt`).
+//! The crate promises that in every running state exactly one row of the table of steps applies and gives the machine's
+//! step, and that a stopped machine does not change. Its definitions: states (`specs/State.antt`), steps, also as a
+//! table of rows (`specs/Step.antt`), strikes and runs (`specs/Strike.antt`, `specs/Run.antt`), and when one run agrees
+//! with another (`specs/Agrees.antt`).
 #![tactic(auto)]
 
 mod laws;

@@ -1,12 +1,12 @@
 //! A machine's status.
 
-/// The machine's status. One that is not running takes no more steps.
+/// The machine's status. A machine that is not running takes no more steps.
 #[derive(Clone, Copy, Debug, PartialEq, Eq)]
 pub enum Status {
     /// The machine takes steps.
     Running,
-    /// The machine came to its end.
+    /// The machine has executed `halt`.
     Done,
-    /// The machine noticed a fault and stopped.
+    /// The machine has noticed a fault and stopped.
     Detected,
 }

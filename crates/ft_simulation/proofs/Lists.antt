@@ -1,7 +1,7 @@
--- When one list begins another.
+-- Prefixes of lists.
 use Rattle.std.proofs.Common.{◌≡◌, List, [], ◌++◌, sym, ap, ◌∙◌, append-nil, append_assoc}
 
--- one list is a prefix of the other
+-- the first list is a prefix of the second
 abbrev pub Begins : {A : Type 0} → List A → List A → Type 0
 Begins {A} a b = (rest : List A) × (a ++ rest ≡ b)
 

@@ -1,12 +1,12 @@
 -- Machines that take steps: stretches of steps, and machines that follow others.
 use Rattle.std.proofs.Common.{◌≡◌, ℕ, zero, suc, ◌+◌, refl, sym, ap, ◌∙◌, subst, zero-add, suc-add}
 
--- n steps, the first one first
+-- n steps in a row
 abbrev pub iterate : {S : Type 0} → (S → S) → ℕ → S → S
 iterate step zero s = s
 iterate step (suc k) s = iterate step k (step s)
 
--- the first step may be taken last
+-- the additional step may be taken last
 pub iterate_last : {S : Type 0} (step : S → S) (k : ℕ) (s : S) → iterate step (suc k) s ≡ step (iterate step k s)
 iterate_last step zero s = refl
 iterate_last step (suc k) s = iterate_last step k (step s)
@@ -21,17 +21,17 @@ iterate_on step (suc j) k s = ap (λ m. iterate step m s) (suc-add j k) ∙ iter
 pub record Leads {S : Type 0} (step : S → S) (j : ℕ) (s t : S) : Type 0 where
   pub is : iterate step j s ≡ t
 
--- stretches in a row
+-- consecutive stretches join
 pub lead_on : {S : Type 0} (step : S → S) (i j : ℕ) (s t u : S) → Leads step i s t → Leads step j t u →
     Leads step (i + j) s u
 lead_on step i j s t u p q = record { is = iterate_on step i j s ∙ ap (iterate step j) p.is ∙ q.is }
 
--- the cost of k steps, each with its own
+-- the cost of k steps, each of which has a cost of its own
 abbrev pub cost : {S : Type 0} → (S → S) → (S → ℕ) → ℕ → S → ℕ
 cost step each zero s = 0
 cost step each (suc k) s = each s + cost step each k (step s)
 
--- if one machine takes some steps, or none, for each step of another and comes to a related state, it does so for any
+-- if for each step of one machine another takes some steps, or none, and reaches a related state, it does so for any
 -- number of steps
 pub follows : {S T : Type 0} (f : S → S) (each : S → ℕ) (g : T → T) (R : S → T → Type 0) →
     ((s : S) (t : T) → R s t → R (f s) (iterate g (each s) t)) → (k : ℕ) (s : S) (t : T) → R s t →

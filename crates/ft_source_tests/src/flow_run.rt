@@ -23,14 +23,14 @@ fn word_at(words: &[u64], at: usize) -> u64 {
     }
 }
 
-/// Puts a word at a place, if there is one.
+/// Puts a word at a place, if that place exists.
 fn set(words: &mut Vec<u64>, at: usize, word: u64) {
     if at < words.len() {
         words[at] = word;
     }
 }
 
-/// The cell that a word selects among `length` cells from the first.
+/// The cell that a word selects among `length` cells from number `first` on.
 fn cell_of_run(first: u32, length: u32, word: u64) -> u32 {
     if length == 0 {
         return first;
@@ -67,7 +67,7 @@ impl FlowRun {
         set(&mut self.pairs, usize::from(p), word);
     }
 
-    /// Goes on to the first step of a block.
+    /// Goes to the first step of a block.
     fn go(&mut self, to: u32) {
         self.block = to as usize;
         self.index = 0;
@@ -127,7 +127,7 @@ impl FlowRun {
         Ok(())
     }
 
-    /// Runs at most `limit` steps, up to the end.
+    /// Runs at most `limit` steps, until the run is done.
     pub fn run(&mut self, flow: &Flow, limit: usize) -> Result<(), Fail> {
         for _ in 0..limit {
             if self.done {

@@ -1,4 +1,4 @@
-//! Texts that are refused for their names and limits, and the cells of arrays.
+//! Texts refused for their names and limits, and the cells of arrays.
 use ft_scope::{Slot, resolve};
 use ft_syntax::{Expr, SourceError, Stmt, parse};
 use std::alloc::Global;

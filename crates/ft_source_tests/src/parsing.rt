@@ -1,4 +1,4 @@
-//! Texts that are refused at a place, and texts that are trees.
+//! Texts that are refused at a place, and texts that parse.
 use ft_isa::Op;
 use ft_syntax::{Expr, SourceError, Stmt, parse};
 use std::alloc::Global;
@@ -12,7 +12,7 @@ fn refusal(alloc: Global, text: &[u8]) -> Option<SourceError> {
     }
 }
 
-/// The refusal of a text that is not a program from this byte.
+/// The refusal of a text that cannot be a program from this byte on.
 fn syntax(at: usize) -> Option<SourceError> {
     Some(SourceError::Syntax { at })
 }

@@ -1,4 +1,4 @@
--- Proofs by the cases of a comparison and of a test.
+-- Proofs by cases on a comparison or a test.
 use Rattle.std.proofs.Common.{◌≡◌, Bool, true, false, if◌then◌else◌, refl}
 use Rattle.std.specs.declared.cmp.Ordering.{Ordering}
 use Rattle.std.specs.declared.cmp.Ordering.TheVariants.{Less, Equal, Greater}

@@ -1,4 +1,4 @@
--- A sum has at each monomial the sum of the coefficients, and a product the sum of the products of coefficients.
+-- At each monomial, a sum has the sum of the coefficients, and a product the sum of the products of coefficients.
 use Rattle.std.proofs.Common.{ℕ, ◌≡◌, ◌+◌, ◌*◌, ◌%◌, ◌^◌, ◌<◌, ◌≤◌, ◌==◌, refl, sym, ap, ◌∙◌, subst, arith, lit<}
 use Rattle.std.proofs.Common.{zero-add}
 use Rattle.std.proofs.Math.Nat.{mod-lt, mod-eq_of_lt, add-zero, add-mod-mod, mod-add-mod}
@@ -31,7 +31,7 @@ coefficient_is_word k nought h = lit< tt
 coefficient_is_word k (plus n d p) h = by_cases (λ t. t < 2 ^ 64) (cmp_monomial k n) (coefficient k p) d
     (coefficient k p) (λ e. coefficient_is_word k p h.5) (λ e. h.3) (λ e. coefficient_is_word k p h.5)
 
--- the coefficients if a term is put first
+-- the coefficients after a term is put first
 coefficient_led : (k m : Monomial) (c : ℕ) (p : Polynomial) → c < 2 ^ 64 → Below m p → IsProper p →
     coefficient k (led_by m c p) ≡ (share k m c + coefficient k p) % 2 ^ 64
 coefficient_led k m c p l b w = if_cases (λ q. coefficient k q ≡ (share k m c + coefficient k p) % 2 ^ 64) (c == 0) p
@@ -45,7 +45,7 @@ coefficient_led k m c p l b w = if_cases (λ q. coefficient k q ≡ (share k m c
     rw (o, z, add-zero) (sym (mod-eq_of_lt l)))
     (λ o. rw (o, zero-add) (sym (mod-eq_of_lt (coefficient_is_word k p w)))))
 
--- the coefficients if a term is added
+-- the coefficients after a term is added
 coefficient_add_term : (k m : Monomial) (c : ℕ) (p : Polynomial) → c < 2 ^ 64 → IsProper p →
     coefficient k (add_term m c p) ≡ (share k m c + coefficient k p) % 2 ^ 64
 coefficient_add_term k m c nought l w = coefficient_led k m c nought l tt tt
@@ -86,20 +86,20 @@ coefficient_total k (plus m c p) q h w = coefficient_total k p (add_term m c q) 
     ∙ ap (λ t. t % 2 ^ 64) (let s : coefficient k p + share k m c ≡ coefficient k (plus m c p) = split_off k m c p h in
     omega arith)))
 
--- what a term gives, taken modulo 2^64
+-- what a term contributes, modulo 2^64
 share_modulo : (k m : Monomial) (c : ℕ) → share k m (c % 2 ^ 64) ≡ share k m c % 2 ^ 64
 share_modulo k m c = order_split _ (cmp_monomial k m) (λ o. rw o refl) (λ o. rw o refl) (λ o. rw o refl)
 
--- three numbers are added in another order
+-- adding three numbers in another order, modulo w
 shares : (w x y z : ℕ) → (x + (y % w + z) % w) % w ≡ (y + x + z) % w
 shares w x y z = rw (add-mod-mod x (y % w + z) w) (let e : x + (y % w + z) ≡ y % w + (x + z) = omega arith in
     rw (e, mod-add-mod y w (x + z)) (ap (λ t. t % w) (omega arith)))
 
--- and so are these
+-- likewise, with one fewer remainder taken
 more_shares : (w x y z : ℕ) → (x + (y + z) % w) % w ≡ (y + x + z) % w
 more_shares w x y z = rw (add-mod-mod x (y + z) w) (ap (λ t. t % w) (omega arith))
 
--- the coefficients if the products with one term are added
+-- the coefficients after the products with one term are added
 coefficient_multiple : (k m : Monomial) (c : ℕ) (q r : Polynomial) → IsProperMonomial m → factors m + degree q ≤ 4 →
     IsProper q → IsProper r → coefficient k (add_multiple m c q r)
     ≡ (share_of_multiple k m c q + coefficient k r) % 2 ^ 64
@@ -115,7 +115,7 @@ coefficient_multiple k m c (plus n d q) r h f w v =
     ∙ ap (λ t. (t + coefficient k r) % 2 ^ 64) (share_modulo k (join m n) (c * d)))
     ∙ shares (2 ^ 64) (share_of_multiple k m c q) (share k (join m n) (c * d)) (coefficient k r))
 
--- the coefficients if all products are added
+-- the coefficients after all products are added
 coefficient_onto : (k : Monomial) (p q r : Polynomial) → degree p + degree q ≤ 4 → IsProper p → IsProper q →
     IsProper r → coefficient k (add_products p q r) ≡ (share_of_products k p q + coefficient k r) % 2 ^ 64
 coefficient_onto k nought q r f h w v = rw zero-add (sym (mod-eq_of_lt (coefficient_is_word k r v)))

@@ -1,4 +1,4 @@
--- A product of monomials has each atom as often as the two together.
+-- A product of two monomials contains each atom as often as the two together.
 use Rattle.std.proofs.Common.{◌≡◌, ℕ, suc, ◌+◌, refl, ap, ◌∙◌, arith}
 use Rattle.std.specs.declared.cmp.Ordering.{Ordering}
 use Rattle.std.specs.declared.cmp.Ordering.TheVariants.{Less, Equal, Greater}
@@ -7,7 +7,7 @@ use Rattle.ft_static.specs.NormalForm.{by_order, with_factor, join}
 use Rattle.ft_static.specs.Coefficient.{count}
 use Rattle.ft_static.proofs.Cases.{by_cases}
 
--- two atoms are counted in either order
+-- two atoms may be counted in either order
 counts_swap : (o p : Ordering) (x : ℕ) → by_order o (by_order p x (suc x) x) (suc (by_order p x (suc x) x))
     (by_order p x (suc x) x) ≡ by_order p (by_order o x (suc x) x) (suc (by_order o x (suc x) x))
     (by_order o x (suc x) x)
@@ -21,7 +21,7 @@ counts_swap Greater Less x = refl
 counts_swap Greater Equal x = refl
 counts_swap Greater Greater x = refl
 
--- an atom more is counted wherever its place is
+-- one more atom is counted, wherever it is inserted
 count_with : (k a : Atom) (m : Monomial) → count k (with_factor a m) ≡ count k (times a m)
 count_with k a one = refl
 count_with k a (times b m) = by_cases (λ n. count k n ≡ count k (times a (times b m))) (cmp_atom a b)
@@ -31,13 +31,13 @@ count_with k a (times b m) = by_cases (λ n. count k n ≡ count k (times a (tim
     (λ e. ap (λ t. by_order (cmp_atom k b) t (suc t) t) (count_with k a m)
     ∙ counts_swap (cmp_atom k b) (cmp_atom k a) (count k m))
 
--- one is counted on either side
+-- one more may be counted on either side of a sum
 counts_join : (o : Ordering) (x y : ℕ) → x + by_order o y (suc y) y ≡ by_order o x (suc x) x + y
 counts_join Less x y = refl
 counts_join Equal x y = omega arith
 counts_join Greater x y = refl
 
--- each atom occurs in the product as often as in both
+-- each atom occurs in the product as often as in the two monomials together
 pub count_join : (k : Atom) (m n : Monomial) → count k (join m n) ≡ count k m + count k n
 count_join k one n = omega arith
 count_join k (times a m) n = count_join k m (with_factor a n)

@@ -30,7 +30,7 @@ same_forms (memory a) (memory b) =
 same_forms (integer a) (memory b) = (λ e. cc, λ e. cc)
 same_forms (memory a) (integer b) = (λ e. cc, λ e. cc)
 
--- expressions that are the same denote the same
+-- expressions that are the same denote the same value
 pub same_denotes : (a b : Expression) (s : Valuation) → IsLawful s → HasWords a → HasWords b → same a b ≡ true →
     denotation a s ≡ denotation b s
 same_denotes a b s lawful h k e = sym (norm_denotes a s lawful h)

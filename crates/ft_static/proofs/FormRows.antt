@@ -1,4 +1,4 @@
--- Each row of the normal forms denotes what it stands for, and so does the form of each expression; and each is normal.
+-- The form built for each kind of expression denotes the value of the expression, and is normal.
 use Rattle.std.proofs.Common.{ℕ, ◌≡◌, ◌+◌, ◌-◌, ◌%◌, ◌^◌, ◌==◌, true, false, refl, sym, ◌∙◌, subst, arith, Option, Some}
 use Rattle.std.proofs.Common.{None, if◌then◌else◌, List, slice_index_or}
 use Rattle.std.proofs.Math.Nat.{mod-le, mod-eq_of_lt}
@@ -25,9 +25,9 @@ use Rattle.ft_static.proofs.Words.{word_at-with_word, with_word-with_word}
 use Rattle.ft_static.proofs.Sums.{value_polynomial_is_word, value_updates_are_words, value_alone, value_add, value_mul}
 use Rattle.ft_static.proofs.NodeTrees.{OfAll, OfMemoryParts, OfParts, by_parts_where}
 
--- WHAT THE ROWS DENOTE
+-- WHAT THE FORMS OF EACH KIND DENOTE
 
--- the form of an operation that folds denotes what the operation gives
+-- the form of a folded operation denotes the operation's result
 value_folded : (o : Op) (p q : Polynomial) (s : Valuation) → IsLawful s → value_polynomial (norm_folded o p q) s
     ≡ apply o (value_polynomial p s) (value_polynomial q s)
 value_folded o p q s lawful = go (constant_of p) (constant_of q) refl refl
@@ -44,7 +44,7 @@ value_folded o p q s lawful = go (constant_of p) (constant_of q) refl refl
     go None y e g = value_alone (operation_atom o p q) s word_given
     go (Some c) None e g = value_alone (operation_atom o p q) s word_given
 
--- the form of each operation denotes what the operation gives
+-- the form of each operation denotes the operation's result
 pub value_op : (o : Op) (p q : Polynomial) (s : Valuation) (lawful : IsLawful s) → value_polynomial (norm_op o p q) s
     ≡ apply o (value_polynomial p s) (value_polynomial q s)
 value_op Add p q s lawful = value_add p q s lawful
@@ -78,12 +78,12 @@ value_upd (update a w u) p v s = if_cases (λ t. value_updates t s
     (value_polynomial w s) (value_polynomial v s))))
     (λ e. refl)
 
--- the walk
+-- the walk of a sel
 itself : (x : ℕ) → IsWord x → apply Sub x x ≡ 0
 unfolding apply
 itself x w = let g : x + (2 ^ 64 - x) ≡ 2 ^ 64 = omega arith in rw g refl
 
--- if the difference is a nonzero constant, the two denote different words
+-- if the difference is a nonzero constant, the two polynomials denote different words
 apart : (p q : Polynomial) (s : Valuation) (lawful : IsLawful s) → is_not_zero (constant_of (norm_sub p q)) ≡ true →
     (value_polynomial p s == value_polynomial q s) ≡ false
 apart p q s lawful = go (constant_of (norm_sub p q)) refl
@@ -134,14 +134,14 @@ mutual
       ∙ rw (norm_value a s lawful h.1, value_norm_memory m s lawful h.0) refl
   norm_value (rem a m) s lawful h = value_rem (norm_integer a) m s lawful ∙ rw (norm_value a s lawful h.0) refl
 
-  -- the form of a memory too
+  -- likewise for a memory
   pub value_norm_memory : (m : Memory) (s : Valuation) → IsLawful s → AreWordsOfMemory m →
       value_updates (norm_memory m) s ≡ memory_value m s
   value_norm_memory memory_variable s lawful h = refl
   value_norm_memory (upd m a b) s lawful h = value_upd (norm_memory m) (norm_integer a) (norm_integer b) s
       ∙ rw (norm_value a s lawful h.1, norm_value b s lawful h.2, value_norm_memory m s lawful h.0) refl
 
--- the parts of an expression of words are of words
+-- if the numbers in an expression are words, so are those in its parts
 words_of_parts : (e : Integer) → AreWords e → OfParts AreWords AreWordsOfMemory e
 words_of_parts (word w) h = tt
 words_of_parts (rem a n) h = h.0
@@ -154,7 +154,7 @@ module _ (ps : List Polynomial) (u : Updates) (s : Valuation) (lawful : IsLawful
   abbrev pub MemoryDenotes : Memory → Type 0
   MemoryDenotes m = value_updates (norm_memory_under m ps u) s ≡ memory_value m (valuation_under ps u s)
 
-  -- the form of an expression under forms denotes what the expression does in the valuation under them
+  -- the form of an expression under forms denotes what the expression does in the valuation that these forms give
   pub value_under : OfAll (λ e. AreWords e → Denotes e) (λ m. AreWordsOfMemory m → MemoryDenotes m)
   value_under = by_parts_where AreWords Denotes AreWordsOfMemory MemoryDenotes words_of_parts split whole stored
     where
@@ -171,7 +171,7 @@ module _ (ps : List Polynomial) (u : Updates) (s : Valuation) (lawful : IsLawful
       stored memory_variable k h = refl
       stored m k h = simp value_upd (cc)
 
--- ROWS IN ORDER
+-- THE FORMS OF EACH KIND ARE IN ORDER
 
 -- a folded constant is normal, and so is the atom
 normal_choice : (o : Op) (x y : Option ℕ) (a : Atom) → IsProperAtom a → IsNormal (folded o x y a)
@@ -179,7 +179,7 @@ normal_choice o (Some c) (Some d) a h = normal_constant (apply o c d)
 normal_choice o None y a h = normal_alone a h
 normal_choice o (Some c) None a h = normal_alone a h
 
--- the form of an operation that folds is normal
+-- the form of a folded operation is normal
 normal_folded : (o : Op) (p q : Polynomial) → IsNormal p → IsNormal q → IsNormal (norm_folded o p q)
 normal_folded o p q h k = normal_choice o (constant_of p) (constant_of q) (operation_atom o p q) (h.0, k.0, h.1, k.1)
 
@@ -217,7 +217,7 @@ proper_upd (update a w u) p v h k l = if_cases (λ t. AreProperUpdates t) (same_
     (λ e. (h.0, h.1, l.0, l.1, h.4))
     (λ e. (k.0, k.1, l.0, l.1, h))
 
--- a normal form is a form in order
+-- normal forms are in order
 mutual
   -- the form of an integer is normal
   pub norm_is_normal : (e : Integer) → IsNormal (norm_integer e)

@@ -1,4 +1,4 @@
--- The forms of differences and of constants denote what they stand for.
+-- The forms of differences and of constants denote differences and constants.
 use Rattle.std.proofs.Common.{ℕ, suc, ◌≡◌, ◌+◌, ◌*◌, ◌-◌, ◌%◌, ◌^◌, ◌<◌, ◌≤◌, ◌==◌, refl, sym, ap, ◌∙◌, arith, Some}
 use Rattle.std.proofs.Math.Nat.{add-mod-mod, mod-add-mod, mod-lt, mod-mod, mul-add, mul-one, add-zero, add-mod_right}
 use Rattle.std.proofs.Math.Nat.{mul-add-mod_self_left}
@@ -12,19 +12,19 @@ use Rattle.ft_static.specs.NormalForm.{constant, negation, norm_sub, constant_of
 use Rattle.ft_static.proofs.Cases.{if_cases}
 use Rattle.ft_static.proofs.Sums.{value_polynomial_is_word, value_add}
 
--- minus v is 2^64 - v
+-- k * v is k + 1 - v, modulo k + 1
 negative : (k v : ℕ) → v ≤ suc k → (k * v) % suc k ≡ (suc k - v) % suc k
 negative k v h =
     let e : k * v + suc k ≡ suc k * v + (suc k - v) = grind arith in
     sym (add-mod_right (k * v) (suc k)) ∙ (ap (λ t. t % suc k) e ∙ mul-add-mod_self_left (suc k) v (suc k - v))
 
--- so is a coefficient negated
+-- likewise for a negated coefficient
 negated : (k c : ℕ) → (suc k - c % suc k) % suc k ≡ (k * c) % suc k
 negated k c =
     let h : c % suc k < suc k = mod-lt c (omega arith) in
     sym (negative k (c % suc k) (omega arith)) ∙ mul-mod_second k c (suc k)
 
--- one term and the rest negated
+-- negating one term and the rest
 negated_term : (k c x y : ℕ) → ((suc k - c % suc k) % suc k * x + (k * y) % suc k) % suc k
     ≡ (k * ((c * x + y) % suc k)) % suc k
 negated_term k c x y =

@@ -46,7 +46,7 @@ names_sum = record {
   scope_within = lit≤ tt;
 }
 
--- what is said of a node is said of the one that is found
+-- what holds of a node holds of the equal node that is found
 given : (n : ℕ) (x node : Node) → ◌≡◌ {A = Option Node} (Some x) (Some node) → IsNode nodes n x → IsNode nodes n node
 given n x node e h = let q : x ≡ node = cc in subst (IsNode nodes n) q h
 

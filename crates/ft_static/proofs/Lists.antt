@@ -1,4 +1,4 @@
--- The order of forms is that of lists and pairs.
+-- Forms are ordered as lists and pairs.
 use Rattle.std.proofs.Common.{◌≡◌, ℕ, suc, length, refl, sym, ap, ◌∙◌, arith}
 use Rattle.std.specs.Cmp.Lexicographic.{slice_cmp}
 use Rattle.std.specs.Ordering.{nat_cmp, ordering_then}
@@ -37,7 +37,7 @@ zero_last n = grind (arith, nat_tests)
 above_one : (i j : ℕ) → nat_cmp i j ≡ nat_cmp (suc i) (suc j)
 above_one i j = grind (arith, nat_tests)
 
--- a comparison that was made before decides nothing more
+-- repeating a comparison decides nothing more
 again : (l a r : Ordering) → ordering_then l (ordering_then a (ordering_then l r)) ≡ ordering_then l (ordering_then a r)
 again Less a r = refl
 again Equal a r = refl

@@ -1,5 +1,5 @@
--- Each node of a valid list stands for one tree, whose numbers are words and whose variables are within the node's
--- scope; and tests find trees the same exactly where they are equal.
+-- Each node of a valid list stands for exactly one tree, whose numbers are words and whose variables are within the
+-- node's scope; and the equality test on trees is exact.
 use Rattle.std.proofs.Common.{ℕ, suc, zero, ◌≡◌, ◌<◌, ◌≤◌, ◌+◌, true, false, List, [], ◌∷◌, ◌++◌, length, get_or}
 use Rattle.std.proofs.Common.{slice_get, Some, refl, sym, ap, ◌∙◌, arith, subst, Bool, ◌==◌, eqb-true, eq-eqb}
 use Rattle.std.proofs.lemmas.List.{get_or_append_left, get_or_push, length_push}
@@ -19,23 +19,23 @@ use Rattle.ft_static.specs.declared.node.Node.{Node}
 use Rattle.ft_static.specs.declared.node.Shape.{Shape}
 use Rattle.ft_static.specs.declared.node.Shape.TheVariants as shape
 
--- this holds of each part of an integer, by its sort
+-- P or M holds of each part of an integer, depending on the part's sort
 abbrev pub OfParts : (Integer → Type 0) → (Memory → Type 0) → Integer → Type 0
 OfParts P M (operation o a b) = P a × P b
 OfParts P M (sel m a) = M m × P a
 OfParts P M (rem a n) = P a
 OfParts P M e = Unit {0}
 
--- this holds of each part of a memory, by its sort
+-- P or M holds of each part of a memory, depending on the part's sort
 abbrev pub OfMemoryParts : (Integer → Type 0) → (Memory → Type 0) → Memory → Type 0
 OfMemoryParts P M (upd m a v) = M m × P a × P v
 OfMemoryParts P M m = Unit {0}
 
--- this holds of all integers, and that of all memories
+-- P holds of all integers, and M of all memories
 abbrev pub OfAll : (Integer → Type 0) → (Memory → Type 0) → Type 0
 OfAll P M = ((e : Integer) → P e) × ((m : Memory) → M m)
 
--- what follows from what holds of the parts holds of all
+-- induction: what holds of every expression whose parts have it holds of all expressions
 module _ (P : Integer → Type 0) (M : Memory → Type 0) (f : (e : Integer) → OfParts P M e → P e)
     (g : (m : Memory) → OfMemoryParts P M m → M m) where
   mutual
@@ -52,7 +52,7 @@ module _ (P : Integer → Type 0) (M : Memory → Type 0) (f : (e : Integer) →
   pub by_parts : OfAll P M
   by_parts = (whole, stored)
 
--- the same where a condition passes to the parts
+-- likewise, under a condition that passes on to the parts
 pub by_parts_where : (C P : Integer → Type 0) (D M : Memory → Type 0) → ((e : Integer) → C e → OfParts C D e) →
     ((m : Memory) → D m → OfMemoryParts C D m) → ((e : Integer) → C e → OfParts P M e → P e) →
     ((m : Memory) → D m → OfMemoryParts P M m → M m) → OfAll (λ e. C e → P e) (λ m. D m → M m)
@@ -74,7 +74,7 @@ by_parts_where C P D M c d f g = by_parts (λ e. C e → P e) (λ m. D m → M m
 abbrev none : Expression
 none = integer (word 0)
 
--- if two facts of a part imply a third, and both hold of each part, so does the third
+-- if two facts about a part imply a third, and both hold of each part, so does the third
 pub each_part_both : (P Q R : Bool → ℕ → Type 0) → ((s : Bool) (k : ℕ) → P s k → Q s k → R s k) → (x : Shape) →
     EachPart P x → EachPart Q x → EachPart R x
 each_part_both P Q R f (shape.Op o a b) h g = (f false a h.0 g.0, f false b h.1 g.1)
@@ -83,18 +83,18 @@ each_part_both P Q R f (shape.Upd m a v) h g = (f true m h.0 g.0, f false a h.1 
 each_part_both P Q R f (shape.Rem a m) h g = f false a h g
 each_part_both P Q R f x h g = tt
 
--- the same with one fact that implies another
+-- likewise, if one fact implies another
 pub each_part : (P R : Bool → ℕ → Type 0) → ((s : Bool) (k : ℕ) → P s k → R s k) → (x : Shape) → EachPart P x →
     EachPart R x
 each_part P R f x h = each_part_both P P R (λ s k p q. f s k p) x h h
 
--- the parts of a node with other numbers
+-- the parts of a renamed node
 pub each_renamed : (P : Bool → ℕ → Type 0) (f : ℕ → ℕ) (x : Shape) → EachPart (λ s k. P s (f k)) x →
     EachPart P (renamed f x)
 each_renamed P f (shape.Word w) h = tt
 each_renamed P f x h = h
 
--- a lawful node names its parts as it may
+-- a lawful node may name each of its parts
 pub parts_named : (nodes : List Node) (n scope : ℕ) (x : Shape) → IsShape nodes n scope x →
     EachPart (MayName nodes n scope) x
 parts_named nodes n scope (shape.Word w) h = tt
@@ -102,18 +102,18 @@ parts_named nodes n scope (shape.Var i) h = tt
 parts_named nodes n scope (shape.Rem a m) h = h.0
 parts_named nodes n scope x h = h
 
--- they have lower numbers
+-- the parts of a lawful node have lower numbers
 pub parts_below : (nodes : List Node) (n scope : ℕ) (x : Shape) → IsShape nodes n scope x → HasPartsBelow n x
 parts_below nodes n scope x h =
     each_part (MayName nodes n scope) (λ s k. k < n) (λ s k m. m.lower) x (parts_named nodes n scope x h)
 
--- where the parts have the same trees, so has the node, whatever numbers they have
+-- if the parts have the same trees, so does the node, whatever the numbers of the parts
 pub tree_of-renamed : (ts us : List Expression) (f : ℕ → ℕ) (x : Shape) →
     EachPart (λ s k. get_or ts (f k) none ≡ get_or us k none) x → tree_of ts (renamed f x) ≡ tree_of us x
 tree_of-renamed ts us f (shape.Word w) h = refl
 tree_of-renamed ts us f x h = cc
 
--- two lists of trees that agree on its parts give one tree to a node
+-- two lists of trees that agree on a node's parts give it the same tree
 tree_of-agrees : (ts us : List Expression) (x : Shape) → EachPart (λ s k. get_or ts k none ≡ get_or us k none) x →
     tree_of ts x ≡ tree_of us x
 tree_of-agrees ts us (shape.Word w) h = refl
@@ -151,13 +151,13 @@ pub tree_at-row : (nodes : List Node) (n : ℕ) (x : Node) → AreNodes nodes �
 tree_at-row nodes n x h f = trees_onto-row [] nodes n n x (omega arith) f
     (parts_below nodes n x.scope x.shape (h.each n x f).shape)
 
--- a node that isn't a memory's has an integer's tree
+-- the tree of a node that is not a memory is an integer
 pub integer_tree : (ts : List Expression) (x : Shape) → is_memory x ≡ false → tree_of ts x
     ≡ integer (integer_part (tree_of ts x))
 integer_tree ts (shape.Word w) e = refl
 integer_tree ts x e = cc
 
--- a memory's node has a memory's tree
+-- the tree of a memory node is a memory
 pub memory_tree : (ts : List Expression) (x : Shape) → is_memory x ≡ true → tree_of ts x
     ≡ memory (memory_part (tree_of ts x))
 memory_tree ts (shape.Word w) e = cc
@@ -201,7 +201,7 @@ stands_shape nodes n scope x h s p lower = go x s p
         (integer_at (trees nodes) v) s (stored m p.0) (whole a p.1) (whole v p.2)
     go (shape.Rem a m) s p = rem_node n a m (integer_at (trees nodes) a) s (whole a p.0)
 
--- so do all nodes below a bound
+-- all nodes below a bound stand for their trees
 stands_below : (nodes : List Node) (bound n : ℕ) (x : Node) → AreNodes nodes → n < bound → slice_get nodes n ≡ Some x →
     StandsFor nodes n (tree_at nodes n)
 stands_below nodes zero n x h b f = absurd (omega (arith, b))
@@ -214,12 +214,12 @@ pub stands_for_tree : (nodes : List Node) (n : ℕ) (x : Node) → AreNodes node
     StandsFor nodes n (tree_at nodes n)
 stands_for_tree nodes n x h f = stands_below nodes (suc n) n x h (omega arith) f
 
--- the tree of a node of this shape
+-- the tree of a node that has this shape
 shaped : (nodes : List Node) (n : ℕ) (x : Shape) → AreNodes nodes → HasShape nodes n x → tree_at nodes n
     ≡ tree_of (trees nodes) x
 shaped nodes n x h s = tree_at-row nodes n s.node h s.found ∙ ap (tree_of (trees nodes)) s.shape
 
--- a node stands for no other tree than its own
+-- a node stands for no tree other than its own
 pub stands_for_one : (nodes : List Node) (n : ℕ) (t : Expression) → AreNodes nodes → StandsFor nodes n t →
     tree_at nodes n ≡ t
 stands_for_one nodes _ _ h (word_node n w s) = shaped nodes n (shape.Word w) h s
@@ -245,7 +245,7 @@ stands_for_one nodes _ _ h (upd_node n j k l m a v s p q r) =
     ) refl
 
 mutual
-  -- variables below a number are below a greater one
+  -- variables below a number are below a larger one
   within_more : (e : Integer) (m n : ℕ) → m ≤ n → IsWithin m e → IsWithin n e
   within_more (word w) m n l h = tt
   within_more (variable i) m n l h = omega (arith, h)
@@ -253,7 +253,7 @@ mutual
   within_more (sel k a) m n l h = (memory_within_more k m n l h.0, within_more a m n l h.1)
   within_more (rem a k) m n l h = within_more a m n l h
 
-  -- the same for the variables of a memory
+  -- likewise for the variables of a memory
   memory_within_more : (k : Memory) (m n : ℕ) → m ≤ n → IsMemoryWithin m k → IsMemoryWithin n k
   memory_within_more memory_variable m n l h = tt
   memory_within_more (upd k a v) m n l h = (
@@ -296,7 +296,7 @@ fits_shape nodes n scope x h p lower = go x p
         ((f.0, g.0, k.0), (f.1, g.1, k.1))
     go (shape.Rem a m) p = let f = whole a p.0 in ((f.0, p.1), f.1)
 
--- so do the trees of all nodes below a bound
+-- the trees of all nodes below a bound fit
 fits_below : (nodes : List Node) (bound n : ℕ) (x : Node) → AreNodes nodes → n < bound → slice_get nodes n ≡ Some x →
     Fits x.scope (tree_at nodes n)
 fits_below nodes zero n x h b f = absurd (omega (arith, b))
@@ -316,7 +316,7 @@ op_same : (o p : Op) → (op_code o == op_code p) ≡ true → o ≡ p
 op_same o p e = sym (op_back o) ∙ ap op_of (eqb-true _ _ e) ∙ op_back p
 
 mutual
-  -- integers that the test finds the same are equal
+  -- integers that pass the test are equal
   pub same_integer_is : (e f : Integer) → same_integer e f ≡ true → e ≡ f
   same_integer_is (word v) (word w) e = ap word (eqb-true v w e)
   same_integer_is (variable i) (variable j) e = ap variable (eqb-true i j e)
@@ -330,7 +330,7 @@ mutual
       λ i. rem (same_integer_is a c q.1 i) (eqb-true l k q.0 i)
   same_integer_is x y e = cc
 
-  -- memories that the test finds the same are equal
+  -- memories that pass the test are equal
   pub same_memory_is : (m n : Memory) → same_memory m n ≡ true → m ≡ n
   same_memory_is memory_variable memory_variable e = refl
   same_memory_is (upd m a b) (upd n c d) e =
@@ -340,7 +340,7 @@ mutual
   same_memory_is m n e = cc
 
 mutual
-  -- the test finds an integer the same as itself
+  -- an integer and itself pass the test
   integer_itself : (e : Integer) → same_integer e e ≡ true
   integer_itself (word v) = eq-eqb v v refl
   integer_itself (variable i) = eq-eqb i i refl
@@ -349,15 +349,15 @@ mutual
   integer_itself (sel m a) = and_from _ _ (memory_itself m) (integer_itself a)
   integer_itself (rem a l) = and_from _ _ (eq-eqb l l refl) (integer_itself a)
 
-  -- the test finds a memory the same as itself
+  -- a memory and itself pass the test
   memory_itself : (m : Memory) → same_memory m m ≡ true
   memory_itself memory_variable = refl
   memory_itself (upd m a b) = and_from _ _ (and_from _ _ (memory_itself m) (integer_itself a)) (integer_itself b)
 
--- the test finds equal integers the same
+-- equal integers pass the test
 pub integer_same : (e f : Integer) → e ≡ f → same_integer e f ≡ true
 integer_same e f h = subst (λ (z : Integer). same_integer e z ≡ true) h (integer_itself e)
 
--- the test finds equal memories the same
+-- equal memories pass the test
 pub memory_same : (m n : Memory) → m ≡ n → same_memory m n ≡ true
 memory_same m n h = subst (λ (z : Memory). same_memory m z ≡ true) h (memory_itself m)

@@ -15,19 +15,19 @@ use Rattle.ft_static.specs.Form.{IsNormal}
 use Rattle.ft_static.proofs.Spelled.{cmp_atom_total, cmp_monomial_total}
 use Rattle.ft_static.proofs.Cases.{by_cases, if_cases}
 
--- a comparison turned round
+-- a reversed comparison
 pub turned : (o p : Ordering) → o ≡ ordering_reverse p → p ≡ Greater → o ≡ Less
 turned o p e h = rw (e, h) refl
 
--- what is greater turned round is not greater
+-- if the reversed comparison is `Greater`, the comparison is not
 not_greater : (o p : Ordering) → o ≡ ordering_reverse p → p ≡ Greater → o ≢ Greater
 not_greater o p e h k = let x : Less ≡ Greater = sym (turned o p e h) ∙ k in cc
 
--- less is not greater
+-- `Less` is not `Greater`
 less_not_greater : (o : Ordering) → o ≡ Less → o ≢ Greater
 less_not_greater o e k = let x : Less ≡ Greater = sym e ∙ k in cc
 
--- equal is not greater
+-- `Equal` is not `Greater`
 equal_not_greater : (o : Ordering) → o ≡ Equal → o ≢ Greater
 equal_not_greater o e k = let x : Equal ≡ Greater = sym e ∙ k in cc
 
@@ -37,7 +37,7 @@ leads_with a b one h k = h
 leads_with a b (times d m) h k = by_cases (λ n. Leads b n) (cmp_atom a d) (times a (times d m)) (times a (times d m))
     (times d (with_factor a m)) (λ e. h) (λ e. h) (λ e. k)
 
--- an atom more keeps a monomial in order
+-- inserting an atom keeps a monomial in order
 proper_with : (a : Atom) (m : Monomial) → IsProperAtom a → IsProperMonomial m → IsProperMonomial (with_factor a m)
 proper_with a one h k = (h, tt, tt)
 proper_with a (times b m) h k = by_cases (λ n. IsProperMonomial n) (cmp_atom a b) (times a (times b m))
@@ -51,7 +51,7 @@ pub proper_join : (m n : Monomial) → IsProperMonomial m → IsProperMonomial n
 proper_join one n h k = k
 proper_join (times a m) n h k = proper_join m (with_factor a n) h.2 (proper_with a n h.0 k)
 
--- an atom more is one more
+-- inserting an atom adds one to the number of atoms
 pub factors_with : (a : Atom) (m : Monomial) → factors (with_factor a m) ≡ suc (factors m)
 factors_with a one = refl
 factors_with a (times b m) = by_cases (λ n. factors n ≡ suc (suc (factors m))) (cmp_atom a b) (times a (times b m))
@@ -66,12 +66,12 @@ factors_join (times a m) n = let h = factors_join m (with_factor a n) in let k =
 pub below_led : (k m : Monomial) (c : ℕ) (p : Polynomial) → cmp_monomial k m ≡ Less → Below k p → Below k (led_by m c p)
 below_led k m c p h g = if_cases (λ q. Below k q) (c == 0) p (plus m c p) (λ e. g) (λ e. h)
 
--- what is below the first is below what follows
+-- a monomial that is less than another is below whatever the other is below
 pub below_more : (k m : Monomial) (p : Polynomial) → cmp_monomial k m ≡ Less → Below m p → Below k p
 below_more k m nought h g = tt
 below_more k m (plus n d p) h g = cmp_monomial_total.trans k m n h g
 
--- a term above keeps a monomial below
+-- adding a larger term keeps a monomial below
 below_add : (k m : Monomial) (c : ℕ) (p : Polynomial) → cmp_monomial k m ≡ Less → Below k p → IsProper p →
     Below k (add_term m c p)
 below_add k m c nought h g w = below_led k m c nought h tt
@@ -81,13 +81,13 @@ below_add k m c (plus n d p) h g w = by_cases (λ q. Below k q) (cmp_monomial m 
     (λ e. below_led k n ((c + d) % 2 ^ 64) p g (below_more k n p g w.4))
     (λ e. g)
 
--- a lower term first keeps a polynomial in order
+-- putting a lower term first keeps a polynomial in order
 proper_led : (m : Monomial) (c : ℕ) (p : Polynomial) → IsProperMonomial m → factors m ≤ 4 → c < 2 ^ 64 → Below m p →
     IsProper p → IsProper (led_by m c p)
 proper_led m c p h f l b w = if_cases (λ q. IsProper q) (c == 0) p (plus m c p) (λ e. w) (λ e.
     (h, f, (let n = eqb-false c 0 e in omega arith), l, b, w))
 
--- a term added keeps it in order
+-- adding a term keeps a polynomial in order
 pub proper_add_term : (m : Monomial) (c : ℕ) (p : Polynomial) → IsProperMonomial m → factors m ≤ 4 → c < 2 ^ 64 →
     IsProper p → IsProper (add_term m c p)
 proper_add_term m c nought h f l w = proper_led m c nought h f l tt tt
@@ -129,7 +129,7 @@ proper_products (plus m c p) q r f h k w = proper_products p q (add_multiple m c
 terms_led : (m : Monomial) (c : ℕ) (p : Polynomial) → terms (led_by m c p) ≤ suc (terms p)
 terms_led m c p = if_cases (λ q. terms q ≤ suc (terms p)) (c == 0) p (plus m c p) (λ e. omega arith) (λ e. omega arith)
 
--- a term added is at most one more
+-- adding a term adds at most one to the number of terms
 terms_add_term : (m : Monomial) (c : ℕ) (p : Polynomial) → terms (add_term m c p) ≤ suc (terms p)
 terms_add_term m c nought = terms_led m c nought
 terms_add_term m c (plus n d p) = by_cases (λ q. terms q ≤ suc (suc (terms p))) (cmp_monomial m n)
@@ -138,13 +138,13 @@ terms_add_term m c (plus n d p) = by_cases (λ q. terms q ≤ suc (suc (terms p)
     (λ e. let h = terms_led n ((c + d) % 2 ^ 64) p in omega arith)
     (λ e. let h = terms_add_term m c p in omega arith)
 
--- the products with one term are at most as many
+-- adding the products of p with one term adds at most as many terms as p has
 terms_multiple : (m : Monomial) (c : ℕ) (p q : Polynomial) → terms (add_multiple m c p q) ≤ terms p + terms q
 terms_multiple m c nought q = omega arith
 terms_multiple m c (plus n d p) q = let h = terms_multiple m c p (add_term (join m n) ((c * d) % 2 ^ 64) q) in
     let k = terms_add_term (join m n) ((c * d) % 2 ^ 64) q in omega arith
 
--- all products are at most the product of the numbers
+-- adding all products adds at most the product of the numbers of terms
 terms_products : (p q r : Polynomial) → terms (add_products p q r) ≤ terms p * terms q + terms r
 terms_products nought q r = omega arith
 terms_products (plus m c p) q r = let h = terms_products p q (add_multiple m c q r) in let k = terms_multiple m c q r in

@@ -1,4 +1,4 @@
--- The order of forms is the order of their spellings, and so it is total.
+-- Forms are ordered as their spellings are, so their order is total.
 use Rattle.std.proofs.Common.{ℕ, ◌≡◌, ◌≢◌, List, [], ◌∷◌, ◌++◌, refl, sym, ap, ◌∙◌, append_assoc, arith}
 use Rattle.std.specs.Cmp.{IsTotalOrder}
 use Rattle.std.specs.Cmp.Lexicographic.{slice_cmp, on_texts}
@@ -48,7 +48,7 @@ then_assoc Greater b c = refl
 nat_cmp_equal : (i j : ℕ) → nat_cmp i j ≡ Equal → i ≡ j
 nat_cmp_equal i j e = grind (arith, nat_tests)
 
--- numbers that differ decide
+-- a comparison of different numbers decides the result
 unlike : (i j : ℕ) (x y : Ordering) → i ≢ j → ordering_then (nat_cmp i j) x ≡ ordering_then (nat_cmp i j) y
 unlike i j x y h = go (nat_cmp i j) refl
   where
@@ -62,18 +62,18 @@ other_kind : (o : Op) → (0 ≢ operation_kind o) × (3 ≢ operation_kind o) �
 other_kind Add = (λ e. cc, λ e. cc, λ e. cc)
 other_kind o = (λ e. cc, λ e. cc, λ e. cc)
 
--- no two operations have one kind
+-- no two operations have the same kind
 same_kind : (o k : Op) → operation_kind o ≡ operation_kind k → o ≡ k
 same_kind Add Add e = refl
 same_kind o Add e = cc
 same_kind o k e = cc
 
--- lists of numbers, by the first that differ
+-- lists of numbers, ordered by the first elements that differ
 abbrev lex : List ℕ → List ℕ → Ordering
 lex = slice_cmp nat_cmp
 
 mutual
-  -- spelled atoms with lists after them compare as the atoms and then the lists
+  -- spellings of atoms, each followed by a list, compare as the atoms and then the lists
   pub lex_atom : (a b : Atom) (xs ys : List ℕ) → lex (spell_atom a ++ xs) (spell_atom b ++ ys)
       ≡ ordering_then (cmp_atom a b) (lex xs ys)
   lex_atom (variable_atom i) (variable_atom j) xs ys = refl
@@ -93,7 +93,7 @@ mutual
   lex_atom (operation_atom o p q) (rem_atom r m) xs ys = unlike _ _ _ _ (λ e. (other_kind o).2 (sym e))
   lex_atom a b xs ys = refl
 
-  -- the same for monomials
+  -- likewise for monomials
   pub lex_monomial : (a b : Monomial) (xs ys : List ℕ) → lex (spell_monomial a ++ xs) (spell_monomial b ++ ys)
       ≡ ordering_then (cmp_monomial a b) (lex xs ys)
   lex_monomial (times a m) (times b n) xs ys = simp (append_assoc, lex_atom a b, lex_monomial m n, then_assoc)
@@ -101,7 +101,7 @@ mutual
   lex_monomial one (times b n) xs ys = refl
   lex_monomial (times a m) one xs ys = refl
 
-  -- the same for polynomials
+  -- likewise for polynomials
   pub lex_polynomial : (a b : Polynomial) (xs ys : List ℕ) → lex (spell_polynomial a ++ xs) (spell_polynomial b ++ ys)
       ≡ ordering_then (cmp_polynomial a b) (lex xs ys)
   lex_polynomial (plus m c p) (plus n d q) xs ys = simp (append_assoc, lex_monomial m n, lex_polynomial p q, then_assoc)
@@ -109,7 +109,7 @@ mutual
   lex_polynomial nought (plus n d q) xs ys = refl
   lex_polynomial (plus m c p) nought xs ys = refl
 
-  -- the same for memory forms
+  -- likewise for memory forms
   pub lex_updates : (a b : Updates) (xs ys : List ℕ) → lex (spell_updates a ++ xs) (spell_updates b ++ ys)
       ≡ ordering_then (cmp_updates a b) (lex xs ys)
   lex_updates (update p v u) (update r w x) xs ys = simp (
@@ -220,7 +220,7 @@ mutual
       let l = then_both _ _ k.1 in let i = polynomial_equal p r k.0 in let j = polynomial_equal v w l.0 in
       let y = updates_equal u x l.1 in cc
 
--- the spelling of a form determines it
+-- equal spellings tie
 spelled_alike : (xs ys : List ℕ) → xs ≡ ys → lex xs ys ≡ Equal
 spelled_alike xs ys e = rw e (tied_itself nat_list_cmp_total ys)
 
@@ -229,7 +229,7 @@ pub spell_form : Form → List ℕ
 spell_form (integer_form p) = 0 ∷ spell_polynomial p
 spell_form (memory_form u) = 1 ∷ spell_updates u
 
--- no two forms have one spelling
+-- no two forms have the same spelling
 spell_form-injective : (f g : Form) → spell_form f ≡ spell_form g → f ≡ g
 unfolding spell_form
 spell_form-injective (integer_form p) (integer_form q) e =

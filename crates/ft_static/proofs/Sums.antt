@@ -25,7 +25,7 @@ led w x h = rw zero-add (sym (mod-eq_of_lt h))
 swap_sums : (w x y z : ℕ) → (y + (x + z) % w) % w ≡ (x + (y + z) % w) % w
 swap_sums w x y z = rw (add-mod-mod, add-mod-mod) (ap (λ t. t % w) (omega arith))
 
--- two terms of one monomial
+-- merging two terms of the same monomial
 merged : (w c d x y : ℕ) → ((c + d) % w * x + y) % w ≡ (c * x + (d * x + y) % w) % w
 merged w c d x y = let e : ((c + d) % w * x + y) % w ≡ ((c + d) * x + y) % w = sym (mod-add-mod ((c + d) % w * x) w y)
     ∙ ap (λ t. (t + y) % w) (mul-mod_first (c + d) x w) ∙ mod-add-mod ((c + d) * x) w y in
@@ -35,15 +35,15 @@ merged w c d x y = let e : ((c + d) % w * x + y) % w ≡ ((c + d) * x + y) % w =
 swap_products : (w x y z : ℕ) → (y * ((x * z) % w)) % w ≡ (x * ((y * z) % w)) % w
 swap_products w x y z = rw (mul-mod_second, mul-mod_second) (ap (λ t. t % w) (grind arith))
 
--- a sum onto a sum
+-- regrouping sums
 onto_sums : (w x y z : ℕ) → (y + (x + z) % w) % w ≡ ((x + y) % w + z) % w
 onto_sums w x y z = rw (add-mod-mod, mod-add-mod) (ap (λ t. t % w) (omega arith))
 
--- a product onto a product
+-- regrouping products
 onto_products : (w x y z : ℕ) → (y * ((x * z) % w)) % w ≡ ((x * y) % w * z) % w
 onto_products w x y z = rw (mul-mod_second, mul-mod_first) (ap (λ t. t % w) (grind arith))
 
--- z and ((c d) mod w) ((x y) mod w) + q is (c x) (d y + z) + q
+-- c x z + (c d) (x y) + q is (c x) (d y + z) + q, modulo w
 multiple_more : (w c d x y z q : ℕ) → (c * x * z + ((c * d) % w * ((x * y) % w) + q) % w) % w
     ≡ (c * x * ((d * y + z) % w) + q) % w
 multiple_more w c d x y z q =
@@ -75,7 +75,7 @@ pub value_polynomial_is_word : (p : Polynomial) (s : Valuation) → value_polyno
 value_polynomial_is_word nought s = lit< tt
 value_polynomial_is_word (plus m c p) s = mod-lt _ (lit< tt)
 
--- a monomial too
+-- likewise for a monomial
 pub value_monomial_is_word : (m : Monomial) (s : Valuation) → value_monomial m s < 2 ^ 64
 value_monomial_is_word one s = lit< tt
 value_monomial_is_word (times a m) s = mod-lt _ (lit< tt)
@@ -95,7 +95,7 @@ value_led m c p s = if_cases (λ q. value_polynomial q s ≡ (c * value_monomial
     (λ e. rw (eqb-true c 0 e, zero-mul) (led (2 ^ 64) (value_polynomial p s) (value_polynomial_is_word p s)))
     (λ e. refl)
 
--- a term added
+-- adding a term
 pub value_add_term : (m : Monomial) (c : ℕ) (p : Polynomial) (s : Valuation) → value_polynomial (add_term m c p) s
     ≡ (c * value_monomial m s + value_polynomial p s) % 2 ^ 64
 value_add_term m c nought s = value_led m c nought s
@@ -107,7 +107,7 @@ value_add_term m c (plus n d p) s = by_cases (λ q. value_polynomial q s
     (λ e. ap (λ t. (d * value_monomial n s + t) % 2 ^ 64) (value_add_term m c p s)
     ∙ swap_sums (2 ^ 64) (c * value_monomial m s) (d * value_monomial n s) (value_polynomial p s))
 
--- the sum by monomials denotes the sum
+-- the sum, monomial by monomial, denotes the sum
 pub value_total : (p q : Polynomial) (s : Valuation) → value_polynomial (total p q) s
     ≡ (value_polynomial p s + value_polynomial q s) % 2 ^ 64
 value_total nought q s = led (2 ^ 64) (value_polynomial q s) (value_polynomial_is_word q s)
@@ -115,7 +115,7 @@ value_total (plus m c p) q s = value_total p (add_term m c q) s
     ∙ (ap (λ t. (value_polynomial p s + t) % 2 ^ 64) (value_add_term m c q s)
     ∙ onto_sums (2 ^ 64) (c * value_monomial m s) (value_polynomial p s) (value_polynomial q s))
 
--- an atom alone denotes what the atom does, where that is a word
+-- an atom alone denotes what the atom does, if that is a word
 pub value_alone : (a : Atom) (s : Valuation) → value_atom a s < 2 ^ 64 → value_polynomial (alone a) s ≡ value_atom a s
 value_alone a s h = simp (mul-one, one-mul, add-zero, mod-mod) (mod-eq_of_lt h)
 
@@ -147,7 +147,7 @@ value_join (times a m) n s = value_join m (with_factor a n) s
     ∙ (ap (λ t. (value_monomial m s * t) % 2 ^ 64) (value_with_factor a n s)
     ∙ onto_products (2 ^ 64) (value_atom a s) (value_monomial m s) (value_monomial n s))
 
--- the products with one term
+-- adding the products with one term
 value_add_multiple : (m : Monomial) (c : ℕ) (p q : Polynomial) (s : Valuation) →
     value_polynomial (add_multiple m c p q) s ≡ (c * value_monomial m s * value_polynomial p s + value_polynomial q s) %
     2 ^ 64
@@ -159,7 +159,7 @@ value_add_multiple m c (plus n d p) q s = value_add_multiple m c p (add_term (jo
     ∙ multiple_more (2 ^ 64) c d (value_monomial m s) (value_monomial n s) (value_polynomial p s)
     (value_polynomial q s))
 
--- all products
+-- adding all products
 value_products : (p q r : Polynomial) (s : Valuation) → value_polynomial (add_products p q r) s
     ≡ (value_polynomial p s * value_polynomial q s + value_polynomial r s) % 2 ^ 64
 value_products nought q r s = rw zero-mul (led (2 ^ 64) (value_polynomial r s) (value_polynomial_is_word r s))

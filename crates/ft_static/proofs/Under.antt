@@ -1,4 +1,4 @@
--- Forms after a substitution: what they denote, which expressions they belong to, and those of numbered nodes.
+-- Forms after a substitution: what they denote, whose forms they are, and the forms of numbered nodes.
 use Rattle.std.proofs.Common.{ℕ, suc, zero, ◌≡◌, ◌<◌, List, [], ◌∷◌, ◌++◌, get_or, map, slice_index_or, refl, sym, ap}
 use Rattle.std.proofs.Common.{◌∙◌, subst}
 use Rattle.std.proofs.lemmas.List.{map-append}
@@ -17,7 +17,7 @@ use Rattle.ft_static.specs.declared.node.Shape.TheVariants as shape
 use Rattle.ft_static.proofs.NodeTrees.{OfAll, OfMemoryParts, OfParts, by_parts, by_parts_where}
 use Rattle.ft_static.proofs.Sums.{value_polynomial_is_word, value_updates_are_words}
 
--- what is at a place of a list after a function, with its value at the default
+-- an element of a mapped list; the function is also applied to the default
 pub get_or-map : {A B : Type 0} (f : A → B) (xs : List A) (k : ℕ) (d : A) → get_or (map f xs) k (f d)
     ≡ f (get_or xs k d)
 get_or-map f [] k d = refl
@@ -51,7 +51,7 @@ module _ (es : List Integer) (m : Memory) where
     abbrev pub MemoryHasValue : Memory → Type 0
     MemoryHasValue k = memory_value (substitute_memory k es m) s ≡ memory_value k (valuation_after es m s)
 
-    -- it denotes what the expression does in the valuation afterwards
+    -- it denotes what the expression does in the valuation after the substitution
     pub value-substitute : OfAll HasValue MemoryHasValue
     value-substitute = by_parts HasValue MemoryHasValue whole stored
       where
@@ -128,7 +128,7 @@ form_of-map ps u ts (shape.Var i) = refl
 form_of-map ps u ts shape.Memory = refl
 form_of-map ps u ts x = simp (integer_in-map, memory_in-map)
 
--- the forms of nodes in rising order are those of their trees
+-- the forms of nodes, in order, are those of their trees
 pub forms_of_nodes-trees : (ps : List Polynomial) (u : Updates) (ts : List Expression) (ns : List Node) →
     forms_of_nodes ps u (map (form_under ps u) ts) ns ≡ map (form_under ps u) (trees_onto ts ns)
 forms_of_nodes-trees ps u ts [] = refl

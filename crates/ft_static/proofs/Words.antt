@@ -1,4 +1,4 @@
--- Words by address: what is read after another word is put.
+-- Words by address: what is read after a word is written.
 use Rattle.std.proofs.Common.{◌≡◌, ℕ, ◌==◌, Bool, true, false, cond, if◌then◌else◌, Option, Some, refl, ap, ◌∙◌}
 use Rattle.std.specs.Option.{unwrap_or}
 use Rattle.std.specs.Cmp.{nat_cmp_total, unsigned_tied}
@@ -8,31 +8,31 @@ use Rattle.ft_isa.specs.Words.{IsWord}
 use Rattle.ft_static.specs.Expression.{WordMap, word_at, with_word}
 use Rattle.ft_static.proofs.Cases.{if_cases}
 
--- what is at an address after a word is put
+-- what an address holds after a word is written
 get-with_word : (m : WordMap) (k v q : ℕ) → map.get (with_word m k v) q ≡ cond (q == k) (Some v) (map.get m q)
 get-with_word m k v q = rw (map.get-insert nat_cmp_total m k v q, unsigned_tied q k) refl
 
--- the word of either
+-- reading the word from either choice
 cond_read : (b : Bool) (v : ℕ) (o : Option ℕ) → unwrap_or (cond b (Some v) o) 0 ≡ (if b then v else unwrap_or o 0)
 cond_read true v o = refl
 cond_read false v o = refl
 
--- the word that was put is read at its address, and what was there elsewhere
+-- the written word is read at its address, and other addresses keep their words
 pub word_at-with_word : (m : WordMap) (k v q : ℕ) → word_at (with_word m k v) q ≡ (if q == k then v else word_at m q)
 word_at-with_word m k v q = ap (λ o. unwrap_or o 0) (get-with_word m k v q) ∙ cond_read (q == k) v (map.get m q)
 
--- words stay words if a word is put among them
+-- after a word is written, an address that held a word still holds one
 pub with_word_is_word : (m : WordMap) (k v q : ℕ) → IsWord v → IsWord (word_at m q) →
     IsWord (word_at (with_word m k v) q)
 with_word_is_word m k v q h w = rw (word_at-with_word m k v q) (if_cases IsWord (q == k) v (word_at m q) (λ e. h) (λ e.
     w))
 
--- the later of two choices by one test
+-- of two choices by the same test, the later one counts
 shadowed : {X : Type 0} (b : Bool) (x y z : X) → cond b y (cond b x z) ≡ cond b y z
 shadowed true x y z = refl
 shadowed false x y z = refl
 
--- of two words put at one address the later one stays
+-- of two words written at the same address, the later one stays
 pub with_word-with_word : (m : WordMap) (k v w : ℕ) → with_word (with_word m k v) k w ≡ with_word m k w
 with_word-with_word m k v w = same_map nat_cmp_total nat_cmp-IsAntisymmetric _ _ (λ q.
     rw (

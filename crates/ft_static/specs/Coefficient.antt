@@ -3,7 +3,7 @@ use Rattle.std.specs.Prelude.{ℕ, suc, ◌+◌, ◌*◌}
 use Rattle.ft_static.specs.Form.{Atom, Monomial, Polynomial, one, times, nought, plus, cmp_atom, cmp_monomial}
 use Rattle.ft_static.specs.NormalForm.{by_order, join}
 
--- the coefficient of a monomial; 0 if the polynomial doesn't have it
+-- the coefficient of a monomial; 0 if the polynomial doesn't contain it
 abbrev pub coefficient : Monomial → Polynomial → ℕ
 coefficient k nought = 0
 coefficient k (plus n d p) = by_order (cmp_monomial k n) (coefficient k p) d (coefficient k p)
@@ -17,12 +17,12 @@ count k (times a m) = by_order (cmp_atom k a) (count k m) (suc (count k m)) (cou
 abbrev pub share : Monomial → Monomial → ℕ → ℕ
 share k m c = by_order (cmp_monomial k m) 0 c 0
 
--- what the products of one term, m with the coefficient c, and each term of a polynomial contribute to k
+-- what the products of one term, m with coefficient c, with each term of a polynomial contribute to k
 abbrev pub share_of_multiple : Monomial → Monomial → ℕ → Polynomial → ℕ
 share_of_multiple k m c nought = 0
 share_of_multiple k m c (plus n d q) = share k (join m n) (c * d) + share_of_multiple k m c q
 
--- what the products of each term of p and each term of q contribute to k
+-- what the products of each term of p with each term of q contribute to k
 abbrev pub share_of_products : Monomial → Polynomial → Polynomial → ℕ
 share_of_products k nought q = 0
 share_of_products k (plus m c p) q = share_of_multiple k m c q + share_of_products k p q

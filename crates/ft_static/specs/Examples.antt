@@ -1,4 +1,4 @@
--- Short words for the expressions of examples.
+-- Abbreviations for the expressions in the examples.
 use Rattle.std.specs.Prelude.{ℕ, zero, suc, ◌+◌, List, [], ◌∷◌}
 use Rattle.ft_isa.specs.declared.op.Op.TheVariants.{Add, Sub, Mul, Ltu, Eq, And, Or, Xor, Shl, Shr}
 use Rattle.ft_static.specs.declared.node.Node.{Node}
@@ -12,7 +12,7 @@ x = variable 0
 abbrev pub y : Integer
 y = variable 1
 
--- one that comes after 64 others
+-- a variable that comes after 64 others
 abbrev pub z : Integer
 z = variable 64
 
@@ -68,6 +68,6 @@ past_x = upd at_x (add x (word 1)) (word 8)
 abbrev pub then_y : Memory
 then_y = upd at_x y (word 8)
 
--- the memory variable, an integer variable, a word, the sum of the two, and the word of the memory there
+-- the memory variable, an integer variable, a word, the sum of the two, and the word of the memory at that address
 abbrev pub nodes : List Node
 nodes = record { scope = 0; shape = shape.Memory } ∷ record { scope = 1; shape = shape.Var 0 } ∷ record { scope = 0; shape = shape.Word 5 } ∷ record { scope = 1; shape = shape.Op Add 1 2 } ∷ record { scope = 1; shape = shape.Sel 0 3 } ∷ []

@@ -10,8 +10,8 @@ use Rattle.ft_isa.specs.Words.{apply, IsWord}
 use Rattle.ft_static.specs.NodeRules.{IsLength}
 
 mutual
-  -- an integer: a word, the variable of a number, an operation on two integers, the word of a memory at an address, or
-  -- the remainder of an integer by a length
+  -- an integer: a word, a variable, an operation on two integers, the word of a memory at an address, or the remainder
+  -- of an integer divided by a length
   pub data Integer : Type 0 where
     word : ℕ → Integer
     variable : ℕ → Integer

@@ -1,5 +1,5 @@
--- Normal forms: polynomials for integers, lists of updates for memories. What they are, their order, which are in order,
--- and what they denote.
+-- Normal forms: polynomials for integers, and lists of updates for memories. Defines them, their order, which of them
+-- are in order, and what they denote.
 use Rattle.std.specs.Prelude.{◌≡◌, ◌≢◌, ℕ, suc, ◌+◌, ◌*◌, ◌%◌, ◌^◌, ◌<◌, ◌≤◌, Bool, false, not, List, [], ◌∷◌, length, map}
 use Rattle.std.specs.Ordering.{nat_cmp, ordering_then, is_eq}
 use Rattle.std.specs.Cmp.Lexicographic.{slice_cmp}
@@ -21,17 +21,17 @@ mutual
     sel_atom : Updates → Polynomial → Atom
     rem_atom : Polynomial → ℕ → Atom
 
-  -- a product of atoms: the list of them, in increasing order
+  -- a product of atoms, as a list in increasing order
   pub data Monomial : Type 0 where
     one : Monomial
     times : Atom → Monomial → Monomial
 
-  -- a sum of monomials with their coefficients: the list of these pairs, in increasing order of the monomials
+  -- a sum of monomials with coefficients, as a list of pairs in increasing order of the monomials
   pub data Polynomial : Type 0 where
     nought : Polynomial
     plus : Monomial → ℕ → Polynomial → Polynomial
 
-  -- the list of updates (address, value) of the memory variable, newest first
+  -- the updates (address, value) of the memory variable, newest first
   pub data Updates : Type 0 where
     unchanged : Updates
     update : Polynomial → Polynomial → Updates → Updates
@@ -41,7 +41,7 @@ pub data Form : Type 0 where
   integer_form : Polynomial → Form
   memory_form : Updates → Form
 
--- the atom of a node of this shape, if these are the forms of its parts; a word and a memory have none
+-- the atom of a node of this shape, given the forms of its parts; a word and a memory have none
 abbrev pub atom_over : (ℕ → Polynomial) → (ℕ → Updates) → Shape → Atom
 atom_over p u (shape.Var i) = variable_atom i
 atom_over p u (shape.Op o a b) = operation_atom o (p a) (p b)
@@ -49,7 +49,7 @@ atom_over p u (shape.Sel m a) = sel_atom (u m) (p a)
 atom_over p u (shape.Rem a n) = rem_atom (p a) n
 atom_over p u x = variable_atom 0
 
--- whether it has one
+-- whether a node of this shape has an atom
 abbrev pub has_atom : Shape → Bool
 has_atom (shape.Word w) = false
 has_atom x = not (is_memory x)
@@ -94,10 +94,10 @@ abbrev pub updates : Updates → ℕ
 updates unchanged = 0
 updates (update p v u) = suc (updates u)
 
--- THE ORDER: atoms by kind and then by their parts from left to right, lists by length and then by the first members
+-- THE ORDER: atoms by kind and then by their parts from left to right, lists by length and then by the first elements
 -- that differ, pairs by the first part and then the second, numbers by size
 
--- the place of an operation's atoms among the kinds; no normal form has an atom of sub
+-- the place of an operation's atoms among the kinds; no normal form has a sub atom
 abbrev pub operation_kind : Op → ℕ
 operation_kind Ltu = 1
 operation_kind Eq = 2
@@ -117,9 +117,9 @@ kind (operation_atom o p q) = operation_kind o
 kind (sel_atom u p) = 3
 kind (rem_atom p m) = 11
 
--- Lengths are compared at each level; below the outermost they are equal.
+-- Lengths are compared again at each element; after the first element they are equal.
 abbrev mutual
-  -- atoms; two of different kinds by kind
+  -- atoms; those of different kinds by kind
   pub cmp_atom : Atom → Atom → Ordering
   cmp_atom (variable_atom i) (variable_atom j) = nat_cmp i j
   cmp_atom (operation_atom o p q) (operation_atom k r s) = ordering_then (nat_cmp (operation_kind o) (operation_kind k)) (ordering_then (cmp_polynomial p r) (cmp_polynomial q s))
@@ -156,7 +156,7 @@ same_polynomial p q = is_eq (cmp_polynomial p q)
 abbrev pub same_updates : Updates → Updates → Bool
 same_updates u w = is_eq (cmp_updates u w)
 
--- lists by length and then by the first members that differ
+-- lists by length and then by the first elements that differ
 abbrev pub cmp_lists : {A : Type 0} → (A → A → Ordering) → List A → List A → Ordering
 cmp_lists cmp xs ys = ordering_then (nat_cmp (length xs) (length ys)) (slice_cmp cmp xs ys)
 
@@ -164,14 +164,14 @@ cmp_lists cmp xs ys = ordering_then (nat_cmp (length xs) (length ys)) (slice_cmp
 abbrev pub cmp_pairs : {A B : Type 0} → (A → A → Ordering) → (B → B → Ordering) → A × B → A × B → Ordering
 cmp_pairs cmp_first cmp_second p q = ordering_then (cmp_first p.0 q.0) (cmp_second p.1 q.1)
 
--- FORMS IN ORDER: atoms increase, monomials increase strictly, coefficients are words other than 0, and both limits hold
+-- FORMS IN ORDER: atoms increase, monomials increase strictly, coefficients are nonzero words, and both limits hold
 
--- the atom is not above the monomial's first
+-- the atom is not greater than the monomial's first atom
 abbrev pub Leads : Atom → Monomial → Type 0
 Leads a one = Unit {0}
 Leads a (times b m) = cmp_atom a b ≢ Greater
 
--- the monomial is below the first of the polynomial
+-- the monomial is less than the polynomial's first monomial
 abbrev pub Below : Monomial → Polynomial → Type 0
 Below m nought = Unit {0}
 Below m (plus n d p) = cmp_monomial m n ≡ Less
@@ -223,7 +223,7 @@ abbrev mutual
   value_polynomial nought s = 0
   value_polynomial (plus m c p) s = (c * value_monomial m s + value_polynomial p s) % 2 ^ 64
 
-  -- the memory variable's words with the updates made, the oldest first
+  -- the memory variable's words after the updates, applied oldest first
   pub value_updates : Updates → Valuation → WordMap
   value_updates unchanged s = s.memory
   value_updates (update p v u) s = with_word (value_updates u s) (value_polynomial p s) (value_polynomial v s)
@@ -233,6 +233,6 @@ abbrev pub form_denotation : Form → Valuation → Denotation
 form_denotation (integer_form p) s = denoted_word (value_polynomial p s)
 form_denotation (memory_form u) s = denoted_memory (value_updates u s)
 
--- the valuation that gives the variables what these forms denote
+-- the valuation that gives the variables the values of these forms
 abbrev pub valuation_under : List Polynomial → Updates → Valuation → Valuation
 valuation_under ps u s = record { integers = map (λ (p : Polynomial). value_polynomial p s) ps; memory = value_updates u s }

@@ -24,7 +24,7 @@ pub record MayName (nodes : List Node) (n scope : ℕ) (memory : Bool) (m : ℕ)
 abbrev pub IsLength : ℕ → Type 0
 IsLength m = (1 ≤ m) × (m ≤ 1024)
 
--- the rules for the shape of node n: it may name each part, and its own number is a word, a variable or a length
+-- the rules for the shape of node n: it may name each part, and the word, variable or length in it is in range
 abbrev pub IsShape : List Node → ℕ → ℕ → Shape → Type 0
 IsShape nodes n scope (Word w) = IsWord w
 IsShape nodes n scope (Var i) = i < scope

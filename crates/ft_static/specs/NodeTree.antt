@@ -1,4 +1,4 @@
--- The tree for which a numbered node stands.
+-- The tree that a numbered node stands for.
 use Rattle.std.specs.Prelude.{◌≡◌, ℕ, List, [], ◌∷◌, ◌++◌, Some, slice_get, slice_index_or, ◌<◌}
 use Rattle.ft_static.specs.Expression.{Integer, Memory, Expression, word, variable, operation, sel, rem, memory_variable, upd, integer, memory}
 use Rattle.ft_isa.specs.declared.op.Op.{Op}
@@ -17,7 +17,7 @@ abbrev pub memory_part : Expression → Memory
 memory_part (integer e) = memory_variable
 memory_part (memory m) = m
 
--- the integer that node n stands for, if these are the trees of the nodes
+-- the integer that node n stands for, given the trees of the nodes
 abbrev pub integer_at : List Expression → ℕ → Integer
 integer_at ts n = integer_part (slice_index_or ts n (integer (word 0)))
 
@@ -25,7 +25,7 @@ integer_at ts n = integer_part (slice_index_or ts n (integer (word 0)))
 abbrev pub memory_at : List Expression → ℕ → Memory
 memory_at ts n = memory_part (slice_index_or ts n (integer (word 0)))
 
--- the tree of a node of this shape, if the trees of its parts are among these
+-- the tree of a node of this shape, given trees that include those of its parts
 abbrev pub tree_of : List Expression → Shape → Expression
 tree_of ts (shape.Word w) = integer (word w)
 tree_of ts (shape.Var i) = integer (variable i)
@@ -35,7 +35,7 @@ tree_of ts shape.Memory = memory memory_variable
 tree_of ts (shape.Upd m a v) = memory (upd (memory_at ts m) (integer_at ts a) (integer_at ts v))
 tree_of ts (shape.Rem a m) = integer (rem (integer_at ts a) m)
 
--- the trees so far, and then those of these nodes in increasing order
+-- the trees so far, followed by those of these nodes in order
 abbrev pub trees_onto : List Expression → List Node → List Expression
 trees_onto ts [] = ts
 trees_onto ts (n ∷ ns) = trees_onto (ts ++ tree_of ts n.shape ∷ []) ns
@@ -54,7 +54,7 @@ pub record HasShape (nodes : List Node) (n : ℕ) (x : Shape) : Type 0 where
   pub found : slice_get nodes n ≡ Some node
   pub shape : node.shape ≡ x
 
--- node n stands for this expression: it has its kind, and its parts stand for the expression's parts
+-- node n stands for this expression: both are of the same kind, and the node's parts stand for the expression's parts
 pub data StandsFor (nodes : List Node) : ℕ → Expression → Type 0 where
   word_node : (n w : ℕ) → HasShape nodes n (shape.Word w) → StandsFor nodes n (integer (word w))
   variable_node : (n i : ℕ) → HasShape nodes n (shape.Var i) → StandsFor nodes n (integer (variable i))

@@ -1,5 +1,5 @@
--- The normal form of an expression, from the normal forms of its parts; the same after forms are substituted for the
--- variables, of a tree and of numbered nodes.
+-- The normal form of an expression, built from the normal forms of its parts. Likewise for trees and for numbered
+-- nodes, after forms are substituted for the variables.
 use Rattle.std.specs.Prelude.{ℕ, ◌+◌, ◌*◌, ◌-◌, ◌%◌, ◌^◌, ◌==◌, Bool, true, false, if◌then◌else◌, ◌&&◌, Option, Some, None, nat_le, max, List, [], ◌∷◌, ◌++◌, slice_index_or}
 use Rattle.std.specs.declared.cmp.Ordering.{Ordering}
 use Rattle.std.specs.declared.cmp.Ordering.TheVariants.{Less, Equal, Greater}
@@ -12,13 +12,13 @@ use Rattle.ft_static.specs.declared.node.Node.{Node}
 use Rattle.ft_static.specs.declared.node.Shape.{Shape}
 use Rattle.ft_static.specs.declared.node.Shape.TheVariants as shape
 
--- the first, second or third by the result of a comparison
+-- the first, second or third value, depending on the result of a comparison
 abbrev pub by_order : {A : Type 0} → Ordering → A → A → A → A
 by_order Less x y z = x
 by_order Equal x y z = y
 by_order Greater x y z = z
 
--- a monomial with one more atom, in its place
+-- a monomial with one more atom, inserted in order
 abbrev pub with_factor : Atom → Monomial → Monomial
 with_factor a one = times a one
 with_factor a (times b m) = by_order (cmp_atom a b) (times a (times b m)) (times a (times b m)) (times b (with_factor a m))
@@ -32,27 +32,27 @@ join (times a m) n = join m (with_factor a n)
 abbrev pub led_by : Monomial → ℕ → Polynomial → Polynomial
 led_by m c p = if c == 0 then p else plus m c p
 
--- a polynomial and one more term: in its place, or added to the existing coefficient; a zero is dropped
+-- a polynomial plus a term: inserted in order, or added to the existing coefficient; a zero coefficient is dropped
 abbrev pub add_term : Monomial → ℕ → Polynomial → Polynomial
 add_term m c nought = led_by m c nought
 add_term m c (plus n d p) = by_order (cmp_monomial m n) (led_by m c (plus n d p)) (led_by n ((c + d) % 2 ^ 64) p) (plus n d (add_term m c p))
 
--- the sum by monomials
+-- the sum, monomial by monomial
 abbrev pub total : Polynomial → Polynomial → Polynomial
 total nought q = q
 total (plus m c p) q = total p (add_term m c q)
 
--- q plus each term of p times one term, m with the coefficient c
+-- q plus the products of each term of p with one term, m with coefficient c
 abbrev pub add_multiple : Monomial → ℕ → Polynomial → Polynomial → Polynomial
 add_multiple m c nought q = q
 add_multiple m c (plus n d p) q = add_multiple m c p (add_term (join m n) ((c * d) % 2 ^ 64) q)
 
--- r plus each term of p times each term of q
+-- r plus the products of each term of p with each term of q
 abbrev pub add_products : Polynomial → Polynomial → Polynomial → Polynomial
 add_products nought q r = r
 add_products (plus m c p) q r = add_products p q (add_multiple m c q r)
 
--- the greatest number of atoms in a monomial
+-- the largest number of atoms in a monomial
 abbrev pub degree : Polynomial → ℕ
 degree nought = 0
 degree (plus m c p) = max (factors m) (degree p)
@@ -93,17 +93,17 @@ norm_sub p q = norm_add p (negation q)
 abbrev pub norm_mul : Polynomial → Polynomial → Polynomial
 norm_mul p q = if nat_le (terms p * terms q) 64 && nat_le (degree p + degree q) 4 then add_products p q nought else alone (operation_atom Mul p q)
 
--- a constant, the result of an operation, if both its words are known, else the atom
+-- the result of an operation, as a constant, if both operands are known; else the atom
 abbrev pub folded : Op → Option ℕ → Option ℕ → Atom → Polynomial
 folded o (Some c) (Some d) a = constant (apply o c d)
 folded o c d a = alone a
 
--- an operation that folds, of p and q: a constant if both are constants, else an atom
+-- a folded operation on p and q: a constant if both are constants, else an atom
 abbrev pub norm_folded : Op → Polynomial → Polynomial → Polynomial
 norm_folded o p q = folded o (constant_of p) (constant_of q) (operation_atom o p q)
 
--- sel of a memory form and p: the walk from the newest update on. It gives the value at an equal address, goes past an
--- address from which p differs by a nonzero constant, and stops at any other update and at the end.
+-- sel of a memory form at p: walks the updates from the newest on. It gives the value at an equal address, passes an
+-- address that differs from p by a nonzero constant, and stops at any other update and at the end.
 abbrev pub norm_sel : Updates → Polynomial → Polynomial
 norm_sel unchanged p = alone (sel_atom unchanged p)
 norm_sel (update a v u) p =
@@ -111,12 +111,12 @@ norm_sel (update a v u) p =
     else (if is_not_zero (constant_of (norm_sub p a)) then norm_sel u p
     else alone (sel_atom (update a v u) p))
 
--- upd of a memory form at p with v: the newest update is replaced if it has the address p
+-- upd of a memory form at p with v: the newest update is replaced if its address is p
 abbrev pub norm_upd : Updates → Polynomial → Polynomial → Updates
 norm_upd unchanged p v = update p v unchanged
 norm_upd (update a w u) p v = if same_polynomial a p then update a v u else update p v (update a w u)
 
--- an operation on p and q: add, sub and mul are computed by monomials; any other is folded
+-- an operation on p and q: add, sub and mul are computed monomial by monomial; any other operation is folded
 abbrev pub norm_op : Op → Polynomial → Polynomial → Polynomial
 norm_op Add p q = norm_add p q
 norm_op Sub p q = norm_sub p q
@@ -128,7 +128,7 @@ abbrev pub remainder : Option ℕ → ℕ → Atom → Polynomial
 remainder (Some c) m a = constant (c % m)
 remainder None m a = alone a
 
--- the remainder of p by m: a constant if p is one, else an atom
+-- the remainder of p divided by m: a constant if p is one, else an atom
 abbrev pub norm_rem : Polynomial → ℕ → Polynomial
 norm_rem p m = remainder (constant_of p) m (rem_atom p m)
 
@@ -151,7 +151,7 @@ abbrev pub norm : Expression → Form
 norm (integer e) = integer_form (norm_integer e)
 norm (memory m) = memory_form (norm_memory m)
 
--- whether the two have the same normal form
+-- whether two expressions have the same normal form
 abbrev pub same : Expression → Expression → Bool
 same (integer a) (integer b) = same_polynomial (norm_integer a) (norm_integer b)
 same (memory k) (memory m) = same_updates (norm_memory k) (norm_memory m)
@@ -183,7 +183,7 @@ abbrev pub updates_or : Updates → Form → Updates
 updates_or u (integer_form p) = u
 updates_or u (memory_form w) = w
 
--- the polynomial of node n, if these are the forms of the nodes
+-- the polynomial of node n, given the forms of the nodes
 abbrev pub integer_in : List Form → ℕ → Polynomial
 integer_in fs n = polynomial_of (slice_index_or fs n (integer_form nought))
 
@@ -191,7 +191,7 @@ integer_in fs n = polynomial_of (slice_index_or fs n (integer_form nought))
 abbrev pub memory_in : Updates → List Form → ℕ → Updates
 memory_in u fs n = updates_or u (slice_index_or fs n (integer_form nought))
 
--- the form of a node of this shape, if its parts have these forms
+-- the form of a node of this shape, given the forms of its parts
 abbrev pub form_over : List Polynomial → Updates → (ℕ → Polynomial) → (ℕ → Updates) → Shape → Form
 form_over ps u p m (shape.Word w) = integer_form (constant w)
 form_over ps u p m (shape.Var i) = integer_form (slice_index_or ps i nought)
@@ -201,11 +201,11 @@ form_over ps u p m shape.Memory = memory_form u
 form_over ps u p m (shape.Upd k a v) = memory_form (norm_upd (m k) (p a) (p v))
 form_over ps u p m (shape.Rem a n) = integer_form (norm_rem (p a) n)
 
--- the same, if the forms of its parts are among these
+-- likewise, given forms that include those of its parts
 abbrev pub form_of : List Polynomial → Updates → List Form → Shape → Form
 form_of ps u fs x = form_over ps u (integer_in fs) (memory_in u fs) x
 
--- the forms so far, and then those of these nodes in increasing order
+-- the forms so far, followed by those of these nodes in order
 abbrev pub forms_of_nodes : List Polynomial → Updates → List Form → List Node → List Form
 forms_of_nodes ps u fs [] = fs
 forms_of_nodes ps u fs (n ∷ ns) = forms_of_nodes ps u (fs ++ form_of ps u fs n.shape ∷ []) ns

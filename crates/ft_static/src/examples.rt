@@ -1,5 +1,5 @@
-//! Examples of expressions that have one normal form, and of others that don't. Each function does
-//! nothing: its clauses are computed from the definitions.
+//! Pairs of expressions that have the same normal form, and pairs that don't. The functions do nothing: their clauses
+//! are computed from the definitions.
 ghost use Rattle.std.specs.Prelude.{◌≡◌, ◌-◌, ◌^◌, true, false, [], ◌∷◌};
 ghost use Rattle.ft_isa.specs.declared.op.Op.TheVariants.{And};
 ghost use Rattle.ft_static.specs.Examples.{x, y, z, add, sub, mul, ltu, eq, and, or, xor, shl, shr, sum_up, sum_down, at_x, past_x, then_y, nodes};
@@ -108,7 +108,7 @@ pub fn examples_of_selections()
     ensures another_address { same (integer (sel memory_variable x)) (integer (sel memory_variable y)) ≡ false }
 {}
 
-/// Numbered nodes, their trees, and a form where the word 2 is substituted for the variable.
+/// Numbered nodes, their trees, and a form with the word 2 substituted for the variable.
 pub fn examples_of_nodes()
     ensures lawful { AreNodes nodes }
     ensures sum { tree_at nodes 3 ≡ integer (add x (word 5)) }

@@ -1,4 +1,4 @@
-//! Laws of expressions and of their normal forms. Each function does nothing: its clauses are the law.
+//! Laws of expressions and of their normal forms. The functions do nothing: their clauses are the laws.
 ghost use Rattle.std.specs.Prelude.{◌≡◌, ◌↔◌, ◌+◌, ◌%◌, ◌^◌, ◌<◌, ◌≤◌, true, List, Some, map, slice_get, slice_index_or, ℕ, []};
 ghost use Rattle.std.specs.Cmp.{IsTotalOrder};
 ghost use Rattle.std.specs.Ordering.{nat_cmp};
@@ -14,9 +14,9 @@ ghost use Rattle.ft_static.specs.declared.node.Node.{Node};
 
 use std::cmp::Ordering;
 
-/// The order of forms is total, and it finds two forms equal exactly if they are the same. It is that of lists, by
-/// length and then by the first members that differ, where a polynomial is a list of pairs of monomial and coefficient,
-/// and a memory form one of pairs of address and value.
+/// The order of forms is total, and two forms compare as equal exactly if they are the same. Forms compare as lists do:
+/// by length, then by the first elements that differ. A polynomial is a list of pairs of monomial and coefficient, and
+/// a memory form a list of pairs of address and value.
 pub fn forms_are_ordered()
     ensures atoms { IsTotalOrder cmp_atom }
     ensures monomials { IsTotalOrder cmp_monomial }
@@ -31,9 +31,9 @@ pub fn forms_are_ordered()
     ensures lists_of_stores { (u w : Updates) → cmp_updates u w ≡ cmp_lists (cmp_pairs cmp_polynomial cmp_polynomial) (stores u) (stores w) }
 {}
 
-/// Every normal form is in order: atoms increase, monomials increase strictly and have at most 4 atoms, coefficients
-/// are words other than 0, and a polynomial has at most 64 monomials. So is each row of the normal forms from such
-/// parts, and every form after a substitution of such forms.
+/// Every normal form is in order: its atoms increase, its monomials increase strictly and have at most 4 atoms, its
+/// coefficients are words other than 0, and a polynomial has at most 64 monomials. So is the form built for each kind
+/// of expression from parts in order, and every form after a substitution of forms in order.
 pub fn forms_are_in_order()
     ensures integers { (e : Integer) → IsNormal (norm_integer e) }
     ensures memories { (m : Memory) → AreProperUpdates (norm_memory m) }
@@ -45,10 +45,10 @@ pub fn forms_are_in_order()
     ensures memories_under { (m : Memory) (ps : List Polynomial) (u : Updates) → ((i : ℕ) → IsNormal (slice_index_or ps i nought)) → AreProperUpdates u → AreProperUpdates (norm_memory_under m ps u) }
 {}
 
-/// The coefficient of a sum of polynomials in order, at each monomial, is the sum of the coefficients
-/// modulo 2^64. That of a product within the limit on degrees is the sum, modulo 2^64, of the products of the
-/// coefficients of two monomials whose product is this one. Polynomials in order with the same coefficients are the
-/// same. The product of two monomials has each atom as often as the two together.
+/// At each monomial, the coefficient of a sum of polynomials in order is the sum of their coefficients modulo 2^64. If
+/// their degrees add up to at most 4, the coefficient of their product is the sum, modulo 2^64, of the products of
+/// coefficients over all pairs of monomials whose product is that monomial. Polynomials in order with the same
+/// coefficients are the same. The product of two monomials contains each atom as often as the two together.
 pub fn forms_are_known_by_coefficients()
     ensures sum { (k : Monomial) (p q : Polynomial) → IsProper p → IsProper q → coefficient k (total p q) ≡ (coefficient k p + coefficient k q) % 2 ^ 64 }
     ensures product { (k : Monomial) (p q : Polynomial) → degree p + degree q ≤ 4 → IsProper p → IsProper q → coefficient k (add_products p q nought) ≡ share_of_products k p q % 2 ^ 64 }
@@ -56,17 +56,17 @@ pub fn forms_are_known_by_coefficients()
     ensures counts { (k : Atom) (m n : Monomial) → count k (join m n) ≡ count k m + count k n }
 {}
 
-/// Two expressions are the same exactly if their normal forms are equal. A form denotes what its expression does, if
-/// the expression's numbers are words, under every valuation of the integer variables and of the memory by words. So
-/// two such expressions that are the same denote the same.
+/// Two expressions are the same exactly if their normal forms are equal. If the numbers in an expression are words, its
+/// form denotes what the expression does, under every valuation of the integer variables and of the memory by words. So
+/// two such expressions that are the same denote the same value.
 pub fn forms_denote_as_expressions()
     ensures same_forms { (a b : Expression) → same a b ≡ true ↔ norm a ≡ norm b }
     ensures denotes { (e : Expression) (s : Valuation) → IsLawful s → HasWords e → form_denotation (norm e) s ≡ denotation e s }
     ensures same { (a b : Expression) (s : Valuation) → IsLawful s → HasWords a → HasWords b → same a b ≡ true → denotation a s ≡ denotation b s }
 {}
 
-/// Each row of the normal forms denotes what it stands for under every valuation by words, whatever
-/// forms its parts are.
+/// The form built for each kind of expression, from any forms of its parts, denotes the value of that expression given
+/// the values of the parts, under every valuation by words.
 pub fn rows_denote()
     ensures words { (w : ℕ) (s : Valuation) → IsWord w → value_polynomial (constant w) s ≡ w }
     ensures variables { (i : ℕ) (s : Valuation) → IsLawful s → value_polynomial (alone (variable_atom i)) s ≡ integer_of s i }
@@ -79,9 +79,9 @@ pub fn rows_denote()
     ensures memories_of_words { (u : Updates) (s : Valuation) (a : ℕ) → IsLawful s → IsWord (word_at (value_updates u s) a) }
 {}
 
-/// The form after a substitution is the form taken under the substituted forms, and it denotes what
-/// the expression does in the valuation that the substitution leads to. Under the variables' own
-/// forms an expression has its normal form.
+/// The form of an expression after a substitution is its form under the substituted forms. If the numbers in the
+/// expression are words, that form denotes, under every valuation by words, what the expression does in the valuation
+/// that the substitution gives. Under the variables' own forms, an expression has its normal form.
 pub fn substitution_is_on_forms()
     ensures integer_forms { (e : Integer) (es : List Integer) (k : Memory) → norm_integer (substitute e es k) ≡ norm_under e (map norm_integer es) (norm_memory k) }
     ensures memory_forms { (m : Memory) (es : List Integer) (k : Memory) → norm_memory (substitute_memory m es k) ≡ norm_memory_under m (map norm_integer es) (norm_memory k) }
@@ -94,8 +94,8 @@ pub fn substitution_is_on_forms()
     ensures own_memories { (m : Memory) (n : ℕ) (ps : List Polynomial) → ((i : ℕ) → i < n → slice_index_or ps i nought ≡ alone (variable_atom i)) → IsMemoryWithin n m → norm_memory_under m ps unchanged ≡ norm_memory m }
 {}
 
-/// Each node of a valid list stands for one tree. The numbers in it are words, and its variables are within the node's
-/// scope. The form of a node, computed from the forms of its parts, is that of its tree.
+/// Each node of a valid list stands for exactly one tree. The numbers in the tree are words, and its variables are
+/// within the node's scope. The form of a node, computed from the forms of its parts, is that of its tree.
 pub fn nodes_stand_for_trees()
     ensures stands { (nodes : List Node) (n : ℕ) (node : Node) → AreNodes nodes → slice_get nodes n ≡ Some node → StandsFor nodes n (tree_at nodes n) }
     ensures one { (nodes : List Node) (n : ℕ) (t : Expression) → AreNodes nodes → StandsFor nodes n t → tree_at nodes n ≡ t }

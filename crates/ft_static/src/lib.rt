@@ -1,6 +1,6 @@
 //! Expressions over words and memories, in numbered nodes, and their normal forms.
 //!
-//! The crate holds what a node is and the rules that a list of nodes obeys (`specs/NodeRules.antt`):
+//! The crate defines nodes and the rules that a list of nodes obeys (`specs/NodeRules.antt`):
 //! a node refers only to lower nodes, so each stands for one tree (`specs/NodeTree.antt`). It defines
 //! what trees denote (`specs/Expression.antt`) and their normal forms (`specs/NormalForm.antt`), and
 //! promises in `laws` that forms denote what their expressions do.

@@ -3,12 +3,12 @@ ghost use Rattle.std.specs.Prelude.{◌≡◌, ◌<◌, ◌^◌, Some, length, s
 
 use ft_isa::Op;
 
-/// What a node is. `a`, `b`, `at`, `value` and `memory` are numbers of lower nodes.
+/// What a node is. `a`, `b`, `at`, `value` and `memory` are the numbers of lower nodes.
 #[derive(Clone, Copy, Debug, PartialEq, Eq, PartialOrd, Ord, Hash)]
 pub enum Shape {
     /// A word.
     Word(u64),
-    /// The integer variable of this number.
+    /// The integer variable with this number.
     Var(u8),
     /// An operation on two integers.
     Op { op: Op, a: u32, b: u32 },
@@ -18,7 +18,7 @@ pub enum Shape {
     Memory,
     /// A memory with another word at one address.
     Upd { memory: u32, at: u32, value: u32 },
-    /// The remainder of an integer by a length, from 1 to 1,024.
+    /// The remainder of an integer divided by a length, which is 1 to 1,024.
     Rem { a: u32, length: u32 },
 }
 
@@ -30,7 +30,7 @@ pub struct Node {
     pub shape: Shape,
 }
 
-/// Numbered nodes, however they are kept. Their meaning is a list of nodes.
+/// Numbered nodes, however they are stored. They represent a list of nodes.
 pub trait Nodes {
     ghost use Rattle.std.specs.Prelude.{List};
     ghost use Rattle.ft_static.specs.declared.node.Node.{Node};

@@ -23,7 +23,7 @@ answer_of (Ok t) = Ok t
 answer_of (Err (syntax_at at)) = Err (Syntax at)
 answer_of (Err (deep_at at)) = Err (Deep at)
 
--- the outcome of a text of this length, by its lexemes
+-- the outcome of a text of this length, given its lexemes or the error of its scan
 abbrev lexed_answer : Result (List Lexeme) LexError → ℕ → Result SyntaxTree SourceError
 lexed_answer (Err (lex_errors.Byte at)) end = Err (Byte at)
 lexed_answer (Err (lex_errors.Number at)) end = Err (Number at)
@@ -33,7 +33,7 @@ abbrev IsComputed : List ℕ → Result SyntaxTree SourceError → Type 0
 IsComputed text r = ((length text ≤ text_limit) × (lexed_answer (all_of (scan text)) (length text) ≡ r)) ⊎
     ((text_limit < length text) × (r ≡ Err TooLong))
 
--- an outcome of the lexemes is the machine's
+-- an outcome of the lexemes is the one that the machine computes
 judged_answer : (text : List ℕ) (ts : List Lexeme) (r : Answer) → HasLexemes text ts → Judged ts (length text) r →
     IsComputed text (answer_of r)
 judged_answer text ts r has j = inl (
@@ -91,7 +91,7 @@ some_within text false h = (Err TooLong, grind arith)
 pub some_answer : (text : List ℕ) → (s : Result SyntaxTree SourceError) × IsAnswer text s
 some_answer text = some_within text (nat_le (length text) text_limit) refl
 
--- an error of the scan refuses the text
+-- a text with an error in its scan is refused for it
 pub lex_refused : (text : List ℕ) (e : SourceError) → length text ≤ text_limit → LexRefused e (all_of (scan text)) →
     e ≢ NoMemory → IsRefused text e
 lex_refused text (Byte at) short h other = (short, h)
@@ -108,7 +108,7 @@ lex_refused text (Cells count) short h other = h
 lex_refused text (Registers need) short h other = h
 lex_refused text (Weight weight) short h other = h
 
--- a refusal of the lexemes refuses the text
+-- if the lexemes of a text are refused, so is the text
 pub list_refused : (text : List ℕ) (ts : List Lexeme) (e : SourceError) → length text ≤ text_limit → all_of (scan text)
     ≡ Ok ts → RefusedBy ts (length text) e → e ≢ NoMemory → IsRefused text e
 list_refused text ts (Syntax at) short scanned h other = (ts, record { short = short; scanned = scanned }, h)

@@ -26,17 +26,17 @@ use Rattle.ft_syntax.specs.Grammar.{nothing, more, statement_then, statements_th
 use Rattle.ft_syntax.specs.Grammar.{Declarations, a_cell, a_var, undeclared, declared_then, declaration_then}
 use Rattle.ft_syntax.specs.Grammar.{declarations_then, declarations_tree, Derives}
 
--- the tree that is read, if one is
+-- the tree that the machine reads, if it accepts
 abbrev pub accepts : State → List Lexeme → Option SyntaxTree
 accepts s [] = final s
 accepts s (t ∷ ts) = option_and_then (λ s'. accepts s' ts) (step s t)
 
--- what waits at one level and those looser
+-- what waits at the level of products and at the looser levels
 abbrev at_product : Option NamedExpression → Option NamedExpression → Option (Op × NamedExpression) →
     Option (Op × NamedExpression) → Option (Op × NamedExpression) → Option NamedExpression → Waiting
 at_product e l b h s m = record { equal = e; less = l; bits = b; shift = h; sum = s; product = m }
 
--- an expression of a level was read: what waits on that level, and the last operand
+-- an expression of one level was read: what waits at that level, and the last operand
 pub record Reads (e l : Option NamedExpression) (b h s : Option (Op × NamedExpression)) (x : Context)
     (ts rest : List Lexeme) (value : NamedExpression) : Type 0 where
   pub product : Option NamedExpression
@@ -132,7 +132,7 @@ pub bare_by : (k : Kind) (p : Waiting) (n : Named) (x : Context) → IsNotBracke
 bare_by LBracket p n x h = absurd h
 bare_by _ p n x h = refl
 
--- if no bracket comes, a name has no index
+-- if no bracket follows, a name has no index
 pub bare : (p : Waiting) (n : Named) (x : Context) (rest : List Lexeme) → NoBracket rest → accepts (had_name p n x) rest
     ≡ accepts (had p (name n) x) rest
 bare p n x [] h = refl
@@ -290,7 +290,7 @@ abbrev pub IsNotElse : Kind → Type 0
 IsNotElse Else = ⊥
 IsNotElse _ = Unit {0}
 
--- no `else` comes next
+-- the next lexeme, if any, is not `else`
 abbrev pub NoElse : List Lexeme → Type 0
 NoElse [] = Unit {0}
 NoElse (t ∷ ts) = IsNotElse t.kind
@@ -300,7 +300,7 @@ pub settled_by : (k : Kind) (t : Lexeme) (e : NamedExpression) (first ss : Named
 settled_by Else t e first ss b h = absurd h
 settled_by _ t e first ss b h = refl
 
--- if no `else` comes, an `if` has ended
+-- if no `else` follows, an `if` has ended
 pub settled : (e : NamedExpression) (first ss : NamedStatements) (b : Block) (rest : List Lexeme) → NoElse rest →
     accepts (may_else e first ss b) rest ≡ accepts (stmts (follow ss (choose e first none none)) b) rest
 settled e first ss b [] h = refl
@@ -367,7 +367,7 @@ run_declarations (declared_then before (a_cell w n (Some x) l v r)) rest =
 run_declarations (declared_then before (a_var w n r)) rest =
     run_declarations before (declaration_then (a_var w n r) rest)
 
--- a list that a statement begins is read alike after declarations and among statements
+-- a list that begins with a statement is read the same way after declarations as among statements
 abbrev Begins : List Lexeme → Type 0
 Begins ts = (ds : List Declared) → accepts (decls ds) ts ≡ accepts (stmts none (top ds)) ts
 
@@ -381,7 +381,7 @@ begins_all : (c : Statements) (rest : List Lexeme) → Begins rest → Begins (s
 begins_all nothing rest h = h
 begins_all (more before s) rest h = begins_all before (statement_then s rest) (begins_one s rest)
 
--- what derives is accepted, with its tree
+-- a list that derives a tree is accepted with that tree
 pub complete : (ts : List Lexeme) (p : SyntaxTree) → Derives ts p → accepts (decls []) ts ≡ Some p
 complete ts p (ds, ss, shown, tree) =
     ap (accepts (decls [])) shown ∙ run_declarations ds (statements_then ss [])

@@ -1,4 +1,4 @@
--- The states of the machine with derivations in place of trees, and the lexemes that each of them has read.
+-- The machine's states with derivations in place of trees, and the lexemes that have been read in each.
 use Rattle.std.proofs.Common.{◌≡◌, List, ◌∷◌, Option, Some, None, refl, ap, ◌∙◌}
 use Rattle.ft_lexer.specs.declared.kind.Kind.TheVariants.{Name, Number, Cell, Var, While, If, Else, Assign, LParen}
 use Rattle.ft_lexer.specs.declared.kind.Kind.TheVariants.{RParen, LBrace, RBrace, Plus, Minus, Star, Less, EqEq}
@@ -349,7 +349,7 @@ show_context (value_ofC n o l ss b) rest = show_block b
 show_context (loop_testC w l ss b) rest = show_block b (statements_then ss (of_kind While w ∷ of_kind LParen l ∷ rest))
 show_context (choice_testC w l ss b) rest = show_block b (statements_then ss (of_kind If w ∷ of_kind LParen l ∷ rest))
 
--- the tokens read so far, before those of rest
+-- the lexemes read so far, followed by `rest`
 abbrev pub show : StateC → List Lexeme → List Lexeme
 show (declsC ds) rest = declarations_then ds rest
 show (cell_nameC ds w) rest = declarations_then ds (of_kind Cell w ∷ rest)

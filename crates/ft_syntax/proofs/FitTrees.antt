@@ -1,4 +1,5 @@
--- The tree of a source is fit: a name of cells has at most 32 bytes, and initial words and literals are below 2^64.
+-- The tree of a source fits: the name of a declared cell or array has at most 32 bytes, and initial words and literals
+-- are below 2^64.
 use Rattle.std.proofs.Common.{◌≡◌, ℕ, ◌^◌, ◌<◌, List, [], ◌∷◌, ◌++◌, Option, Some, None, refl, sym, ap, subst}
 use Rattle.std.specs.List.{AllByRecursion}
 use Rattle.ft_lexer.specs.declared.kind.Kind.TheVariants.{Else, Assign, Semi, LParen, RParen, LBrace, RBrace, RBracket}
@@ -27,7 +28,7 @@ IsFitDeclaration (cell n w) = IsNameText n.text × (w < 2 ^ 64)
 IsFitDeclaration (var n) = Unit {0}
 IsFitDeclaration (array n l at w) = IsNameText n.text × (w < 2 ^ 64)
 
--- the lexemes of a declaration make it fit
+-- a declaration fits if its lexemes do
 declaration_fits : (d : Declaration) (rest : List Lexeme) → AllFit (declaration_then d rest) →
     IsFitDeclaration (declaration_tree d) × AllFit rest
 declaration_fits (a_cell w n None l v r) rest h = ((h.1.0.name_fits refl, h.1.1.1.0.number_fits refl), h.1.1.1.1.1)
@@ -37,7 +38,7 @@ declaration_fits (a_cell w n (Some x) l v r) rest h = (
 )
 declaration_fits (a_var w n r) rest h = (tt, h.1.1.1)
 
--- the lexemes of declarations make them fit
+-- declarations fit if their lexemes do
 declarations_fit : (ds : Declarations) (rest : List Lexeme) → AllFit (declarations_then ds rest) →
     AllByRecursion IsFitDeclaration (declarations_tree ds) × AllFit rest
 declarations_fit undeclared rest h = (tt, h)
@@ -67,7 +68,7 @@ HaveWords (assign_at to i e rest) = HasWords i × HasWords e × HaveWords rest
 HaveWords (loop e body rest) = HasWords e × HaveWords body × HaveWords rest
 HaveWords (choose e if_so if_not rest) = HasWords e × HaveWords if_so × HaveWords if_not × HaveWords rest
 
--- the lexemes of an expression make it fit
+-- an expression fits if its lexemes do
 mutual
   equality_fits : (e : Equality) (rest : List Lexeme) → AllFit (equality_then e rest) → HasWords (equality_tree e)
       × AllFit rest
@@ -124,7 +125,7 @@ mutual
   atom_fits (a_number l) rest h = (h.0.number_fits refl, h.1)
   atom_fits (brackets l e r) rest h = let p = equality_fits e (of_kind RParen r ∷ rest) h.1 in (p.0, p.1.1)
 
--- the lexemes of statements make them fit, whatever comes after them
+-- statements fit if their lexemes do, whatever comes after them
 mutual
   statement_fits : (s : Statement) (rest : List Lexeme) → AllFit (statement_then s rest) →
       ((after : StatementList Named) → HaveWords after → HaveWords (statement_tree s after)) × AllFit rest
@@ -162,7 +163,7 @@ mutual
       let y = statement_fits s rest x.1 in
       (λ after k. x.0 (statement_tree s after) (y.0 after k), y.1)
 
--- what holds of the tree of a source
+-- what holds of a source's tree
 pub record IsFitTree (t : SyntaxTree) : Type 0 where
   pub declarations : AllByRecursion IsFitDeclaration t.decls
   pub literals : HaveWords t.body

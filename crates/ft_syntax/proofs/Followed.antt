@@ -1,4 +1,4 @@
--- The tree of statements before others is their tree, followed by the others.
+-- The tree of statements in front of others is their own tree, followed by the others.
 use Rattle.std.proofs.Common.{◌≡◌, Some, None, refl, sym, ap, ◌∙◌}
 use Rattle.ft_syntax.specs.Plain.{StatementList, none, follow}
 use Rattle.ft_syntax.specs.Syntax.{Named}
@@ -15,7 +15,7 @@ statement_followed (looping h body r) after = refl
 statement_followed (choosing h if_so r) after = refl
 statement_followed (choosing_else h if_so r w l if_not q) after = refl
 
--- statements in a row
+-- a list of statements
 pub statements_followed : (c : Statements) (after : StatementList Named) → statements_tree c after
     ≡ follow (statements_tree c none) after
 statements_followed nothing after = refl
@@ -26,7 +26,7 @@ statements_followed (more before s) after =
     ∙ sym (follow_follow (statements_tree before none) one after)
     ∙ ap (λ v. follow v after) (sym (statements_followed before one))
 
--- one statement more
+-- one more statement
 pub more_followed : (before : Statements) (s : Statement) → statements_tree (more before s) none
     ≡ follow (statements_tree before none) (statement_tree s none)
 more_followed before s = statements_followed before (statement_tree s none)

@@ -186,7 +186,7 @@ judge ts end (Err (deep_at at)) q = record {
   deep = q.deep;
 }
 
--- the machine's outcome is what they say
+-- the machine's outcome is what the grammar and the limits say
 pub judged : (ts : List Lexeme) (end : ℕ) → Judged ts end (walk end nothing_open (decls []) ts)
 judged ts end = judge ts end (walk end nothing_open (decls []) ts) (outcome ts nothing_open (decls []) end)
 

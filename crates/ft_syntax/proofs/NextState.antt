@@ -233,7 +233,7 @@ next_had p a (value_ofC n o m ss b) Semi l s h = record {
 }
 next_had p a _ _ l s h = cc
 
--- if no bracket comes, a name has no index, and the next lexeme is read after it
+-- if no bracket follows, a name has no index, and the next lexeme is read right after the name
 next_after_name : (p : WaitingC) (n : Named) (x : ContextC) (k : Kind) (l : Named) (s : State) → IsNotBracket k →
     step (kept (had_nameC p n x)) (of_kind k l) ≡ Some s → Next (had_nameC p n x) (of_kind k l) s
 next_after_name p n x k l s other h =
@@ -281,7 +281,7 @@ next_decls ds While l s h = record { state = loop_openC l nothing (topC ds); is 
 next_decls ds If l s h = record { state = choice_openC l nothing (topC ds); is = unsome h; shows = λ rest. refl }
 next_decls ds _ l s h = cc
 
--- if no `else` comes, an `if` has ended, and the next lexeme is read after it
+-- if no `else` follows, an `if` has ended, and the next lexeme is read right after it
 next_after_choice : (d : Head) (first : Statements) (r : Named) (ss : Statements) (b : BlockC) (k : Kind) (l : Named)
     (s : State) → IsNotElse k → step (kept (may_elseC d first r ss b)) (of_kind k l) ≡ Some s →
     Next (may_elseC d first r ss b) (of_kind k l) s

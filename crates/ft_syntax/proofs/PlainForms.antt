@@ -9,7 +9,7 @@ use Rattle.ft_syntax.specs.declared.stmt.Stmt.{more_of-Stmt, items-the_row-Stmt,
 use Rattle.ft_syntax.specs.Plain.{StatementList, none, assign, assign_at, loop, choose, follow, plain_expression}
 use Rattle.ft_syntax.specs.Plain.{plain_statement, plain_row, plain_list}
 
--- nothing follows
+-- statements followed by none are the statements themselves
 pub follow_none : {M : Type 0} → (a : StatementList M) → follow a none ≡ a
 follow_none none = refl
 follow_none (assign to e rest) = ap (assign to e) (follow_none rest)
@@ -17,7 +17,7 @@ follow_none (assign_at to i e rest) = ap (assign_at to i e) (follow_none rest)
 follow_none (loop e body rest) = ap (loop e body) (follow_none rest)
 follow_none (choose e if_so if_not rest) = ap (choose e if_so if_not) (follow_none rest)
 
--- rows of statements are joined from the left or from the right
+-- `follow` is associative
 pub follow_follow : {M : Type 0} → (a b c : StatementList M) → follow (follow a b) c ≡ follow a (follow b c)
 follow_follow none b c = refl
 follow_follow (assign to e rest) b c = ap (assign to e) (follow_follow rest b c)
@@ -25,14 +25,14 @@ follow_follow (assign_at to i e rest) b c = ap (assign_at to i e) (follow_follow
 follow_follow (loop e body rest) b c = ap (loop e body) (follow_follow rest b c)
 follow_follow (choose e if_so if_not rest) b c = ap (choose e if_so if_not) (follow_follow rest b c)
 
--- a body is the list of its statements
+-- the plain form of a body is that of the list of its statements
 row_list : {N M : Type 0} → (f : N → M) (n : _) (row : Row_of-Stmt N n) → plain_row f row
     ≡ plain_list f (items-the_row-Stmt N n row)
 unfolding plain_row plain_list
 row_list f n end_of-Stmt = refl
 row_list f n (more_of-Stmt s rest) = ap (plain_statement f s) (row_list f _ rest)
 
--- the row of a loop's body and of a choice's first side, and of a choice's second
+-- the body of a loop or the first side of a choice, as a row; `other_row_of` gives the second side of a choice
 abbrev row_of : {N : Type 0} → Stmt N → (n : Count) × Row_of-Stmt N n
 row_of (Assign to e) = (_, end_of-Stmt)
 row_of (AssignAt to i e) = (_, end_of-Stmt)
@@ -79,18 +79,18 @@ if_form {N} {M} f e if_so if_not after =
     ∙ ap (λ x. choose (plain_expression f e) (plain_list f if_so.items) x after) (row_list f q.0 q.1
     ∙ ap (plain_list f) (items_hidden-the_row-Stmt-0 N if_not))
 
--- no statement
+-- an empty list
 pub list_empty : {N M : Type 0} → (f : N → M) → plain_list f [] ≡ none
 unfolding plain_list
 list_empty f = refl
 
--- a first statement
+-- a list with a first statement
 pub list_first : {N M : Type 0} → (f : N → M) (s : Stmt N) (ss : List (Stmt N)) → plain_list f (s ∷ ss)
     ≡ plain_statement f s (plain_list f ss)
 unfolding plain_list
 list_first f s ss = refl
 
--- a statement before others is the statement by itself, followed by them
+-- a statement in front of others is the statement by itself, followed by them
 pub statement_first : {N M : Type 0} → (f : N → M) (s : Stmt N) (after : StatementList M) → plain_statement f s after
     ≡ follow (plain_statement f s none) after
 unfolding plain_statement
@@ -99,7 +99,7 @@ statement_first f (AssignAt to i e) after = refl
 statement_first f (While' e shape body) after = refl
 statement_first f (If' e shape if_so shape2 if_not) after = refl
 
--- a last statement
+-- a list with a last statement
 pub list_push : {N M : Type 0} → (f : N → M) (ss : List (Stmt N)) (s : Stmt N) → plain_list f (ss ++ s ∷ [])
     ≡ follow (plain_list f ss) (plain_statement f s none)
 list_push f [] s = list_first f s [] ∙ ap (plain_statement f s) (list_empty f)
@@ -112,13 +112,13 @@ list_push f (x ∷ ss) s =
     ∙ ap (λ v. follow v (plain_statement f s none)) (sym (statement_first f x (plain_list f ss))
     ∙ sym (list_first f x ss))
 
--- the statements from i, the first of which is known
+-- the statements from i on are statement i and those after it
 pub list_drop : {N M : Type 0} → (f : N → M) (ss : List (Stmt N)) (i : ℕ) (d : Stmt N) → i < length ss →
     plain_list f (drop i ss) ≡ plain_statement f (get_or ss i d) (plain_list f (drop (i + 1) ss))
 list_drop f ss i d h = rw add-one (ap (plain_list f) (drop-cons ss i d h)
     ∙ list_first f (get_or ss i d) (drop (suc i) ss))
 
--- the statements before i + 1, the last of which is known
+-- the first i + 1 statements are the first i and statement i
 pub list_take : {N M : Type 0} → (f : N → M) (ss : List (Stmt N)) (i : ℕ) (d : Stmt N) → i < length ss →
     plain_list f (take (i + 1) ss) ≡ follow (plain_list f (take i ss)) (plain_statement f (get_or ss i d) none)
 list_take f ss i d h = rw add-one (ap (plain_list f) (take-suc ss i d h) ∙ list_push f (take i ss) (get_or ss i d))

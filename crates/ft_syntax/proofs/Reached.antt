@@ -1,4 +1,4 @@
--- Each state that the machine reaches has a derivation so far, and can be completed.
+-- Each state that the machine reaches has a derivation of what was read, and can be completed.
 use Rattle.std.proofs.Common.{◌≡◌, ℕ, List, [], ◌∷◌, ◌++◌, Option, Some, None, refl, sym, ap, subst, ◌∙◌, append_assoc}
 use Rattle.std.proofs.Common.{append-nil, ◌⊎◌, inl, inr, ⊎_elim}
 use Rattle.std.specs.Prelude.{option_and_then, codes}
@@ -21,7 +21,7 @@ use Rattle.ft_syntax.specs.Grammar.{undeclared, declarations_then, declarations_
 use Rattle.ft_syntax.proofs.Derived.{topC, StateC, declsC, stmtsC, may_elseC, kept, show}
 use Rattle.ft_syntax.proofs.NextState.{unsome, next}
 
--- the state after these tokens, if the machine goes through them
+-- the state after these tokens, if the machine gets through them
 abbrev pub steps : State → List Lexeme → Option State
 steps s [] = Some s
 steps s (t ∷ ts) = option_and_then (λ s'. steps s' ts) (step s t)
@@ -66,7 +66,7 @@ pub record Completes (s : State) : Type 0 where
   pub accepted : accepts s tokens ≡ Some program
   pub no_else : NoElse tokens
 
--- the text of the required lexeme: a name is `x`, a number or an expression `0`
+-- a text for the required lexeme: `x` for a name, `0` for a number or an expression
 abbrev wanted_text : Kind → List ℕ
 wanted_text Name = codes "x"
 wanted_text Number = codes "0"
@@ -246,7 +246,7 @@ accepted_steps s (t ∷ ts) p h = ⊎_elim
     (r.0, ap (option_and_then (λ s'. steps s' ts)) some ∙ r.1, r.2))
     (option_case (step s t))
 
--- what is accepted derives
+-- a list that is accepted derives the tree that is read
 pub sound : (ts : List Lexeme) (p : SyntaxTree) → accepts (decls []) ts ≡ Some p → Derives ts p
 sound ts p h =
     let r = accepted_steps (decls []) ts p h in
@@ -264,7 +264,7 @@ steps_then s s' (t ∷ ts) us h = ⊎_elim
     ap (option_and_then (λ s'. accepts s' (ts ++ us))) some ∙ steps_then s1 s' ts us go)
     (option_case (step s t))
 
--- what the machine goes through is viable
+-- a list that the machine gets through is viable
 pub viable : (ts : List Lexeme) (s : State) → steps (decls []) ts ≡ Some s → IsViable ts
 viable ts s h =
     let r = completed s in
@@ -276,7 +276,7 @@ stuck_then s s' ts us t h stuck =
     ap (accepts s) (append_assoc ts (t ∷ []) us) ∙ steps_then s s' ts (t ∷ us) h
     ∙ ap (option_and_then (λ s'. accepts s' us)) stuck
 
--- if the machine stops, the list isn't viable
+-- if the machine stops, the list is not viable
 pub not_viable : (ts : List Lexeme) (s : State) (t : Lexeme) → steps (decls []) ts ≡ Some s → step s t ≡ None →
     IsViable (ts ++ t ∷ []) → ⊥
 not_viable ts s t h stuck (us, p, d) =
@@ -284,14 +284,14 @@ not_viable ts s t h stuck (us, p, d) =
     let b = stuck_then (decls []) s ts us t h stuck in
     cc
 
--- one list has one tree
+-- a list derives at most one tree
 pub one_tree : (ts : List Lexeme) (p q : SyntaxTree) → Derives ts p → Derives ts q → p ≡ q
 one_tree ts p q d e =
     let a = complete ts p d in
     let b = complete ts q e in
     cc
 
--- the machine gets through a list if more of it is accepted
+-- the machine gets through a list if it accepts a longer list that begins with it
 pub gone_through : (s : State) (ts us : List Lexeme) (p : SyntaxTree) → accepts s (ts ++ us) ≡ Some p → (s' : State)
     × (steps s ts ≡ Some s')
 gone_through s [] us p h = (s, refl)

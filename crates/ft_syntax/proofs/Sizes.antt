@@ -1,4 +1,4 @@
--- Each node of a tree has a token, and each token has a byte.
+-- Each node of a tree has a token of its own, and each token has a byte.
 use Rattle.std.proofs.Common.{◌≡◌, Some, None, ℕ, ◌+◌, ◌<◌, ◌≤◌, List, [], ◌∷◌, length, take, drop, Result, Ok, Err}
 use Rattle.std.proofs.Common.{refl, ap, arith, length-append, length-drop, length-take}
 use Rattle.ft_lexer.specs.declared.lex_error.LexError.{LexError}

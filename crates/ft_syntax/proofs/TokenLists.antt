@@ -5,7 +5,7 @@ use Rattle.ft_lexer.specs.declared.lex_error.LexError.{LexError}
 use Rattle.ft_lexer.specs.Scan.{Lexeme, lexeme, with_token}
 use Rattle.ft_syntax.specs.View.{lexemes}
 
--- the lexemes so far, and then those of the rest
+-- the lexemes so far, followed by those of the rest
 unfoldable pub after : List Lexeme → Result (List Lexeme) LexError → Result (List Lexeme) LexError
 after [] r = r
 after (t ∷ ts) r = with_token t (after ts r)

@@ -19,7 +19,8 @@ source_number (source.Array at) = 11
 source_number (source.Length at) = 12
 source_number source.NoMemory = 0
 
--- its argument: a place, what is above a limit, or the limit of a text; 0 for out of memory
+-- the argument of a refusal: a place, the number that exceeds a limit, or the maximum size of a text; 0 for out of
+-- memory
 abbrev pub source_told : SourceError → ℕ
 source_told source.TooLong = 1048576
 source_told (source.Byte at) = at

@@ -82,7 +82,7 @@ mutual
     a_number : Named → Atom
     brackets : Named → Equality → Named → Atom
 
--- the lexemes of a derivation, before those of rest
+-- the lexemes of a derivation, followed by `rest`
 abbrev mutual
   pub equality_then : Equality → List Lexeme → List Lexeme
   equality_then (comparison c) rest = comparison_then c rest
@@ -163,7 +163,7 @@ abbrev pub index_tree : Option Index → Option (Expression Named)
 index_tree None = None
 index_tree (Some i) = Some (equality_tree i.index)
 
--- "while" "(" expr ")" "{", and the same with "if"
+-- ( "while" | "if" ) "(" expr ")" "{"
 pub record Head : Type 0 where
   pub word : Named
   pub left : Named
@@ -174,7 +174,8 @@ pub record Head : Type 0 where
 abbrev pub head_then : Kind → Head → List Lexeme → List Lexeme
 head_then k h rest = of_kind k h.word ∷ of_kind LParen h.left ∷ equality_then h.test (of_kind RParen h.right ∷ of_kind LBrace h.brace ∷ rest)
 
--- stmt = NAME [ "[" expr "]" ] "=" expr ";" | "while" "(" expr ")" "{" { stmt } "}" | "if" "(" expr ")" "{" { stmt } "}" [ "else" "{" { stmt } "}" ]
+-- stmt = NAME [ "[" expr "]" ] "=" expr ";" | "while" "(" expr ")" "{" { stmt } "}"
+--   | "if" "(" expr ")" "{" { stmt } "}" [ "else" "{" { stmt } "}" ]
 mutual
   pub data Statement : Type 0 where
     assignment : Named → Option Index → Named → Equality → Named → Statement
@@ -187,7 +188,7 @@ mutual
     nothing : Statements
     more : Statements → Statement → Statements
 
--- the lexemes of statements, before those of rest
+-- the lexemes of statements, followed by `rest`
 abbrev mutual
   pub statement_then : Statement → List Lexeme → List Lexeme
   statement_then (assignment n o l e r) rest = of_kind Name n ∷ index_then o (of_kind Assign l ∷ equality_then e (of_kind Semi r ∷ rest))
@@ -200,7 +201,7 @@ abbrev mutual
   statements_then nothing rest = rest
   statements_then (more before s) rest = statements_then before (statement_then s rest)
 
--- the tree of a derivation of statements, before the statements after it
+-- the tree of a derivation of statements, followed by other statements
 abbrev mutual
   pub statement_tree : Statement → StatementList Named → StatementList Named
   statement_tree (assignment n o l e r) after = assigning n (index_tree o) (equality_tree e) after
@@ -238,7 +239,7 @@ pub data Declarations : Type 0 where
   undeclared : Declarations
   declared_then : Declarations → Declaration → Declarations
 
--- the lexemes of declarations, before those of rest
+-- the lexemes of declarations, followed by `rest`
 abbrev pub declaration_then : Declaration → List Lexeme → List Lexeme
 declaration_then (a_cell w n o l v r) rest = of_kind Cell w ∷ of_kind Name n ∷ extent_then o (of_kind Assign l ∷ of_kind Number v ∷ of_kind Semi r ∷ rest)
 declaration_then (a_var w n r) rest = of_kind Var w ∷ of_kind Name n ∷ of_kind Semi r ∷ rest

@@ -1,4 +1,4 @@
--- The limits on a source: its bytes, the brackets and braces that are open, and the operators of an assignment or a test.
+-- The limits on a source: its bytes, its open brackets and braces, and the operators of an assignment or a test.
 use Rattle.std.specs.Prelude.{◌≡◌, ℕ, ◌+◌, ◌-◌, Bool, false, List, [], ◌∷◌, nat_le}
 use Rattle.ft_lexer.specs.declared.kind.Kind.{Kind}
 use Rattle.ft_lexer.specs.declared.kind.Kind.TheVariants.{While, If, Semi, LParen, RParen, LBrace, RBrace, Plus, Minus, Star, Less, EqEq, LBracket, RBracket, And, Or, Xor, Shl, Shr}

@@ -1,4 +1,5 @@
--- A machine that reads the lexemes one by one, with everything that is open on a stack. Only private clauses cite it.
+-- A machine that reads the lexemes one by one and keeps everything that is open on a stack. Only private clauses cite
+-- it.
 use Rattle.std.specs.Prelude.{ℕ, Bool, true, false, List, [], ◌∷◌, ◌++◌, Option, Some, None, Ok, Err}
 use Rattle.ft_isa.specs.declared.op.Op.{Op}
 use Rattle.ft_isa.specs.declared.op.Op.TheVariants.{Add, Sub, Mul, Ltu, Eq}
@@ -146,7 +147,7 @@ abbrev pub had_by : Kind → Option Waiting → Waiting → NamedExpression → 
 had_by k (Some q) p a x = Some (want q x)
 had_by k None p a x = ended k (close p a) x
 
--- the state after a name, whose index may follow: a bracket opens it
+-- the state after a name, given the next kind: a bracket opens an index
 abbrev pub had_name_by : Kind → Waiting → Named → Context → Option State
 had_name_by LBracket p n x = Some (want empty (index_of p n x))
 had_name_by k p n x = had_by k (push k p (name n)) p (name n) x
@@ -188,7 +189,7 @@ abbrev pub is_assign : Kind → Option State → Option State
 is_assign Assign s = s
 is_assign _ s = None
 
--- the state after the name that a statement begins with: a bracket opens its index
+-- the state after the name that begins a statement: a bracket opens its index
 abbrev pub target_by : Kind → Named → NamedStatements → Block → Option State
 target_by LBracket n ss b = Some (want empty (target_of n ss b))
 target_by k n ss b = is_assign k (Some (want empty (value_of n None ss b)))

@@ -11,7 +11,7 @@ pub data Expression (N : Type 0) : Type 0 where
   indexed : N → Expression N → Expression N
   operation : Op → Expression N → Expression N → Expression N
 
--- statements in a row: none, or a first one and those after it
+-- a list of statements: none, or a first one and those after it
 pub data StatementList (N : Type 0) : Type 0 where
   none : StatementList N
   assign : N → Expression N → StatementList N → StatementList N
@@ -19,7 +19,7 @@ pub data StatementList (N : Type 0) : Type 0 where
   loop : Expression N → StatementList N → StatementList N → StatementList N
   choose : Expression N → StatementList N → StatementList N → StatementList N → StatementList N
 
--- statements, and then others
+-- statements followed by others
 abbrev pub follow : {N : Type 0} → StatementList N → StatementList N → StatementList N
 follow none after = after
 follow (assign to e rest) after = assign to e (follow rest after)
@@ -32,14 +32,14 @@ abbrev pub assigning : {N : Type 0} → N → Option (Expression N) → Expressi
 assigning to None e rest = assign to e rest
 assigning to (Some i) e rest = assign_at to i e rest
 
--- the plain form of an expression, if f gives the plain form of a name
+-- the plain form of an expression, given that of each name
 abbrev pub plain_expression : {N M : Type 0} → (N → M) → Expr N → Expression M
 plain_expression f (Literal w) = literal w
 plain_expression f (Name n) = name (f n)
 plain_expression f (At' n p i) = indexed (f n) (plain_expression f i)
 plain_expression f (Op' o p a q b) = operation o (plain_expression f a) (plain_expression f b)
 
--- the plain form of a statement before others, and that of a body, which is a row of statements
+-- the plain form of a statement followed by others, and that of a body, which is a row of statements
 unfoldable mutual
   pub plain_statement : {N M : Type 0} → (N → M) → Stmt N → StatementList M → StatementList M
   plain_statement f (Assign to e) after = assign (f to) (plain_expression f e) after

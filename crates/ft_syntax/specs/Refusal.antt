@@ -17,7 +17,7 @@ pub data Fault : Type 0 where
 abbrev pub Answer : Type 0
 Answer = Result SyntaxTree Fault
 
--- after the lexeme at this place, and after none before it, no program is possible; nothing before it exceeds a limit
+-- the lexeme at this place is the first after which no program is possible; nothing before it exceeds a limit
 pub record StopsAt (ts : List Lexeme) (at : ℕ) : Type 0 where
   pub before : List Lexeme
   pub lexeme : Lexeme

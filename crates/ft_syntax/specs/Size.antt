@@ -6,7 +6,7 @@ use Rattle.ft_syntax.specs.declared.stmt.Stmt.{Stmt}
 use Rattle.ft_syntax.specs.Plain.{Expression, literal, name, indexed, operation, StatementList, none, assign, assign_at, loop, choose, plain_list}
 use Rattle.ft_syntax.specs.Syntax.{named}
 
--- the nodes of an expression: a literal, a name, an indexed read or an operator is one
+-- the nodes of an expression: each literal, name, indexed read or operator counts as one
 abbrev pub expression_nodes : {N : Type 0} → Expression N → ℕ
 expression_nodes (literal w) = 1
 expression_nodes (name n) = 1

@@ -13,13 +13,14 @@ pub record Named : Type 0 where
 abbrev pub named : Spot → Named
 named s = record { text = s.text.now; at = s.at }
 
--- a declaration: a cell with its initial word, a variable, or an array with its length, the place of that, and the initial word of its cells
+-- a declaration: a cell with its initial word, a variable, or an array with its length, the length's place, and the
+-- initial word of its cells
 pub data Declared : Type 0 where
   cell : Named → ℕ → Declared
   var : Named → Declared
   array : Named → ℕ → ℕ → ℕ → Declared
 
--- a cell, or an array with its length and the place of that
+-- a cell, or an array with its length and the length's place
 abbrev pub cell_or_array : Named → Option (ℕ × ℕ) → ℕ → Declared
 cell_or_array n None v = cell n v
 cell_or_array n (Some l) v = array n l.0 l.1 v

@@ -1,4 +1,4 @@
--- The syntax tree that a value of the code stands for.
+-- The syntax tree that a value of the code represents.
 use Rattle.std.specs.Prelude.{List}
 use Rattle.ft_syntax.specs.declared.decl.Decl.{Decl}
 use Rattle.ft_syntax.specs.declared.spot.Spot.{Spot}

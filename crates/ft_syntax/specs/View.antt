@@ -43,21 +43,21 @@ signed p = (p.0, expression p.1)
 abbrev pub waiting : Pending → Waiting
 waiting p = record { equal = option_map expression p.equal; less = option_map expression p.less; bits = option_map signed p.bits; shift = option_map signed p.shift; sum = option_map signed p.sum; product = option_map expression p.product }
 
--- the error is the machine's outcome, out of memory aside
+-- the error is the machine's outcome, unless memory ran out
 abbrev pub Refuses : SourceError → Answer → Type 0
 Refuses (Syntax at) r = r ≡ Err (syntax_at at)
 Refuses (Deep at) r = r ≡ Err (deep_at at)
 Refuses NoMemory r = Unit {0}
 Refuses _ r = ⊥
 
--- the error is the refusal of the lexemes, out of memory aside
+-- the error is the refusal of the lexemes, unless memory ran out
 abbrev pub RefusedBy : List Lexeme → ℕ → SourceError → Type 0
 RefusedBy ts end (Syntax at) = IsFault ts end (syntax_at at)
 RefusedBy ts end (Deep at) = IsFault ts end (deep_at at)
 RefusedBy ts end NoMemory = Unit {0}
 RefusedBy ts end _ = ⊥
 
--- the error is that of the scan, out of memory aside
+-- the error is that of the scan, unless memory ran out
 abbrev pub LexRefused : SourceError → Result (List Lexeme) LexError → Type 0
 LexRefused (Byte at) r = r ≡ Err (lex_errors.Byte at)
 LexRefused (Number at) r = r ≡ Err (lex_errors.Number at)

@@ -18,7 +18,7 @@ use std::alloc::Global;
 /// The declarations and the statements of a program.
 pub type Parts<'a> = (Vec<Decl<'a>>, Vec<Stmt<Spot<'a>>>);
 
-/// A cell, or an array with its length and the place of that.
+/// A cell, or an array with its length and the length's place.
 fn cell_or_array<'a>(name: Spot<'a>, extent: Option<(u64, usize)>, init: u64) -> Decl<'a>
     ensures { declared result ≡ cell_or_array (named name.entry) extent init }
 {
@@ -73,7 +73,7 @@ impl<'a, 't> Parser<'a, 't> {
         Ok(t.value())
     }
 
-    /// Takes the length of an array, and returns its place too.
+    /// Takes the length of an array, and returns it with its place.
     fn length(&mut self) -> Result<(u64, usize), SourceError>
         ensures ok { IfOk result (λ l. (ds : List Declared) (n : Named) → from self.old (cell_length ds n) ≡ from self.new (cell_close ds n l)) }
         ensures err { IfErr result (λ e. (ds : List Declared) (n : Named) → Refuses e (from self.old (cell_length ds n))) }
@@ -90,7 +90,7 @@ impl<'a, 't> Parser<'a, 't> {
         Ok((t.value(), t.at))
     }
 
-    /// Reads the length of an array in its brackets, if one comes next.
+    /// Reads the length of an array, in brackets, if one comes next.
     fn extent(&mut self) -> Result<Option<(u64, usize)>, SourceError>
         ensures ok { IfOk result (λ o. (ds : List Declared) (n : Named) → from self.old (cell_is ds n) ≡ from self.new (cell_sized ds n o)) }
         ensures err { IfErr result (λ e. (ds : List Declared) (n : Named) → Refuses e (from self.old (cell_is ds n))) }
@@ -218,7 +218,7 @@ impl<'a, 't> Parser<'a, 't> {
     }
 }
 
-/// The tree of these tokens, which are all of a text of this length.
+/// The tree of these tokens, which are all the tokens of a text of this length.
 pub fn parse_tokens<'a>(
     alloc: Global,
     tokens: &[Token<'a>],

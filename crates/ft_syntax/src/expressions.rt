@@ -142,7 +142,7 @@ impl<'a, 't> Parser<'a, 't> {
         indexed(alloc, name, index)
     }
 
-    /// Reads the rest of an expression if operands already wait.
+    /// Reads the rest of an expression, given the operands that already wait.
     #[cycle(expression)]
     fn operations(
         &mut self,
@@ -165,7 +165,7 @@ impl<'a, 't> Parser<'a, 't> {
         }
     }
 
-    /// Reads the longest expression.
+    /// Reads the longest expression that begins here.
     #[cycle(expression)]
     pub fn expr(&mut self, alloc: Global) -> Result<Expr<Spot<'a>>, SourceError>
         requires { self.old.opened ≤ 100 }

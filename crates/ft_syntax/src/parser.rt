@@ -1,4 +1,4 @@
-//! The parser's place.
+//! The parser's state and its limits.
 ghost use Rattle.std.specs.Prelude.{◌≡◌, ℕ, ◌<◌, List, Option, length, IfErr, OnOk};
 ghost use Rattle.ft_syntax.specs.Syntax.{Named, Declared};
 ghost use Rattle.ft_syntax.specs.Machine.{NamedExpression, NamedStatements, Block, cell_sized, cell_number, assign_is, value_of, want, empty};

@@ -1,4 +1,4 @@
-//! Operands that wait for the operators after them.
+//! Left operands that wait for their right ones.
 ghost use Rattle.std.specs.Prelude.{◌≡◌, Some, None, IfOk, OnOk, IfErr, option_map};
 ghost use Rattle.ft_syntax.specs.Plain.{operation as operation_of};
 ghost use Rattle.ft_syntax.specs.Machine.{empty, close, push, product_of, sum_of, shift_of, bits_of, less_of, join, join_signed};
@@ -108,7 +108,7 @@ impl<'a> Pending<'a> {
         join(alloc, Op::Eq, self.equal.take(), a)
     }
 
-    /// The whole expression, after its last operand.
+    /// The whole expression, given its last operand.
     pub fn close(mut self, alloc: Global, a: Expr<Spot<'a>>) -> Result<Expr<Spot<'a>>, SourceError>
         ensures ok { IfOk result (λ e. expression e ≡ close (waiting self.entry) (expression a.entry)) }
         ensures err { IfErr result (λ e. e ≡ SourceError.NoMemory) }
@@ -142,7 +142,7 @@ impl<'a> Pending<'a> {
     }
 }
 
-/// An operation, or only its right operand.
+/// The operation, or only its right operand if no left one waits.
 fn join<'a>(
     alloc: Global,
     op: Op,
@@ -177,7 +177,7 @@ fn operation<'a>(
     Ok(Expr::Op { op, a, b })
 }
 
-/// An operation of one of some kinds, or only its right operand.
+/// The operation that waits with its left operand, or only the right operand if none waits.
 fn join_signed<'a>(
     alloc: Global,
     left: Option<(Op, Expr<Spot<'a>>)>,

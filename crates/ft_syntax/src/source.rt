@@ -16,9 +16,9 @@ const TEXT_LIMIT: usize = 1_048_576;
 
 /// The tree of a source text, whose names are slices of the text.
 ///
-/// A text that is not a source is refused with its first refusal, in this order: `TooLong`; `Byte` and `Number` by
-/// place over the whole text; `Syntax` and `Deep` by place over the tokens, `Syntax` first at one token. Each token is
-/// read once.
+/// A text that is not a source is refused with its first refusal, in this order: `TooLong`; the first `Byte` or
+/// `Number` in the text; the first `Syntax` or `Deep` among the tokens, and `Syntax` if both are at the same token.
+/// Each token is read once.
 pub fn parse<'a>(alloc: Global, text: &'a [u8]) -> Result<Tree<'a>, SourceError>
     ensures ok { IfOk result (λ tree. IsSource text.now (tree_of tree)) }
     ensures nodes { IfOk result (λ tree. node_count tree.decls.items tree.body.items ≤ length text.now) }

@@ -3,8 +3,8 @@ ghost use Rattle.std.specs.Prelude.{◌≡◌};
 
 use thiserror::Error;
 
-/// The first refusal of a source, in the order of the variants; places count bytes from 0. `NoMemory`, out of memory,
-/// may come in place of any.
+/// The first refusal of a source, in the order that `parse` here and `resolve` in `ft_scope` state; places count bytes
+/// from 0. `NoMemory` may be returned in place of any other result.
 #[derive(Clone, Copy, Debug, PartialEq, Eq, Error)]
 pub enum SourceError {
     /// The text has more than 1,048,576 bytes.
@@ -16,7 +16,8 @@ pub enum SourceError {
     /// The number whose first digit is at `at` is 2^64 or more.
     #[error("too large a number at byte {at}")]
     Number { at: usize },
-    /// No program is possible after the token at `at`; if the text only lacks something, `at` is its length.
+    /// No program is possible after the token at `at`; if something is missing at the end of the text, `at` is the
+    /// text's length.
     #[error("no program from byte {at} on")]
     Syntax { at: usize },
     /// The token at `at` opens a 101st bracket or brace, or is the 201st operator of one assignment,
@@ -73,8 +74,8 @@ impl SourceError {
         }
     }
 
-    /// The refusal's argument: a place in bytes, what is above a limit, or for `TooLong` the limit itself; 0 when out of
-    /// memory.
+    /// The refusal's argument: a place in bytes, the number that exceeds a limit, or for `TooLong` the limit itself; 0
+    /// when out of memory.
     pub fn told(self) -> u64
         ensures { result ≡ source_told self }
     {

@@ -1,6 +1,6 @@
 //! Names with their places.
 
-/// A name: the slice of the source that it is, and the place of its first byte, counted from 0.
+/// A name: its slice of the source, and the place of its first byte, counted from 0.
 #[derive(Clone, Copy, Debug)]
 pub struct Spot<'a> {
     pub text: &'a [u8],

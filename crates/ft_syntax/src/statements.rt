@@ -121,7 +121,7 @@ impl<'a, 't> Parser<'a, 't> {
         Ok(())
     }
 
-    /// Reads the index of the name that is assigned to, if one comes next.
+    /// Reads the index of the name assigned to, if one comes next.
     fn target(&mut self, alloc: Global) -> Result<Option<Expr<Spot<'a>>>, SourceError>
         requires { self.old.opened ≤ 100 }
         ensures ok { IfOk result (λ o. (n : Named) (ss : NamedStatements) (b : Block) → from self.old (target_is n ss b) ≡ from self.new (assign_is n (option_map expression o) ss b)) }
@@ -197,7 +197,7 @@ impl<'a, 't> Parser<'a, 't> {
         }
     }
 
-    /// Reads the longest list of statements.
+    /// Reads the longest list of statements that begins here.
     #[tactic(auto, using(crate::proofs::PlainForms::while_form, crate::proofs::PlainForms::if_form, crate::proofs::PlainForms::list_push, crate::proofs::PlainForms::list_empty))]
     #[cycle(statement)]
     pub fn statements(&mut self, alloc: Global) -> Result<Vec<Stmt<Spot<'a>>>, SourceError>
@@ -217,7 +217,7 @@ impl<'a, 't> Parser<'a, 't> {
         Ok(all)
     }
 
-    /// Reads a body to its brace.
+    /// Reads a body and the brace that closes it.
     #[tactic(auto, using(crate::proofs::PlainForms::while_form, crate::proofs::PlainForms::if_form, crate::proofs::PlainForms::list_push, crate::proofs::PlainForms::list_empty))]
     #[cycle(statement)]
     fn body(&mut self, alloc: Global) -> Result<Vec<Stmt<Spot<'a>>>, SourceError>
@@ -237,7 +237,7 @@ impl<'a, 't> Parser<'a, 't> {
         Ok(all)
     }
 
-    /// Reads what `else` leads to, if it comes next.
+    /// Reads the `else` side of an `if`, if one comes next.
     #[tactic(auto, using(crate::proofs::PlainForms::while_form, crate::proofs::PlainForms::if_form, crate::proofs::PlainForms::list_push, crate::proofs::PlainForms::list_empty))]
     #[cycle(statement)]
     fn otherwise(&mut self, alloc: Global) -> Result<Vec<Stmt<Spot<'a>>>, SourceError>

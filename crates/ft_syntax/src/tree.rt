@@ -6,8 +6,8 @@ use crate::decl::Decl;
 use crate::spot::Spot;
 use crate::stmt::Stmt;
 
-/// A syntax tree, whose names are slices of the source. Its declarations, statements and expression nodes are together
-/// at most 1,048,576.
+/// A syntax tree, whose names are slices of the source. It has at most 1,048,576 declarations, statements and
+/// expression nodes together.
 #[derive(Debug, Drop)]
 pub struct Tree<'a> {
     pub decls: Vec<Decl<'a>>,

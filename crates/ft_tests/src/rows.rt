@@ -3,10 +3,10 @@ use ft_edge::{MemShelf, MemSink, Source, SureSource};
 use ft_worked_objects::{A, A2, BRANCH, I, J, J64, K, L, LOOP, N, OVER, Q, TWICE, X, X2};
 use std::test::Fail;
 
-/// Words, the text that is written, and the status.
+/// Words, the text written, and the status.
 pub type Row<'a> = (&'a str, &'a str, u8);
 
-/// Objects under their names.
+/// Objects by name.
 const OBJECTS: &[(&str, &[u8])] = &[
     ("A", A),
     ("A2", A2),
@@ -122,7 +122,7 @@ pub fn check_rows(rt: &impl AllocGlobal, rows: &[Row]) -> Result<(), Fail> {
     Ok(())
 }
 
-/// Fails unless the row holds over the one file `file` with these bytes.
+/// Fails unless the row holds over the single file `file` with these bytes.
 pub fn check_file(rt: &impl AllocGlobal, bytes: &[u8], row: Row) -> Result<(), Fail> {
     let mut shelf = MemShelf::new(rt.alloc());
     shelf.add("file", bytes)?;
@@ -130,7 +130,7 @@ pub fn check_file(rt: &impl AllocGlobal, bytes: &[u8], row: Row) -> Result<(), F
     check_row(rt, row, &mut shelf, &mut sink)
 }
 
-/// Fails unless the row holds over the one file `file` with the bytes of an object, some of them changed.
+/// Fails unless the row holds over the single file `file` with the bytes of an object, some of them changed.
 pub fn check_altered(
     rt: &impl AllocGlobal,
     object: &[u8],

@@ -1,4 +1,4 @@
--- Whether a text is what is written of some value: a piece and a word, two words, a number.
+-- Whether a text spells some value: a piece and a word, two words, or a number.
 use Rattle.std.proofs.Common.{◌≡◌, ◌⊎◌, inl, inr, ℕ, ◌+◌, ◌-◌, ◌^◌, ◌<◌, ◌≤◌, Bool, true, false, List, ◌++◌, length}
 use Rattle.std.proofs.Common.{take, drop, Option, Some, None, nat_lt, decimal, codes, refl, ap, sym, ◌∙◌, arith}
 use Rattle.std.specs.Prelude.{position}
@@ -15,15 +15,15 @@ use Rattle.ft_isa.proofs.NumberRead.{next_number, number_told, IsNumberRead}
 use Rattle.ft_isa.proofs.NumberText.{whole_number, number_reader}
 use Rattle.ft_text.proofs.FirstWords.{HasNoSpace, is_space, begins, begins_not, split_there, split_only, split_never}
 
--- something of a kind holds, or nothing does
+-- some value satisfies P, or none does
 abbrev pub IsDecided : {A : Type 0} → (A → Type 0) → Type 0
 IsDecided {A} P = ((x : A) × P x) ⊎ ((x : A) → ¬ (P x))
 
--- a text is what is written of a good value
+-- a text spells a good value
 abbrev pub IsOf : {A : Type 0} → (A → Type 0) → (A → List ℕ) → List ℕ → A → Type 0
 IsOf Good written text x = Good x × (text ≡ written x)
 
--- two kinds, if each member of one gives a member of the other
+-- a decision on P decides Q, if each P gives a Q and each Q gives a P
 pub moved : {A B : Type 0} (P : A → Type 0) (Q : B → Type 0) → ((x : A) → P x → (y : B) × Q y) →
     ((y : B) → Q y → (x : A) × P x) → IsDecided P → IsDecided Q
 moved P Q there back (inl x) = inl (there x.0 x.1)
@@ -34,7 +34,7 @@ moved P Q there back (inr none) = inr (λ y h. (let x = back y h in none x.0 x.1
 -- a piece, and then a text of some kind
 module _ {A : Type 0} (Good : A → Type 0) (written : A → List ℕ) (found : (text : List ℕ) →
     IsDecided (IsOf Good written text)) (piece line : List ℕ) where
-  -- by whether the text begins with the piece
+  -- cases: whether the text begins with the piece
   by_front : (b : Bool) → bytes_eq (take (length piece) line) piece ≡ b →
       IsDecided (IsOf Good (λ x. piece ++ written x) line)
   by_front true e =
@@ -61,7 +61,7 @@ with_space a b p = a p.0 ++ codes " " ++ b p.1
 module _ {A B : Type 0} (GoodA : A → Type 0) (a : A → List ℕ) (GoodB : B → Type 0) (b : B → List ℕ) (free : (x : A) →
     GoodA x → HasNoSpace (a x)) (found_a : (text : List ℕ) → IsDecided (IsOf GoodA a text)) (found_b : (text : List ℕ) →
     IsDecided (IsOf GoodB b text)) (text : List ℕ) where
-  -- by the words around the first space
+  -- cases: the words around the first space
   by_words : (at : ℕ) → position is_space text ≡ Some at → IsDecided (IsOf GoodA a (take at text)) →
       IsDecided (IsOf GoodB b (take (length text - (at + 1)) (drop (at + 1) text))) →
       IsDecided (IsOf (BothGood GoodA GoodB) (with_space a b) text)
@@ -84,7 +84,7 @@ module _ {A B : Type 0} (GoodA : A → Type 0) (a : A → List ℕ) (GoodB : B �
     (split_only text at (a p.0) (b p.1) e (free p.0 h.0.0) h.1).0,
   ))
 
-  -- by whether there is a space
+  -- cases: whether there is a space
   by_space : (o : Option ℕ) → position is_space text ≡ o → IsDecided (IsOf (BothGood GoodA GoodB) (with_space a b) text)
   by_space None e = inr (λ p h. split_never text (a p.0) (b p.1) e (free p.0 h.0.0) h.1)
   by_space (Some at) e = by_words at e (found_a (take at text))
@@ -96,7 +96,7 @@ module _ {A B : Type 0} (GoodA : A → Type 0) (a : A → List ℕ) (GoodB : B �
 
 -- NUMBERS
 
--- by the state after the last byte
+-- cases: the state after the last byte
 word_at : (text : List ℕ) (s o : Option ℕ) → state_after next_number None text ≡ Some s → s ≡ o →
     IsDecided (IsOf IsWord decimal text)
 word_at text s None e f = inr (λ n h. (let g : None ≡ Some n = sym (ap (option_and_then whole_number) e ∙ f)
@@ -107,7 +107,7 @@ word_at text s (Some n) e f = inl (
       number_reader s n text e f,
 )
 
--- by whether there is such a state
+-- cases: whether there is such a state
 word_by : (text : List ℕ) (o : Option (Option ℕ)) → state_after next_number None text ≡ o →
     IsDecided (IsOf IsWord decimal text)
 word_by text None e = inr (λ n h. (let g : None ≡ Some n = sym (ap (option_and_then whole_number) e)
@@ -122,7 +122,7 @@ word_found text = word_by text (state_after next_number None text) refl
 abbrev pub IsBelow : ℕ → ℕ → Type 0
 IsBelow limit n = n < limit
 
--- by whether the number is below the limit
+-- cases: whether the number is below the limit
 below_at : (limit : ℕ) (text : List ℕ) (n : ℕ) (b : Bool) → limit ≤ 2 ^ 64 → IsOf IsWord decimal text n → nat_lt n limit
     ≡ b → IsDecided (IsOf (IsBelow limit) decimal text)
 below_at limit text n true few h e = inl (n, (ltb-true n limit e, h.1))
@@ -131,7 +131,7 @@ below_at limit text n false few h e =
     ≡ n = decimal_injective m n (omega arith) h.0 (sym i.1 ∙ h.1) in let below : n < limit = omega arith in
     true≢false (sym (lt-ltb n limit below) ∙ e)))
 
--- by whether the text is a number
+-- cases: whether the text is a number
 below_by : (limit : ℕ) (text : List ℕ) → limit ≤ 2 ^ 64 → IsDecided (IsOf IsWord decimal text) →
     IsDecided (IsOf (IsBelow limit) decimal text)
 below_by limit text few (inl n) = below_at limit text n.0 (nat_lt n.0 limit) few n.1 refl
@@ -141,8 +141,8 @@ below_by limit text few (inr none) = inr (λ m i. (let less : m < limit = i.0 in
 pub below_found : (limit : ℕ) → limit ≤ 2 ^ 64 → (text : List ℕ) → IsDecided (IsOf (IsBelow limit) decimal text)
 below_found limit few text = below_by limit text few (word_found text)
 
--- WORDS AS THEY ARE
+-- TEXTS THAT SPELL THEMSELVES
 
--- a text as it is
+-- a text spells itself
 abbrev pub itself : List ℕ → List ℕ
 itself text = text

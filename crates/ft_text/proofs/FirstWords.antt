@@ -1,4 +1,4 @@
--- Words of a line: what begins a text, and where its first space is.
+-- Words of a line: what a text begins with, and where its first space is.
 use Rattle.std.proofs.Common.{◌≡◌, ◌≢◌, ℕ, suc, ◌+◌, ◌-◌, ◌≤◌, ◌==◌, Bool, true, false, cond, not, List, [], ◌∷◌, ◌++◌}
 use Rattle.std.proofs.Common.{length, take, drop, get_or, Option, Some, None, Bor, codes, nat_lt, refl, ap, sym, ◌∙◌}
 use Rattle.std.proofs.Common.{append_assoc, arith}
@@ -34,13 +34,13 @@ is_space byte = byte == 32
 abbrev pub HasNoSpace : List ℕ → Type 0
 HasNoSpace text = All (λ byte. byte ≢ 32) text
 
--- the bytes before the first space are those of a text without one
+-- if a text without a space is followed by a space, that space is the first
 spaces_after : (a b : List ℕ) → AllByRecursion (λ byte. byte ≢ 32) a → position_or_len is_space (a ++ 32 ∷ b) ≡ length a
 spaces_after [] b h = refl
 spaces_after (x ∷ a) b h = ap (λ t. cond (not t) (1 + position_or_len is_space (a ++ 32 ∷ b)) 0) (ne_eqb x 32 h.0)
     ∙ ap (λ n. 1 + n) (spaces_after a b h.1) ∙ (omega arith)
 
--- the first space of a text that goes on after a space
+-- the place of the first space of such a text
 pub first_space : (a b : List ℕ) → HasNoSpace a → position is_space (a ++ 32 ∷ b) ≡ Some (length a)
 first_space a b h =
     let at = spaces_after a b (recursion_from_All (λ byte. byte ≢ 32) a h) in
@@ -60,7 +60,7 @@ split_there text at e =
     ∙ ap (λ l. take at text ++ 32 ∷ l) (sym (take_rest text (at + 1)))
     ∙ sym (append_assoc (take at text) (32 ∷ []) (take (length text - (at + 1)) (drop (at + 1) text)))
 
--- and no other way to split it at a first space
+-- it can be split at its first space in no other way
 pub split_only : (text : List ℕ) (at : ℕ) (a b : List ℕ) → position is_space text ≡ Some at → HasNoSpace a → text ≡ a
     ++ codes " " ++ b → (take at text ≡ a) × (take (length text - (at + 1)) (drop (at + 1) text) ≡ b)
 split_only text at a b e h i =
@@ -72,14 +72,14 @@ split_only text at a b e h i =
           ∙ drop-append-add a (32 ∷ b) 1,
     )
 
--- a text without a space is not so split
+-- a text without a space cannot be split like this
 pub split_never : (text a b : List ℕ) → position is_space text ≡ None → HasNoSpace a → text ≡ a ++ codes " " ++ b → ⊥
 split_never text a b e h i =
     let found : None ≡ Some (length a) = sym e ∙ ap (position is_space) (i ∙ append_assoc a (32 ∷ []) b)
     ∙ first_space a b h in
     absurd (cc)
 
--- a text has one first word
+-- a text has only one first word
 pub one_split : (text a b c d : List ℕ) → HasNoSpace a → HasNoSpace c → text ≡ a ++ codes " " ++ b → text ≡ c
     ++ codes " " ++ d → (a ≡ c) × (b ≡ d)
 one_split text a b c d ha hc e f =
@@ -89,7 +89,7 @@ one_split text a b c d ha hc e f =
     let y = split_only text (length a) c d at hc f in
     (sym x.0 ∙ y.0, sym x.1 ∙ y.1)
 
--- a text without one has as many bytes before it
+-- in a text without a space, the search passes all bytes
 spaces_none : (a : List ℕ) → AllByRecursion (λ byte. byte ≢ 32) a → position_or_len is_space a ≡ length a
 spaces_none [] h = refl
 spaces_none (x ∷ a) h = ap (λ t. cond (not t) (1 + position_or_len is_space a) 0) (ne_eqb x 32 h.0)
@@ -104,26 +104,26 @@ no_space_found a h = ap (λ n. cond (nat_lt n (length a)) (Some n) None)
     not_below : (n : ℕ) → nat_lt n n ≡ false
     not_below n = grind arith
 
--- by whether the first byte is a space
+-- cases: whether the first byte is a space
 step_free : (t : Bool) (x : ℕ) (a : List ℕ) (p : ℕ) → (x == 32) ≡ t →
     (length a ≤ p → AllByRecursion (λ byte. byte ≢ 32) a) → length (x ∷ a) ≤ cond (not t) (1 + p) 0 →
     AllByRecursion (λ byte. byte ≢ 32) (x ∷ a)
 step_free true x a p e h le = absurd (omega arith)
 step_free false x a p e h le = (λ is. true≢false (sym (ap (λ n. n == 32) is) ∙ e), h (omega arith))
 
--- a text with no space before its end
+-- if the search passes all bytes, the text has no space
 free_by_length : (a : List ℕ) → length a ≤ position_or_len is_space a → AllByRecursion (λ byte. byte ≢ 32) a
 free_by_length [] le = tt
 free_by_length (x ∷ a) le = step_free (x == 32) x a (position_or_len is_space a) refl (free_by_length a) le
 
--- if none is found the text has none
+-- if no space is found, the text has none
 pub found_no_space : (a : List ℕ) → position is_space a ≡ None → HasNoSpace a
 found_no_space a e =
     let past : length a ≤ position_or_len is_space a =
     grind (arith, missing (nat_lt (position_or_len is_space a) (length a)) (position_or_len is_space a) e) in
     All-from_recursion (λ byte. byte ≢ 32) a (free_by_length a past)
 
--- what follows a piece, by whether the text begins with the piece
+-- what follows a piece, if the text begins with it
 pub after_by_cases : (text piece : List ℕ) (r : Option (Bor (List ℕ)))
     → MatchOption r (bytes_eq (take (length piece) text) piece ≡ false) (λ x.
     (bytes_eq (take (length piece) text) piece ≡ true) × (x.now ≡ drop (length piece) text)

@@ -41,7 +41,7 @@ only_line : (b : ℕ) (bs : List ℕ) → length (b ∷ bs) ≤ feed (b ∷ bs) 
 only_line b [] le = only_step (b == 10) b [] (feed []) (λ _. refl) le
 only_line b (d ∷ ds) le = only_step (b == 10) b (d ∷ ds) (feed (d ∷ ds)) (λ h. ap (with_byte b) (only_line d ds h)) le
 
--- a choice that gives nothing was not taken
+-- a test that chooses `None` is false
 pub missing : (t : Bool) (p : ℕ) → cond t (Some p) None ≡ None → t ≡ false
 missing true p e = cc
 missing false p e = refl
@@ -59,7 +59,7 @@ first_line text at e =
       (let long = ap length rest ∙ length-drop (at + 1) text in let here = h.1 in omega arith),
     )
 
--- a text without a line feed that has a byte is one line
+-- a nonempty text without a line feed is one line
 pub last_line : (text : List ℕ) → 0 < length text → position (λ byte. byte == 10) text ≡ None → lines_of text
     ≡ text ∷ []
 last_line [] lt e = absurd (omega arith)

@@ -1,8 +1,8 @@
-//! Lines of text: built without allocating, read one by one, and taken apart into words.
+//! Lines of text: built without allocating, read one by one, and split into words.
 //!
-//! The crate promises that a `Line` is the list of the bytes that were put into it: pieces as they are, and
-//! numbers in decimal digits without leading zeros; that a text is cut into its lines; and that a line is
-//! cut after a piece and at its first space. Its definitions: `specs/Lines.antt`.
+//! The crate promises that a `Line` consists of the bytes added to it: pieces unchanged, and numbers in decimal digits
+//! without leading zeros; that a text is split into its lines; and that a line is split after a piece and at its first
+//! space. Its definitions: `specs/Lines.antt`.
 #![tactic(auto)]
 
 mod first_line;

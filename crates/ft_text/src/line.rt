@@ -28,7 +28,7 @@ impl Model for Line {
 }
 
 impl Line {
-    /// A line without a byte.
+    /// An empty line.
     pub fn new() -> Line
         ensures { result ≡ [] }
     {

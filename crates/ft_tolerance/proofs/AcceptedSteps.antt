@@ -37,7 +37,7 @@ use Rattle.ft_tolerance.proofs.WantedColours.{Wants, wants, found_is_not_wild}
 
 -- INSTRUCTIONS OF A BLOCK
 
--- the first instruction in what is left
+-- if instructions are left from index k on, the first of them is instruction k
 drop_at : (xs : List Instr) (k : ℕ) (i : Instr) (is : List Instr) → drop k xs ≡ i ∷ is → (slice_get xs k ≡ Some i)
     × (drop (suc k) xs ≡ is)
 drop_at [] zero i is e = cc
@@ -45,7 +45,7 @@ drop_at [] (suc k) i is e = cc
 drop_at (x ∷ xs) zero i is e = let a : x ≡ i = cc in let b : xs ≡ is = cc in (ap Some a, b)
 drop_at (x ∷ xs) (suc k) i is e = drop_at xs k i is e
 
--- the elements of a part are those of the list
+-- an element of a part of a list is an element of the list
 get-take : (xs : List Instr) (n k : ℕ) (i : Instr) → slice_get (take n xs) k ≡ Some i → slice_get xs k ≡ Some i
 get-take [] zero k i e = cc
 get-take [] (suc n) k i e = cc
@@ -59,13 +59,13 @@ get-drop [] (suc a) k = refl
 get-drop (x ∷ xs) (suc a) k = get-drop xs a k ∙ (let e : suc (a + k) ≡ suc a + k = omega arith in
     ap (slice_get (x ∷ xs)) e)
 
--- if the rows go on, those that are left apply
+-- if the first row goes on, the rows that are left apply
 applies_on : (o : Object) (d c : Context) (i : Instr) (is : List Instr) → Applies o d (i ∷ is) → row o d i ≡ Goes c →
     Applies o c is
 applies_on o d c i _ (last_row e) g = cc
 applies_on o d c i is (next_row b e a) g = let same : b ≡ c = cc in subst (λ (z : Context). Applies o z is) same a
 
--- an instruction after whose context another is
+-- if there is a context after an instruction, there is one before it, and its row goes on
 goes_of : (o : Object) (x : Option Instr) (y : Option Context) (c : Context) → context_after o x y ≡ Some c →
     (i : Instr) × (d : Context) × (x ≡ Some i) × (y ≡ Some d) × (row o d i ≡ Goes c)
 goes_of o None y c e = cc
@@ -77,7 +77,7 @@ goes_of o (Some i) (Some d) c e = (i, d, refl, refl, by_outcome (row o d i) e)
     by_outcome Ends e = cc
     by_outcome (Fails p) e = cc
 
--- the rows of a block that are left at an index apply from the context there
+-- the rows that are left from index k of a block apply from the context there
 applies_at : (o : Object) (b k : ℕ) (c : Context) → Applies o (start_context o (block_type o b)) (block_instrs o b) →
     context_at o b k ≡ Some c → Applies o c (drop k (block_instrs o b))
 unfolding context_at
@@ -89,7 +89,7 @@ applies_at o b (suc k) c a e =
     applies_on o g.1 c g.0 (drop (suc k) (block_instrs o b))
     (subst (Applies o g.1) (drop_there (block_instrs o b) k g.0 g.2) before) g.4
 
--- the row of an instruction of an accepted block ends it or goes on
+-- the row of an instruction of an accepted block ends the block or goes on
 pub data Passes (o : Object) (c : Context) (i : Instr) : Type 0 where
   ends : row o c i ≡ Ends → Passes o c i
   goes : (d : Context) → row o c i ≡ Goes d → Passes o c i
@@ -139,14 +139,14 @@ pub record Lands (o : Object) (p : Place) (w : List Wild) (t : Stepping) : Type 
   pub wild : t.wild ≡ w
   pub after : EndsOrFits o p t.state
 
--- the next code address, of which there are few
+-- the next code address, which fits in a word
 pub next_address : (n : ℕ) → n < 65536 → next (code_address n) ≡ code_address (suc n)
 next_address n h = let a : 1 + n + 1 ≡ 1 + suc n = omega arith in let b : 1 + n + 1 < 2 ^ 64 = omega arith in
     mod-eq_of_lt b ∙ a
 
 module _ (o : Object) (p : Place) (s : State) (w : List Wild) (spelled : IsSpellable o) (acc : IsAccepted o)
     (at : IsPlace o p) (go : s.status ≡ Running) (fits : Fits o p s) where
-  -- a step that goes on is at the next index
+  -- a step that goes on leads to the next index
   lands_further : (t : Stepping) (h : Here o p at.number) (d : Context) → row o p.context h.instr ≡ Goes d →
       GoesOn o p.valuation s w t d → Lands o (further (row o p.context h.instr) p) w t
   unfolding context_at
@@ -174,7 +174,7 @@ module _ (o : Object) (p : Place) (s : State) (w : List Wild) (spelled : IsSpell
             (running (g.status ∙ go) is_place is_fit);
       }
 
-  -- a step that arrives at a block is at its start
+  -- a step that arrives at a block leads to its start
   lands_at : (t : Stepping) (u : Subst) (a : ℕ) → Arrives o (valuation_by o u p.valuation) a s w t →
       Lands o (arrived o (block_at o a) u p) w t
   unfolding context_at
@@ -206,7 +206,7 @@ module _ (o : Object) (p : Place) (s : State) (w : List Wild) (spelled : IsSpell
             (running (g.status ∙ go) is_place is_fit);
       }
 
-  -- by what the row gives
+  -- where a step leads, given what its row gives
   by_row : (t : Stepping) (E : Type 0) (h : Here o p at.number) (x : Outcome) → row o p.context h.instr ≡ x →
       After (GoesOn o p.valuation s w t) E x → Passes o p.context h.instr → (E → Lands o (further x p) w t) →
       Lands o (further x p) w t
@@ -228,7 +228,7 @@ module _ (o : Object) (p : Place) (s : State) (w : List Wild) (spelled : IsSpell
       (stays h (subst (λ (j : Instr). After (GoesOn o p.valuation s w (execute j s w)) ⊥ (row o p.context j)) (sym e)
       a))
 
-  -- a blue jump arrives
+  -- a blue jump arrives at its target
   jumped : (rd : Reg) (u : Subst) (x : Outcome) → row o p.context (JmpB rd u) ≡ x →
       After (λ _. ⊥) (Arrives o (valuation_by o u p.valuation) (word s rd) s w (execute (JmpB rd u) s w)) x →
       Passes o p.context (JmpB rd u) → Lands o (arrived o (block_at o (word s rd)) u p) w (execute (JmpB rd u) s w)
@@ -263,7 +263,7 @@ module _ (o : Object) (p : Place) (s : State) (w : List Wild) (spelled : IsSpell
   branched h rz rd u e (Fails n) f a (ends g) = cc
   branched h rz rd u e (Fails n) f a (goes d g) = cc
 
-  -- an instruction that is executed
+  -- where the execution of an instruction leads
   executed_by : (h : Here o p at.number) (i : Instr) → h.instr ≡ i → IsInstr (length o.types) (length o.cells) i →
       Lands o (place_after o i s p) w (execute i s w)
   executed_by h (JmpB rd u) e k = jumped rd u (row o p.context (JmpB rd u)) refl
@@ -276,17 +276,17 @@ module _ (o : Object) (p : Place) (s : State) (w : List Wild) (spelled : IsSpell
   executed_by h i e k = stays_as h i e (staying_row o p.valuation p.context s w ⊥ i refl (λ f.
       cc) spelled.few_cells k fits.context)
 
-  -- the instruction at the place is executed
+  -- where the execution of the instruction at the place leads
   executed : (h : Here o p at.number) → Lands o (place_after o h.instr s p) w (execute h.instr s w)
   executed h = executed_by h h.instr refl (all_there (IsInstr (length o.types) (length o.cells)) o.instrs
       (instr_number p) h.instr spelled.instrs h.there)
 
-  -- the instruction at a place is at both counters
+  -- the counters hold the code address of the instruction at the place
   at_counter : (h : Here o p at.number) → instr_at o s.pc_green ≡ Some h.instr
   at_counter h = (let pc : s.pc_green ≡ suc (instr_number p) = (let g = fits.pc_green in omega arith) in
       ap (instr_at o) pc) ∙ h.there
 
-  -- what is fetched is nothing, or that instruction
+  -- where a step leads if nothing, or that instruction, is fetched
   step_by : (x : Option Instr) → s.fetched ≡ x → (h : Here o p at.number) → (x ≡ None) ⊎ (x ≡ Some h.instr) →
       Lands o (next_place o x s p) w (advance o x s w)
   step_by None e h f =
@@ -312,7 +312,7 @@ module _ (o : Object) (p : Place) (s : State) (w : List Wild) (spelled : IsSpell
   step_by (Some i) e h (inr f) = (let same : h.instr ≡ i = cc in
       subst (λ (j : Instr). Lands o (place_after o j s p) w (execute j s w)) same (executed h))
 
-  -- what is fetched, as the instruction at the place
+  -- what is fetched is nothing or the instruction at the place
   fetched_here : (h : Here o p at.number) → (s.fetched ≡ None) ⊎ (s.fetched ≡ Some h.instr)
   fetched_here h = ⊎_elim (λ n. inl n) (λ e. inr (e ∙ h.there)) fits.fetched
 
@@ -322,7 +322,7 @@ module _ (o : Object) (p : Place) (s : State) (w : List Wild) (spelled : IsSpell
       subst (λ (x : Status). Lands o (next_place o s.fetched s p) w (step_at o x s w)) (sym go)
       (step_by s.fetched refl h (fetched_here h))
 
-  -- what the fetched instruction requires
+  -- the instruction at the place finds what it requires
   wants_by : (h : Here o p at.number) → Passes o p.context h.instr → Wants h.instr s
   wants_by h (ends f) = wants o p.valuation p.context s fits.context h.instr Ends
       (row_holds o p.context h.instr Ends f (λ n g. cc))

@@ -21,7 +21,7 @@ use Rattle.ft_tolerance.specs.Alike.{is_detected}
 use Rattle.ft_semantics.proofs.Held.{held-with_held}
 use Rattle.ft_tolerance.proofs.WantedColours.{Wants}
 
--- the same choice between alike registers
+-- the same choice between alike registers gives alike registers
 alike_cond : (c : Colour) (b : Bool) (x y f g : Coloured) → AreAlikeWords c x y → AreAlikeWords c f g →
     AreAlikeWords c (cond b x f) (cond b y g)
 alike_cond c true x y f g p q = p
@@ -49,7 +49,7 @@ alike_word c m n r h = (h r).word
 
 ruleset alikes = (alike_write, alike_colour, alike_word, keeps_alike, is_detected)
 
--- each instruction
+-- executing an instruction
 execute_row : (c : Colour) (s t : State) (w v : List Wild) (i : Instr) → AreAlike c s t → Wants i s →
     (execute i s w).state.status ≢ Detected → Follows c (execute i s w) (execute i t v)
 execute_row c s t w v (Ld Green rd rs) h f ok = grind (arith, alikes)
@@ -58,14 +58,14 @@ execute_row c s t w v (St Green rd rs) h f ok = grind (arith, length-append, ali
 execute_row c s t w v (St Blue rd rs) h f ok = grind (arith, length-drop, alikes)
 execute_row c s t w v i h f ok = grind (arith, alikes)
 
--- a fetch too
+-- fetching an instruction, or executing the fetched one
 advance_row : (c : Colour) (s t : State) (w v : List Wild) (o : Object) (x : Option Instr) → AreAlike c s t →
     ((i : Instr) → x ≡ Some i → Wants i s) → (advance o x s w).state.status ≢ Detected →
     Follows c (advance o x s w) (advance o x t v)
 advance_row c s t w v o None h f ok = grind (arith, alikes)
 advance_row c s t w v o (Some i) h f ok = execute_row c s t w v i h (f i refl) ok
 
--- by the status
+-- a step, given the status
 step_by : (c : Colour) (s t : State) (w v : List Wild) (o : Object) (x : Status) → AreAlike c s t →
     (x ≡ Running → (i : Instr) → s.fetched ≡ Some i → Wants i s) → (step_at o x s w).state.status ≢ Detected →
     Follows c (step_at o x s w) (step_at o x t v)
@@ -74,7 +74,7 @@ step_by c s t w v o Running h f ok = subst (λ (x : Option Instr). Follows c (ad
 step_by c s t w v o Done h f ok = keeps_alike h refl
 step_by c s t w v o Detected h f ok = keeps_alike h refl
 
--- the step of a state whose instruction finds what it requires, and of one that is alike
+-- a step from a state whose instruction finds what it requires, and a step from an alike state
 pub alike_step : (c : Colour) (o : Object) (s t : State) (w v : List Wild) → AreAlike c s t →
     (s.status ≡ Running → (i : Instr) → s.fetched ≡ Some i → Wants i s) → (step o s w).state.status ≢ Detected →
     Follows c (step o s w) (step o t v)
@@ -116,7 +116,7 @@ length-with_value (e ∷ q) (suc i) v = ap suc (length-with_value q i v)
 
 ruleset strikes = (alike_itself, struck_register, length-with_address, length-with_value)
 
--- another word at each site
+-- another word at a site
 word_alike : (s : State) (site : Site) (v : ℕ) → AreAlike (colour_of_site s site) s (with_word site v s)
 word_alike s (R r) v = grind (arith, strikes)
 word_alike s D v = grind (arith, strikes)
@@ -129,7 +129,7 @@ alike_or_same : (c : Colour) (b : Bool) (s t : State) → AreAlike c s t → Are
 alike_or_same c true s t h = h
 alike_or_same c false s t h = grind (arith, strikes)
 
--- a strike leaves states alike, for the colour of the site
+-- a state and the struck state are alike, for the colour of the site
 pub strike_alike : (s : State) (site : Site) (v : ℕ) → AreAlike (colour_of_site s site) s (struck_state s site v)
 strike_alike s site v = alike_or_same (colour_of_site s site) (is_there s site) s (with_word site v s)
     (word_alike s site v)

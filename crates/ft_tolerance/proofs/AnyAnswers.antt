@@ -1,4 +1,4 @@
--- A run of an accepted object without a fault is the same whatever the answers to wild loads.
+-- Without a fault, the run of an accepted object is the same whatever the answers to wild loads are.
 use Rattle.std.proofs.Common.{◌≡◌, ℕ, zero, suc, true, false, not, ◌&&◌, List, ◌++◌, Option, Some, None, is_some, refl}
 use Rattle.std.proofs.Common.{ap, ◌∙◌}
 use Rattle.std.specs.Option.{option_or, option_to_list}

@@ -19,13 +19,13 @@ use Rattle.ft_typing.specs.Context.{integer_form_of, memory_form_of, integer_for
 use Rattle.ft_typing.specs.Context.{replacement}
 use Rattle.ft_tolerance.specs.TypedState.{valuation_by}
 
--- as many trees as nodes
+-- there are as many trees as nodes
 length-trees_onto : (ts : List Expression) (ns : List Node) → length (trees_onto ts ns) ≡ length ts + length ns
 length-trees_onto ts [] = omega arith
 length-trees_onto ts (n ∷ ns) = let l = length_push ts (tree_of ts n.shape) in
     let h = length-trees_onto (ts ++ tree_of ts n.shape ∷ []) ns in omega arith
 
--- the numbers in the tree of any number are words
+-- the numbers in the tree of any node number are words
 has_words : (nodes : List Node) (n : ℕ) → AreNodes nodes → HasWords (tree_at nodes n)
 has_words nodes n h = elim (slice_get_cases nodes n).1 [
   | inl s ↦ (tree_fits nodes n s.0 h s.2).0
@@ -33,7 +33,7 @@ has_words nodes n h = elim (slice_get_cases nodes n).1 [
       (sym (get_or_past (trees nodes) n (integer (word 0)) (omega arith))) (lit< tt)
 ]
 
--- the numbers in the part of a tree are words
+-- the numbers in either part of a tree are words
 integer_words : (e : Expression) → HasWords e → AreWords (integer_part e)
 integer_words (integer e) h = h
 integer_words (memory m) h = lit< tt
@@ -71,12 +71,12 @@ under_is_by o u v h lawful = λ i. record {
   memory = memory_form_denotes o u.memory v h lawful i;
 }
 
--- which is lawful
+-- the valuation after the transfer is lawful
 pub by_lawful : (o : Object) (u : Subst) (v : Valuation) → AreNodes o.nodes → IsLawful v → IsLawful (valuation_by o u v)
 by_lawful o u v h lawful = subst IsLawful (under_is_by o u v h lawful)
     (valuation_under-lawful (replacement o u).integers (replacement o u).memory v lawful)
 
--- the form of a node after a replacement denotes before the transfer what the node's form does after it
+-- a node's form after a replacement denotes, before the transfer, what the node's own form denotes after it
 pub after_denotes : (o : Object) (u : Subst) (n : ℕ) (v : Valuation) → AreNodes o.nodes → IsLawful v →
     value_polynomial (integer_form_after o (replacement o u) n) v
     ≡ value_polynomial (integer_form_of o n) (valuation_by o u v)

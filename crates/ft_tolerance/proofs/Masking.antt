@@ -36,7 +36,7 @@ undetected : (o : Object) (p : Place) (s : State) → EndsOrFits o p s → s.sta
 undetected o p s (ended d) e = cc
 undetected o p s (running go at fits) e = cc
 
--- the step from a place of an accepted object, and that from a state that is alike
+-- a step from a place of an accepted object, and a step from an alike state
 pub step_follows : (c : Colour) (o : Object) (p : Place) (s t : State) (w v : List Wild) → IsSpellable o →
     IsAccepted o → IsPlace o p → s.status ≡ Running → Fits o p s → AreAlike c s t → Follows c (step o s w) (step o t v)
 step_follows c o p s t w v spelled acc at go fits h =
@@ -44,14 +44,14 @@ step_follows c o p s t w v spelled acc at go fits h =
     alike_step c o s t w v h (λ _ i e. wants_fetched o p s w spelled acc at go fits i e)
     (undetected o _ (step o s w).state k.after)
 
--- a state that has stopped stays, and so does one that is alike
+-- a state that is done does not change, and neither does an alike state
 stopped_follows : (c : Colour) (o : Object) (s t : State) (w v : List Wild) → s.status ≡ Done → AreAlike c s t →
     Follows c (step o s w) (step o t v)
 stopped_follows c o s t w v d h =
     subst (λ (x : Status). Follows c (step_at o x s w) (step o t v)) (sym d)
     (subst (λ (x : Status). Follows c (step_at o Done s w) (step_at o x t v)) (sym d ∙ h.status) (keeps_alike h refl))
 
--- the step of the run without a fault, and that from a state that is alike
+-- a step of the run without a fault, and a step from an alike state
 pub follows_along : (c : Colour) (o : Object) (p : Place) (s t : State) (w v : List Wild) → IsSpellable o →
     IsAccepted o → EndsOrFits o p s → AreAlike c s t → Follows c (step o s w) (step o t v)
 follows_along c o p s t w v spelled acc (ended d) h = stopped_follows c o s t w v d h
@@ -66,8 +66,8 @@ follows_alike : (c : Colour) (x y : Stepping) → Follows c x y → IsAlikeOrDet
 follows_alike c x y (keeps_alike h e) = is_alike h
 follows_alike c x y (is_detected d e) = has_stopped d
 
--- after a step from a state of a run without a fault, and one from a state that is alike or detected, the states are
--- alike or detected too
+-- if two states, the first from a run without a fault, are alike or the second is detected, this still holds after a
+-- step from each
 pub alike_next : (c : Colour) (o : Object) (p : Place) (s t : State) (w v : List Wild) → IsSpellable o → IsAccepted o →
     EndsOrFits o p s → IsAlikeOrDetected c s t → IsAlikeOrDetected c (step o s w).state (step o t v).state
 alike_next c o p s t w v spelled acc fits (is_alike h) =
@@ -76,12 +76,13 @@ alike_next c o p s t w v spelled acc fits (has_stopped d) = has_stopped (detecte
 
 -- WHOLE RUNS
 
--- the struck run is alike with the same outputs, or it is detected with outputs that are a prefix of the other's
+-- the runs are alike and have the same outputs, or the struck run is detected and its outputs are a prefix of the
+-- other's
 pub data AreTied (c : Colour) (r x : Ran) : Type 0 where
   together : AreAlike c r.state x.state → r.outputs ≡ x.outputs → AreTied c r x
   over : x.state.status ≡ Detected → IsPrefix x.outputs r.outputs → AreTied c r x
 
--- a list begins what the other becomes
+-- a prefix of a list is a prefix of any continuation of it
 prefix_more : (a b rest : List Output) → IsPrefix a b → IsPrefix a (b ++ rest)
 prefix_more a b rest h = begins_on a b (b ++ rest) h (rest, refl)
 
@@ -109,7 +110,7 @@ tied_step c o p r x spelled acc fits (together h e) =
 tied_step c o p r x spelled acc fits (over h e) = over_after c o (step o r.state r.wild) r.outputs x.outputs
     x.state.status x.wild x.state h h e
 
--- before the strike the runs are one
+-- before the strike, the runs are the same
 pub before : (o : Object) (x : Strike) (w : List Wild) (n : ℕ) → n ≤ x.step → run o None w n ≡ run o (Some x) w n
 unfolding run
 before o x w = lockstep (run o None w) (run o (Some x) w) (λ n r s. n ≤ x.step → r ≡ s) (λ _. refl) (λ k same le.
@@ -153,19 +154,19 @@ module _ (o : Object) (x : Strike) (w : List Wild) where
         (tied_step c o _ _ _ spelled acc (along o w k spelled acc).after (h (omega arith))))
         (cases_eq x.step (suc k)))
 
-    -- after each step since the strike the struck run is tied to the other
+    -- after each step from the strike on, the runs are tied
     followed : (n : ℕ) → x.step < n → AreTied c (run o None w n) (run o (Some x) w n)
     followed n lt =
         let r = run o (Some x) w n in
         subst (λ s. AreTied c (run o None w n) (record r { state = s })) (spared x n (λ e. omega arith) r.state)
         (tied n (omega arith))
 
--- so it is alike, or detected
+-- so the runs are alike, or the struck one is detected
 pub alike_later : (o : Object) (x : Strike) (w : List Wild) (n : ℕ) → IsSpellable o → IsAccepted o →
     IsAlikeLater o x w n
 alike_later o x w n spelled acc lt = alike_tied _ _ _ (followed o x w spelled acc n lt)
 
--- right after the strike the state is alike
+-- right after the strike, the states are alike
 pub alike_at_once : (o : Object) (site : Site) (v k : ℕ) (w : List Wild) (s : State) → s
     ≡ struck_state (state_after o None w k) site v
     → IsAlikeAfter o (record { step = k; site = site; value = v }) w k s
@@ -173,7 +174,7 @@ alike_at_once o site v k w s e = is_alike (subst (λ (u : State).
     AreAlike (colour_of_site (state_after o None w k) site) (state_after o None w k) u) (sym e)
     (strike_alike (state_after o None w k) site v))
 
--- from the strike on the run is alike, or detected
+-- from the strike on, the runs are alike, or the struck one is detected
 pub stays_alike : (o : Object) (x : Strike) (w : List Wild) (n : ℕ) → IsSpellable o → IsAccepted o → StaysAlike o x w n
 stays_alike o x w n spelled acc le = alike_tied _ _ _ (tied o x w spelled acc n le)
 
@@ -181,7 +182,7 @@ agrees_tied : (c : Colour) (r x : Ran) → AreTied c r x → Agrees x.outputs x.
 agrees_tied c r x (together h e) = equal (sym e) (sym h.status)
 agrees_tied c r x (over h e) = stopped h e
 
--- under a plan with at most one strike a run agrees with the one without
+-- under a plan with at most one strike, a run agrees with the run without the strike
 pub tolerant : (o : Object) (strike : Option Strike) (w : List Wild) (n : ℕ) → IsSpellable o → IsAccepted o →
     Agrees (outputs_after o strike w n) (status_after o strike w n) (outputs_after o None w n) (status_after o None w n)
 tolerant o None w n spelled acc = equal refl refl

@@ -12,7 +12,7 @@ use Rattle.ft_typing.specs.Context.{Typed, StateOfD, d_zero, d_code, d_condition
 use Rattle.ft_typing.specs.RowWords.{Outcome, Goes, Ends, Fails, same_colour, need, for_typed, for_ref_over}
 use Rattle.ft_typing.specs.RowWords.{for_code_over, for_zero, for_target, for_conditional, for_oldest, for_run}
 
--- G of the context that the row leads to, or E if it ends the block
+-- G holds of the context to which the row leads, or E holds if the row ends the block
 unfoldable pub After : (Context → Type 0) → Type 0 → Outcome → Type 0
 After G E (Goes c) = G c
 After G E Ends = E

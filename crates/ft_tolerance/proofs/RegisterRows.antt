@@ -77,7 +77,7 @@ write_fits o v c s w rd t x h m = record {
   fetched = refl;
 }
 
--- a word is denoted by its constant
+-- the constant of a word denotes it
 constant_denotes : (w : ℕ) (v : Valuation) → IsWord w → w ≡ value_polynomial (constant w) v
 constant_denotes w v h = sym (value_constant w v ∙ mod-eq_of_lt h)
 
@@ -133,7 +133,7 @@ mov_row o v c s w E rd x b below h =
     after_goes G E _ (write_fits o v c s w rd (record { colour = x.colour; basic = b; form = constant x.word }) x h
     (record { colour = refl; word = constant_denotes x.word v below; basic = (has_type_decides o x.word b).0 t })))
 
--- the address of a run's cell is denoted by its form
+-- the form of the address of a cell in a run denotes that address
 run_denotes : (first m : ℕ) (p : Polynomial) (v : Valuation) → IsLawful v → 1 ≤ m → first + m ≤ 1024 →
     cell_in_run first m (value_polynomial p v) ≡ value_polynomial (run_form first m p) v
 unfolding apply
@@ -171,7 +171,7 @@ index_row o v c s w E rd rs first m few run h =
 
 -- LOADS
 
--- what the queue's newest entry at an address makes of the word before it
+-- an entry at the address takes the place of the old word
 newest_by : (b : Bool) (u : Option ℕ) (x old : ℕ) → option_or (option_or u (if b then Some x else None)) (Some old)
     ≡ option_or u (Some (cond b x old))
 newest_by true None x old = refl
@@ -185,13 +185,13 @@ pub record FindsWord (o : Object) (v : Valuation) (m : Updates) (a : ℕ) (b : B
   pub denoted : word ≡ word_at (value_updates m v) a
   pub typed : HasType o word b
 
--- an update of a form, at an address
+-- the word at an address after an update of a form
 pub updated : (m : Updates) (p : FormPair) (v : Valuation) (a : ℕ) → word_at (value_updates (norm_upd m p.0 p.1) v) a
     ≡ (if a == value_polynomial p.0 v then value_polynomial p.1 v else word_at (value_updates m v) a)
 updated m p v a = ap (λ z. word_at z a) (value_upd m p.0 p.1 v)
     ∙ word_at-with_word (value_updates m v) (value_polynomial p.0 v) (value_polynomial p.1 v) a
 
--- the newest entry's value, or what was there
+-- a load finds the newest entry's value, or otherwise the old word
 newest_fits : (o : Object) (v : Valuation) (a : ℕ) (b : Basic) → cell_type o a ≡ Some b →
     (ps : List FormPair) (q : Pending) (m : Updates) (old : ℕ) → FitsQueue o v ps q → old
     ≡ word_at (value_updates m v) a → HasType o old b →
@@ -221,7 +221,7 @@ newest_fits o v a b at (p ∷ ps) (x ∷ q) m old f e k =
     rw other (newest_fits o v a b at ps q (norm_upd m p.0 p.1) old f.1 now k))
     (cases_Bool (x.0 == a)))
 
--- a typed cell of a state that fits
+-- in a state that fits a context, each typed cell fits too
 pub cell_fits : (o : Object) (v : Valuation) (c : Context) (s : State) (a : ℕ) (b : Basic) → FitsContext o v c s →
     cell_type o a ≡ Some b → FitsCell o v c.memory s.cells a b
 unfolding FitsCells
@@ -239,7 +239,7 @@ finds o v Blue c s a b h at =
     let f = cell_fits o v c s a b h at in
     record { word = word_at (value_updates c.memory v) a; is = f.word; denoted = refl; typed = f.typed }
 
--- a register that refers to a cell
+-- a register of a `ref` type holds the address of a cell of the type referred to
 pub refers : (o : Object) (v : Valuation) (t : Typed) (x : Coloured) (b : Basic) → FitsRegister o v t x → t.basic
     ≡ ref b → cell_type o x.word ≡ Some b
 refers o v t x b m is = subst (λ (z : Basic). HasType o x.word z) is m.basic

@@ -34,7 +34,7 @@ use Rattle.ft_types.proofs.Maps.{get-insert}
 
 -- THE CELLS
 
--- the words of a map with numbered entries are words
+-- the values of a map with numbered entries are words
 word_by : (b : Bool) (x : ℕ) (u : Option ℕ) → IsWord x → IsWord (unwrap_or u 0) →
     IsWord (unwrap_or (cond b (Some x) u) 0)
 word_by true x u h k = h
@@ -51,7 +51,7 @@ words_tabulated value (suc n) a h =
     (word_by (a == cell_address n) (value n) (finite.get (tabulate n cell_address value) a) (h n (omega arith))
     (words_tabulated value n a (λ k l. h k (omega arith))))
 
--- the initial word of a cell that is there
+-- the initial word of an existing cell
 init_there : (o : Object) (k : ℕ) (x : Cell) → slice_get o.cells k ≡ Some x → init_of o k ≡ x.init
 init_there o k x e = ap (λ u. init_or_zero (option_map cell_head_of u)) e
 
@@ -91,14 +91,14 @@ cell_there o a b h = by_test (nat_le 1048576 a) refl h
     by_test true e k = by_cell (slice_get o.cells (a - 1048576)) refl (leb-true 1048576 a e) k
     by_test false e k = cc
 
--- the memory form of the memory variable
+-- the form of the memory variable
 form_of_variable : (o : Object) (n : ℕ) → AreNodes o.nodes → HasShape o.nodes n shape.Memory → memory_form_of o n
     ≡ unchanged
 unfolding memory_form_of
 form_of_variable o n nodes h = (λ i. norm_memory (memory_part (tree_at-row o.nodes n h.node nodes h.found i)))
     ∙ (λ i. norm_memory (memory_part (tree_of (trees o.nodes) (h.shape i))))
 
--- the initial cells fit themselves
+-- the initial cells fit the form of the memory variable
 start_cells : (o : Object) (m : Updates) → IsAccepted o → m ≡ unchanged →
     FitsCells o (start_place o).valuation m (start o).cells
 unfolding FitsCells
@@ -118,7 +118,7 @@ start_cells o m acc e = λ a b at.
 
 -- THE WHOLE STATE
 
--- no rows, no registers
+-- without register rows, no register is known
 no_registers : (o : Object) (rows : List RegType) (r : ℕ) → rows ≡ [] →
     finite.get (registers_after o finite.empty rows) r ≡ None
 unfolding registers_after

@@ -24,7 +24,7 @@ use Rattle.ft_tolerance.proofs.Premises.{After, after_goes, after_ends, after_ne
 use Rattle.ft_tolerance.proofs.RegisterRows.{GoesOn, op_row, op_word_row, mov_row, index_row, load_row}
 use Rattle.ft_tolerance.proofs.StoreRows.{store_green_row, store_blue_row}
 
--- d gets another word and is known otherwise, and the machine goes on
+-- d gets a word that fits what is then known of it, and the machine goes on
 d_fits : (o : Object) (v : Valuation) (c : Context) (s : State) (w : List Wild) (x : StateOfD) (d : ℕ) →
     FitsContext o v c s → FitsD o v x d → GoesOn o v s w (quiet (goes_on (record s { d = d })) w) (record c { d = x })
 d_fits o v c s w x d h f = record {
@@ -36,14 +36,14 @@ d_fits o v c s w x d h f = record {
   fetched = refl;
 }
 
--- a green jump with d at 0
+-- a green jump when d is 0
 jump_green_fits : (o : Object) (v : Valuation) (c : Context) (s : State) (w : List Wild) (x : StateOfD) (a : ℕ) →
     FitsContext o v c s → s.d ≡ 0 → FitsD o v x a → GoesOn o v s w (jump_green a s w) (record c { d = x })
 jump_green_fits o v c s w x a h z f = subst (λ (t : Bool).
     GoesOn o v s w (if t then quiet (goes_on (record s { d = a })) w else detected s w) (record c { d = x }))
     (sym (eq-eqb s.d 0 z)) (d_fits o v c s w x a h f)
 
--- a branch that is not taken, with d at 0
+-- a branch that is not taken, when d is 0
 pub pass_fits : (o : Object) (v : Valuation) (c : Context) (s : State) (w : List Wild) (x : StateOfD) →
     FitsContext o v c s → s.d ≡ 0 → FitsD o v x 0 → GoesOn o v s w (pass s w) (record c { d = x })
 pass_fits o v c s w x h z f = subst (λ (t : Bool).
@@ -88,7 +88,7 @@ branch_green_row o v c s w E rz rd h =
     (λ y. sym mz.word ∙ eqb-true (word s rz) 0 y) (λ y k. eqb-false (word s rz) 0 y (mz.word ∙ k))
     (record { word = m.word; basic = subst (HasType o (word s rd)) is m.basic })))))))
 
--- the machine is done, or nothing else holds of the row
+-- if the row of `halt` does not fail, it ends the block, and the machine is then done
 pub halt_row : (o : Object) (c : Context) (s : State) (w : List Wild) (G : Context → Type 0) →
     After G ((execute Halt s w).state.status ≡ Done) (row o c Halt)
 halt_row o c s w G =

@@ -31,7 +31,7 @@ pub same_denotes : (p q : Polynomial) (v : Valuation) → same_polynomial p q �
     ≡ value_polynomial q v
 same_denotes p q v e = ap (λ (z : Polynomial). value_polynomial z v) ((equal_polynomials p q).0 e)
 
--- a word that has a type has the one that it is seen as
+-- a word that has a type also has each type that this type is seen as
 pub has_seen : (o : Object) (w : ℕ) (a b : Basic) → is_seen_as a b ≡ true → HasType o w a → HasType o w b
 has_seen o w a b e h = ⊎_elim (λ (s : a ≡ b). subst (HasType o w) s h) (λ (s : b ≡ int). subst (HasType o w) (sym s) tt)
     ((is_seen_as_decides a b).0 e)
@@ -90,13 +90,13 @@ store_green_row o v c s w E rd rs h =
       fetched = refl;
     }))))))))
 
--- the word that was put, or what was there
+-- the cell holds the new word or the old one, and it has the cell's type
 written : (o : Object) (b : Basic) (t : Bool) (x z : ℕ) (u : Option ℕ) → (t ≡ true → HasType o x b) → u ≡ Some z →
     HasType o z b → (cond t (Some x) u ≡ Some (if t then x else z)) × HasType o (if t then x else z) b
 written o b true x z u f e h = (refl, f refl)
 written o b false x z u f e h = (e, h)
 
--- a typed word at a cell's address, and an update of the form
+-- after a typed word is written to a cell, the cells fit the updated memory form
 cells_written : (o : Object) (v : Valuation) (m : Updates) (cells : Cells) (a x : ℕ) (fa fx : Polynomial) (b : Basic) →
     FitsCells o v m cells → a ≡ value_polynomial fa v → x ≡ value_polynomial fx v → cell_type o a ≡ Some b →
     HasType o x b → FitsCells o v (norm_upd m fa fx) (with_cell cells a x)
@@ -114,7 +114,7 @@ cells_written o v m cells a x fa fx b h ea ex at has = λ q b' at'.
       typed = subst (λ z. HasType o z b') (sym now) g.1;
     }
 
--- a blue store, if the oldest pair of the static queue is what the registers denote
+-- a blue store, if the oldest pair of the static queue denotes what the registers hold
 commit_fits : (o : Object) (v : Valuation) (c : Context) (s : State) (w : List Wild) (a x : ℕ) (fa fx : Polynomial)
     (b : Basic) (p : FormPair) (ps : List FormPair) (q : Pending) → s.queue ≡ q → FitsContext o v c s → a
     ≡ value_polynomial fa v → x ≡ value_polynomial fx v → cell_type o a ≡ Some b → HasType o x b → value_polynomial fa v

@@ -50,7 +50,7 @@ pub record BlockAt (o : Object) (a t : ℕ) : Type 0 where
   pub found : block_at o a ≡ Some block
   pub code_type : block.code_type ≡ t
 
--- the code address of a block of code type t
+-- a word of type `code t` is the code address of a block of code type t
 pub block_of_type : (o : Object) (a t : ℕ) → HasType o a (code t) → BlockAt o a t
 block_of_type o a t h = by_block (block_at o a) refl h
   where
@@ -146,7 +146,7 @@ queue_leads o u v (p ∷ ps) (r ∷ rs) (x ∷ q) nodes lawful l f =
       queue_leads o u v ps rs q nodes lawful a.1 f.1,
     )
 
--- cells that a memory form denotes are denoted by one that denotes the same
+-- cells that fit a memory form fit each form that denotes the same
 same_cells : (o : Object) (v v' : Valuation) (m m' : Updates) (cells : Cells) → value_updates m v
     ≡ value_updates m' v' → FitsCells o v m cells → FitsCells o v' m' cells
 unfolding FitsCells
@@ -170,7 +170,7 @@ after_leads G E o u t c x h = after_need G E _ _ _ (λ n.
     after_need G E _ _ _ (λ a. after_need G E _ _ _ (λ b.
     after_need G E _ _ _ (λ m. h (record { registers = a; queue = b; memory = m })))))
 
--- a state that fits a context which leads to code type t fits its starting context, once it has transferred
+-- if a context leads to code type t, a state that fits the context fits the starting context of t after the transfer
 transferred : (o : Object) (u : Subst) (v : Valuation) (c : Context) (s : State) (a t : ℕ) → AreNodes o.nodes →
     FitsContext o v c s → Leads o u t c → FitsContext o (valuation_by o u v) (start_context o t) (transfers a s)
 transferred o u v c s a t nodes h l = record {
@@ -186,7 +186,7 @@ transferred o u v c s a t nodes h l = record {
 
 -- TRANSFERS
 
--- the machine is at the start of a block that is at address a, and fits its starting context
+-- the machine is at the start of the block at address a, and its state fits the block's starting context
 pub record Arrives (o : Object) (v : Valuation) (a : ℕ) (s : State) (w : List Wild) (t : Stepping) : Type 0 where
   pub block : Block
   pub found : block_at o a ≡ Some block
@@ -236,7 +236,7 @@ jump_blue_row o v c s w rd u nodes h =
     after_ends G E (arrive o u v c s w (word s rd) t nodes h same
     (subst (λ k. HasType o s.d (code k)) (sym (eqb-true t t' p.0)) fd.basic) l)))))))
 
--- a blue branch, by its test
+-- a blue branch: it arrives at its target or goes on, depending on its test
 pub data Branch (o : Object) (v v' : Valuation) (a : ℕ) (s : State) (w : List Wild) (x : Stepping) (c : Context)
     (b : Bool) : Type 0 where
   taken : b ≡ true → Arrives o v' a s w x → Branch o v v' a s w x c b

@@ -24,7 +24,7 @@ use Rattle.ft_tolerance.proofs.Premises.{After, same_colour_is}
 use Rattle.ft_tolerance.proofs.RegisterRows.{refers, finds}
 use Rattle.ft_tolerance.proofs.StoreRows.{queue_length}
 
--- the colours that an instruction requires, that its load finds a word, and that its store finds room or an entry
+-- an instruction finds the colours that it requires, its load finds a word, and its store finds room or an entry
 abbrev pub Wants : Instr → State → Type 0
 Wants (OpReg op rd rs rt) s = colour s rt ≡ colour s rs
 Wants (Ld c rd rs) s = (colour s rs ≡ c) × (is_some (found c s (word s rs)) ≡ true)
@@ -36,7 +36,7 @@ Wants (BzG rz rd) s = (colour s rz ≡ Green) × (colour s rd ≡ Green)
 Wants (BzB rz rd u) s = (colour s rz ≡ Blue) × (colour s rd ≡ Blue)
 Wants i s = Unit {0}
 
--- a fact of a row that doesn't fail
+-- a fact that holds whatever the row gives
 pub anyhow : (C : Type 0) (x : Outcome) → C → After (λ _. C) C x
 unfolding After
 anyhow C (Goes c) h = h

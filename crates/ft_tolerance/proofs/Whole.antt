@@ -60,6 +60,6 @@ fits_by o w n spelled acc (running go at fits) e = record {
 pub accepted_fits : (o : Object) (w : List Wild) (n : ℕ) → IsSpellable o → IsAccepted o → FitsAfter o w n
 accepted_fits o w n spelled acc = let h = along o w n spelled acc in fits_by o w n spelled acc h.after h.wild
 
--- it is never detected
+-- the run is never detected
 pub never_detected : (o : Object) (w : List Wild) → IsSpellable o → IsAccepted o → IsNeverDetected o w
 never_detected o w spelled acc n = (accepted_fits o w n spelled acc).undetected

@@ -23,8 +23,8 @@ pub record AreAlikeWords (c : Colour) (x y : Coloured) : Type 0 where
 unfoldable pub AreAlikeRegisters : Colour → Registers → Registers → Type 0
 AreAlikeRegisters c m n = (r : ℕ) → AreAlikeWords c (held m r) (held n r)
 
--- two states are equal except for the words in registers of colour c and the counter of c; for green the word d and the
--- contents of the queue may differ too, but not its length
+-- two states are equal except for the words in registers of colour c and the counter of c; for green, d and the
+-- contents of the queue may differ too, but not the queue's length
 pub record AreAlike (c : Colour) (s t : State) : Type 0 where
   pub registers : AreAlikeRegisters c s.registers t.registers
   pub d : c ≢ Green → s.d ≡ t.d
@@ -46,26 +46,27 @@ colour_of_site s (QAddr i) = Green
 colour_of_site s (QVal i) = Green
 
 -- one step from each of two alike states leads to alike states with the same output, or the second is detected and has
--- none
+-- no output
 pub data Follows (c : Colour) (x y : Stepping) : Type 0 where
   keeps_alike : AreAlike c x.state y.state → x.output ≡ y.output → Follows c x y
   is_detected : y.state.status ≡ Detected → y.output ≡ None → Follows c x y
 
--- the second state, of the struck run, is alike to the first, of the run without the fault, or it is detected
+-- the first state, of the run without the fault, and the second, of the struck run, are alike, or the second is
+-- detected
 pub data IsAlikeOrDetected (c : Colour) (s t : State) : Type 0 where
   is_alike : AreAlike c s t → IsAlikeOrDetected c s t
   has_stopped : t.status ≡ Detected → IsAlikeOrDetected c s t
 
--- a state after n steps of a run that was struck is alike, for the colour of the struck site, to that of the run
--- without the strike after the same number of steps, or it is detected
+-- a state after n steps of a struck run and the state after n steps of the run without the strike are alike, for the
+-- colour of the struck site, or the former is detected
 abbrev pub IsAlikeAfter : Object → Strike → List Wild → ℕ → State → Type 0
 IsAlikeAfter o x w n s = IsAlikeOrDetected (colour_of_site (state_after o None w x.step) x.site) (state_after o None w n) s
 
--- from the strike, the states in which the next steps are taken are alike or detected, the first of them right after
--- the strike
+-- from the strike on, the states from which step n is taken are alike, or the struck one is detected; the first of
+-- these is the state right after the strike
 abbrev pub StaysAlike : Object → Strike → List Wild → ℕ → Type 0
 StaysAlike o x w n = x.step ≤ n → IsAlikeAfter o x w n (struck_before (Some x) n (state_after o (Some x) w n))
 
--- after each step since the strike the run is alike or detected
+-- after each step from the strike on, the states are alike, or the struck one is detected
 abbrev pub IsAlikeLater : Object → Strike → List Wild → ℕ → Type 0
 IsAlikeLater o x w n = x.step < n → IsAlikeAfter o x w n (state_after o (Some x) w n)

@@ -35,8 +35,8 @@ pub record Keeps (o : Object) (p : Place) (s : State) (w : List Wild) : Type 0 w
 abbrev pub IsNeverDetected : Object → List Wild → Type 0
 IsNeverDetected o w = (n : ℕ) → status_after o None w n ≢ Detected
 
--- after n steps without a fault: while the run is running it fits its place, a place of the object, and its next step
--- is untroubled; all answers to wild loads are left; and it is not detected
+-- after n steps without a fault: if the run is still running, it fits its place, which is a place of the object, and
+-- its next step is untroubled; all answers to wild loads are left; and the run is not detected
 pub record FitsAfter (o : Object) (w : List Wild) (n : ℕ) : Type 0 where
   pub is_place : status_after o None w n ≡ Running → IsPlace o (place o w n)
   pub fits : status_after o None w n ≡ Running → Fits o (place o w n) (state_after o None w n)

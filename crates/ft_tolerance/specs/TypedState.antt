@@ -38,8 +38,8 @@ pub record Place : Type 0 where
 abbrev pub instr_number : Place → ℕ
 instr_number p = p.block.start + p.index
 
--- the valuation after a transfer: each integer variable, and the memory variable, has the value that its substituted
--- node has in the valuation before it
+-- the valuation after a transfer: each integer variable and the memory variable has the value that the node substituted
+-- for it has before the transfer
 unfoldable pub valuation_by : Object → Subst → Valuation → Valuation
 valuation_by o u v = valuation_after (map (integer_at (trees o.nodes)) (rows_of o u)) (memory_at (trees o.nodes) u.memory) v
 
@@ -94,7 +94,7 @@ place-add_one o w n = rw add-one refl
 
 -- WHAT FITS
 
--- a typed register has its colour, the word that its form denotes, and its basic type
+-- a register has the colour and the basic type that are known of it, and the word that its form denotes
 pub record FitsRegister (o : Object) (v : Valuation) (t : Typed) (x : Coloured) : Type 0 where
   pub colour : x.colour ≡ t.colour
   pub word : x.word ≡ value_polynomial t.form v
@@ -105,7 +105,7 @@ pub record FitsTarget (o : Object) (v : Valuation) (t : ℕ) (f : Polynomial) (d
   pub word : d ≡ value_polynomial f v
   pub basic : HasType o d (code t)
 
--- for Zero d is 0; for Code it is its target; for Conditional it is that if the test denotes 0, else 0
+-- for Zero, d is 0; for Code, d is the target; for Conditional, d is the target if the test denotes 0, and otherwise 0
 abbrev pub FitsD : Object → Valuation → StateOfD → ℕ → Type 0
 FitsD o v d_zero d = d ≡ 0
 FitsD o v (d_code t f) d = FitsTarget o v t f d
@@ -132,7 +132,7 @@ pub record FitsCell (o : Object) (v : Valuation) (m : Updates) (cells : Cells) (
 unfoldable pub FitsCells : Object → Valuation → Updates → Cells → Type 0
 FitsCells o v m cells = (a : ℕ) (b : Basic) → cell_type o a ≡ Some b → FitsCell o v m cells a b
 
--- what a context knows of a state holds, and everything in its valuation is a word
+-- what a context knows of a state holds under the valuation, which is lawful
 pub record FitsContext (o : Object) (v : Valuation) (c : Context) (s : State) : Type 0 where
   pub lawful : IsLawful v
   pub registers : (r : ℕ) (t : Typed) → typed c r ≡ Some t → FitsRegister o v t (held s.registers r)
@@ -167,7 +167,7 @@ unfoldable pub context_at : Object → ℕ → ℕ → Option Context
 context_at o b zero = Some (start_context o (block_type o b))
 context_at o b (suc k) = context_after o (slice_get (block_instrs o b) k) (context_at o b k)
 
--- a place of an object: a block of it, and the context there
+-- a place of an object: its block is one of the object's, and its context is the context there
 pub record IsPlace (o : Object) (p : Place) : Type 0 where
   pub number : ℕ
   pub block : slice_get o.blocks number ≡ Some p.block

@@ -18,41 +18,42 @@ ghost use Rattle.ft_tolerance.specs.Alike.{AreAlike, Follows, IsAlikeLater, Stay
 ghost use Rattle.ft_tolerance.specs.Soundness.{FitsAfter, Keeps};
 ghost use Rattle.ft_tolerance.specs.TypedState.{Fits, IsPlace, Place};
 
-/// Every row of the table of steps preserves what fits: from every running state that fits a place of an accepted
+/// Every row of the table of steps preserves typing: from every running state that fits a place of an accepted
 /// object, whatever answers to wild loads are left, the step ends the run or leads to a state that fits the next place.
 /// It meets no wild load, no full or empty queue in a store, and no fetch outside the code.
 pub fn rows_keep_what_fits()
     ensures { (o : Object) (p : Place) (s : State) (w : List Wild) → IsSpellable o → IsAccepted o → IsPlace o p → s.status ≡ Running → Fits o p s → Keeps o p s w }
 {}
 
-/// A run of an accepted object without a fault fits its place as long as it is running, takes no answer
-/// to a wild load, and is never detected.
+/// Without a fault, the run of an accepted object fits its place as long as it is running, takes no answer to a wild
+/// load, and is never detected.
 pub fn accepted_objects_fit_their_types()
     ensures { (o : Object) (w : List Wild) (n : ℕ) → IsSpellable o → IsAccepted o → FitsAfter o w n }
 {}
 
-/// A strike leaves a state alike to the state before it, for the colour of the struck site.
+/// The states before and after a strike are alike, for the colour of the struck site.
 pub fn strikes_leave_states_alike()
     ensures { (s : State) (site : Site) (v : ℕ) → AreAlike (colour_of_site s site) s (struck_state s site v) }
 {}
 
-/// A step keeps states alike, with the same output, or the struck machine is detected without one: from
-/// every running state that fits a place of an accepted object, and from every state alike to it,
-/// whatever answers to wild loads are left to either.
+/// If two states are alike, and the first is running and fits a place of an accepted object, then a step from each
+/// leads to alike states with the same output, or the second is detected without one, whatever answers to wild loads
+/// are left to either.
 pub fn steps_keep_states_alike()
     ensures { (c : Colour) (o : Object) (p : Place) (s t : State) (w v : List Wild) → IsSpellable o → IsAccepted o → IsPlace o p → s.status ≡ Running → Fits o p s → AreAlike c s t → Follows c (step o s w) (step o t v) }
 {}
 
-/// A strike leaves the run of an accepted object alike to the run without it, after the same number of steps and for
-/// the colour of the struck site, or detected: right after the strike, and after each later step.
+/// Right after a strike, and after each later step, the state of the struck run of an accepted object and that of the
+/// run without the strike, after the same number of steps, are alike for the colour of the struck site, or the struck
+/// run is detected.
 pub fn struck_runs_stay_alike()
     ensures from_strike { (o : Object) (strike : Strike) (w : List Wild) (n : ℕ) → IsSpellable o → IsAccepted o → StaysAlike o strike w n }
     ensures later { (o : Object) (strike : Strike) (w : List Wild) (n : ℕ) → IsSpellable o → IsAccepted o → IsAlikeLater o strike w n }
 {}
 
-/// One fault is masked or detected: after each number of steps the run of an accepted object under a plan with at most
-/// one strike has the outputs and the status of the run without it, or it is detected and its outputs are a prefix of
-/// those.
+/// One fault is masked or detected: after any number of steps, the run of an accepted object under a plan with at most
+/// one strike has the outputs and the status of the run without the strike, or it is detected and its outputs are a
+/// prefix of those.
 pub fn one_fault_is_masked_or_detected()
     ensures { (o : Object) (strike : Option Strike) (w : List Wild) (n : ℕ) → IsSpellable o → IsAccepted o → Agrees (outputs_after o strike w n) (status_after o strike w n) (outputs_after o None w n) (status_after o None w n) }
 {}

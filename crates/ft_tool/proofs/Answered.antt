@@ -1,4 +1,4 @@
--- What the parts of a command conclude.
+-- How the parts of a command end.
 use Rattle.std.proofs.Common.{◌≡◌, ◌≢◌, false, nat_le, ℕ, ◌<◌, List, [], ◌∷◌, length, Option, Some, None, Err, inl, inr}
 use Rattle.std.proofs.Common.{⊎_elim, refl, sym, ap, ◌∙◌, subst}
 use Rattle.std.specs.Prelude.{◌⊎◌, IsTrue}
@@ -42,7 +42,7 @@ use Rattle.ft_tool.specs.Endings.{PartEnd, Concluded, Unloaded, Unwritten, Unfin
 use Rattle.ft_tool.specs.Endings.{ends_early, EndsSo, Ends, ending_of_run}
 use Rattle.ft_tool.proofs.Mapped.{some_files, files_with}
 
--- an ending says the same about an answer that is known less well
+-- an ending also holds for a weaker property of the answer
 EndsSo-map : (e : PartEnd) (P Q : Answer → Type 0) (old new : SinkLog) (L M : Type 0) → ((a : Answer) → P a → Q a)
     → (L → M) → EndsSo e P old new L → EndsSo e Q old new M
 EndsSo-map (Concluded status) P Q old new L M f g h =
@@ -81,7 +81,7 @@ count_kept Unloaded Is old new L h other = ap (λ (l : SinkLog). l.failures) h.0
 count_kept Unwritten Is old new L h other = absurd (other refl)
 count_kept Unfinished Is old new L h other = ap (λ (l : SinkLog). l.failures) h
 
--- bytes that are refused spell no object, and else the call ends early
+-- refused bytes spell no object; any other fault ends the call early
 pub unspelled : (told : Option Files) (name : Word) (e : ObjectFault) (end : Ending) (old new : SinkLog) (L : Type 0) →
     LoadsObject told name (Err e)
     → Ends end (IsRefusedBy e) old new L → OfFiles told (λ files. (SpellsFile files name → ⊥) ⊎ IsTrue (ends_early end))
@@ -99,7 +99,7 @@ unspelled told name Failed end old new L h ends = let m = some_files told in
 unspelled told name no_memory end old new L h ends = let m = some_files told in
     (m.0, (m.1.0, inr (unanswered end (IsRefusedBy no_memory) old new L (λ a is. is) ends)))
 
--- an object that is not accepted is refused, and else the call ends early
+-- an object whose check failed has a refusal, or the call ends early
 pub unaccepted : (x : Option Refusal) (e : CheckError) (end : Ending) (old new : SinkLog) (L : Type 0) → IsRefusalOf x e
     → Ends end (IsNotAccepted e) old new L → (x ≢ None) ⊎ IsTrue (ends_early end)
 unaccepted x checks.EntryType end old new L h ends = inl (λ none. none-some _ (sym none ∙ h))
@@ -108,7 +108,7 @@ unaccepted x (checks.Refused b i why) end old new L h ends = inl (λ none. none-
 unaccepted x checks.NoMemory end old new L h ends =
     inr (unanswered end (IsNotAccepted checks.NoMemory) old new L (λ a is. is) ends)
 
--- a run whose lines were put
+-- a run whose lines were written
 concludes : (r : Run) (o : objects.Object) (w : List Wild) (v : Status) (old new : SinkLog) → w ≡ r.wild
     → status_after o r.strike w r.steps ≡ v
     → new ≡ with_lines (output_lines o (outputs_after o r.strike w r.steps)) old
@@ -129,7 +129,7 @@ breaks_off r o w old new is broken = record {
   broken = subst (λ ws. LinesBreakOff (output_lines o (outputs_after o r.strike ws r.steps)) old new) is broken;
 }
 
--- a run that ended so, whose lines were put up to there
+-- a run that ended this way, whose lines were written up to its end
 pub trial_ends : (e : RunEnd) (r : Run) (o : objects.Object) (w : List Wild) (old new : SinkLog) → w ≡ r.wild
     → EndsAs e (status_after o r.strike w r.steps)
     → Puts (put_end e) (output_lines o (outputs_after o r.strike w r.steps)) old new
@@ -139,7 +139,7 @@ trial_ends runs.Detected r o w old new is status put = concludes r o w machine.D
 trial_ends runs.OutOfSteps r o w old new is status put = concludes r o w machine.Running old new is status put
 trial_ends runs.WriteFault r o w old new is status put = breaks_off r o w old new is put
 
--- an answer of one piece, which was put, or whose put failed
+-- an answer of one piece that was written, or whose put failed
 pub piece_concludes : (Is : Answer → Type 0) (line piece : List ℕ) (status : ℕ) (old new : SinkLog)
     → Is (one_piece line status) → piece ≡ line → new ≡ with_lines (piece ∷ []) old → Concludes Is status old new
 piece_concludes Is line piece status old new is e put =
@@ -156,11 +156,11 @@ pub piece_breaks_off : (Is : Answer → Type 0) (line piece : List ℕ) (status 
 piece_breaks_off Is line piece status old new is e broken =
     record { answer = one_piece line status; is = is; broken = subst (λ p. LinesBreakOff (p ∷ []) old new) e broken }
 
--- the run of an object that is accepted is never detected without a fault
+-- without a fault, the run of an accepted object is never detected
 pub undetected : (o : objects.Object) (w : List Wild) → IsSpellable o → refusal o ≡ None → IsNeverDetected o w
 undetected o w spellable h = never_detected o w spellable ((accepted_is_unrefused o).1 h)
 
--- an object that is accepted withstands each plan
+-- an accepted object withstands every plan
 withstands : (o : objects.Object) (strike : Option Strike) (w : List Wild) → IsSpellable o → refusal o ≡ None →
     Withstands o strike w
 withstands o strike w spellable h = record {
@@ -168,7 +168,7 @@ withstands o strike w spellable h = record {
   undetected = undetected o w spellable h;
 }
 
--- an object that is accepted is run
+-- the answer for an accepted object is its run
 pub run_accepted : (r : Run) (o : objects.Object) → IsSpellable o → refusal o ≡ None → (a : Answer) → a ≡ tried r o →
     RunsObject r o a
 run_accepted r o spellable h a is = subst (λ x. RunsUnless x r o a) (sym h) (
@@ -187,18 +187,18 @@ run_ends e r o x w old new spelled unrefused same is status put =
     (subst (λ y. Ends (ending_of_run e) (TrialsObject r y) old new ⊥) same
     (trial_ends e r x w old new is status put))
 
--- bytes beyond the limit are refused by their length
+-- bytes longer than the limit are refused for their length
 pub too_long : (bytes : List ℕ) → 67108864 < length bytes → broken bytes ≡ Some (Length 67108864)
 unfolding broken
 too_long bytes long = let beyond : nat_le (length bytes) 67108864 ≡ false = lt-leb (length bytes) 67108864 long in
     rw beyond refl
 
--- a load of an object that failed
+-- the load of an object failed
 pub object_failed : (name : Word) (e : ObjectFault) (old new : ShelfLog) → FaultCause name e old new → e ≡ Failed
     → LoadFails name old new
 object_failed name e old new h is = subst (λ f. FaultCause name f old new) is h
 
--- a request that got as far as loading a file, if files do not matter for that
+-- a request that gets as far as loading a file, whatever the files contain
 pub failed_in : (request : Request) (old new : ShelfLog) (name : Word)
     → ((files : Files) → ComesTo request old.files files name) → LoadFails name old new
     → OfFiles old.files (λ files. FailsIn request files old new)

@@ -1,4 +1,4 @@
--- What is answered for an assembly text.
+-- The answers of `asm`.
 use Rattle.std.proofs.Common.{ℕ, List}
 use Rattle.ft_types.specs.declared.object.Object as objects
 use Rattle.ft_asm.specs.declared.asm_error.AsmError.{AsmError}

@@ -1,4 +1,4 @@
--- What is answered for the object that a source is compiled to.
+-- The answers of `compile`.
 use Rattle.std.proofs.Common.{◌≢◌, ◌<◌, ℕ, List, length, inl, inr}
 use Rattle.ft_types.specs.declared.object.Object.{Object}
 use Rattle.ft_syntax.specs.declared.source_error.SourceError.{SourceError}
@@ -10,12 +10,12 @@ use Rattle.ft_tool.specs.Replies.{Answer}
 use Rattle.ft_tool.specs.Sources.{OverText, CompilesProgram, IsSourceRefused}
 use Rattle.ft_tool.specs.Objects.{UpgradesObject}
 
--- the answer to a source that is refused is one for its text
+-- the answer to a refused source is an answer for its text
 pub source_refused : (Over : Program → Answer → Type 0) (text : List ℕ) (e : SourceError) →
     (e ≢ NoMemory → IsRefusalOf text e) → (a : Answer) → IsSourceRefused e a → OverText Over text a
 source_refused Over text e err a is = inr (e, (err is.named, is))
 
--- the bytes of an object that stands for the program of a text are an answer for it
+-- the bytes of an object that stands for the program of a text are an answer for the text
 pub object_compiled : (text : List ℕ) (o : Object) → (p : Program) × IsProgramOf text p × StandsFor p o → (a : Answer) →
     UpgradesObject o a → OverText CompilesProgram text a
 object_compiled text o h a is = inl (
@@ -32,7 +32,7 @@ object_compiled text o h a is = inl (
   ),
 )
 
--- the answer to a source that is too long is one for its text
+-- the answer to a source that is too long is an answer for its text
 pub long_source : (Over : Program → Answer → Type 0) (text : List ℕ) → 1048576 < length text → (a : Answer) →
     IsSourceRefused TooLong a → OverText Over text a
 long_source Over text long a is = inr (TooLong, (inl long, is))

@@ -1,4 +1,4 @@
--- Takes in a loop, each of which but the last returns at least one byte.
+-- Takes in a loop: all but the last return at least one byte each.
 use Rattle.std.proofs.Common.{◌≡◌, ℕ, ◌+◌, ◌-◌, ◌<◌, ◌≤◌, List, [], ◌∷◌, ◌++◌, length, take, sum, All, Option, Some}
 use Rattle.std.proofs.Common.{None, refl, ap, sym, subst, ◌∙◌, arith, length-append}
 use Rattle.std.proofs.Math.Seq.{take-append_seam}
@@ -11,28 +11,28 @@ use Rattle.ft_edge.specs.Logs.{SourceLog}
 use Rattle.ft_edge.specs.Told.{append_told}
 use Rattle.ft_edge.proofs.Appended.{told_more}
 
--- all but the last of a list and one more is the list
+-- a list extended by an element, without its last element, is the list
 but_last : (sizes : List ℕ) (n : ℕ) → take (length (sizes ++ n ∷ []) - 1) (sizes ++ n ∷ []) ≡ sizes
 but_last sizes n =
     let e : length (sizes ++ n ∷ []) - 1 ≡ length sizes = omega (arith, length-append sizes (n ∷ [])) in
     ap (λ k. take k (sizes ++ n ∷ [])) e ∙ take-append_seam sizes (n ∷ [])
 
--- each of them gave some, so each but one more did
+-- if each take returned some bytes, then after one more take all but the last did
 frugal_more : (sizes : List ℕ) (n : ℕ) → All (λ count. 0 < count) sizes → IsFrugal (sizes ++ n ∷ [])
 frugal_more sizes n some = subst (All (λ count. 0 < count)) (sym (but_last sizes n)) some
 
--- one more after all others
+-- the sum after one more
 sum_more : (sizes : List ℕ) (n : ℕ) → sum (sizes ++ n ∷ []) ≡ sum sizes + n
 sum_more sizes n = omega (arith, sum_by-append (λ count. count) sizes (n ∷ []))
 
--- takes were made that returned `count` bytes together, and each returned some
+-- takes were made that returned `total` bytes in all, and each returned some
 pub record GaveSome (takes takes' : Option (List ℕ)) (total : ℕ) : Type 0 where
   pub sizes : List ℕ
   pub made : takes' ≡ append_told takes sizes
   pub together : sum sizes ≡ total
   pub some : All (λ count. 0 < count) sizes
 
--- one more take gave bytes
+-- one more take returned bytes
 pub gave_more : (takes takes' takes'' : Option (List ℕ)) (total total' n : ℕ) → GaveSome takes takes' total → takes''
     ≡ append_told takes' (n ∷ []) → 0 < n → total' ≡ total + n → GaveSome takes takes'' total'
 gave_more takes takes' takes'' total total' n h is some more = record {
@@ -42,7 +42,7 @@ gave_more takes takes' takes'' total total' n h is some more = record {
   some = All-push (λ count. 0 < count) h.sizes n h.some some;
 }
 
--- one more take, the last, gave bytes or none
+-- one more take, the last, returned bytes or none
 pub takes_last : (most : ℕ) (old mid new : SourceLog) (bytes more : List ℕ) (n : ℕ) →
     GaveSome old.takes mid.takes (length bytes) → Consumes old.left mid.left bytes
     → new.takes ≡ append_told mid.takes (n ∷ []) → Consumes mid.left new.left more → length more ≡ n →
@@ -57,7 +57,7 @@ takes_last most old mid new bytes more n h taken is gave same few = record {
   frugal = frugal_more h.sizes n h.some;
 }
 
--- if nothing was taken, there were no bytes
+-- if the remaining bytes are unchanged, none were consumed
 kept_none : (a b : Option (List ℕ)) → Keeps a b → Consumes a b []
 kept_none None b h = tt
 kept_none (Some xs) None h = absurd h

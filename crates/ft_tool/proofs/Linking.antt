@@ -1,4 +1,4 @@
--- What a link answers, by its map, one of its modules or the linked object.
+-- The answers of `link`: to a map, to a module or for the linked object.
 use Rattle.std.proofs.Common.{◌≡◌, ℕ, ◌≤◌, Bool, List, [], ◌∷◌, ◌++◌, length, Option, Some, None, Ok, Err, inl, inr}
 use Rattle.std.proofs.Common.{refl, sym, subst}
 use Rattle.std.specs.Prelude.{◌⊎◌, IsTrue, IfErr, Result}
@@ -49,21 +49,21 @@ use Rattle.ft_tool.proofs.Mapped.{some_files}
 
 -- ENDINGS
 
--- an error whose ending says the same about an answer that is known less well
+-- the ending of an error also holds for a weaker property of the answer
 pub err_ends : {T : Type 0} (r : Result T Ending) (P Q : Answer → Type 0) (old new : SinkLog) (L M : Type 0) →
     ((a : Answer) → P a → Q a) → (L → M)
     → IfErr r (λ e. Ends e P old new L) → IfErr r (λ e. Ends e Q old new M)
 err_ends (Ok v) P Q old new L M f g h = tt
 err_ends (Err e) P Q old new L M f g h = Ends-map e P Q old new L M f g h
 
--- less is known of such an answer
+-- a weaker property holds, or the call ends early
 pub known_less : (P Q Early : Type 0) → (P → Q) → P ⊎ Early → Q ⊎ Early
 known_less P Q Early f (inl p) = inl (f p)
 known_less P Q Early f (inr early) = inr early
 
 -- OBJECTS
 
--- a refusal of modules, by the error that stands for it
+-- the refusal of modules that an error reports
 told_refusal : (x : Option LinkRefusal) (e : LinkError) → IsRefusalOf x e → (a : Answer) → IsUnlinkedBy e a →
     (r : LinkRefusal) × ((x ≡ Some r) × (a ≡ unlinked r))
 told_refusal x (links.Cells m) h a is = (Cells m, (h, is))
@@ -102,13 +102,13 @@ ends_unaccepted modules o checks.NoMemory h a is = absurd is
 
 -- FILES
 
--- the file of a module that ends the link, by the object that its bytes spell
+-- the file of a module ends the link: by the object that its bytes spell
 pub ends_with_object : (told : Option Files) (modules : List Object) (name : Word) (bytes : List ℕ) →
     LoadsObject told name (Ok bytes) → (a : Answer) → EndsAtObject modules (object_of bytes) a →
     EndsWithFile told modules name a
 ends_with_object told modules name bytes h a is = (bytes, (h.0, no_module (object_of bytes) (version_at bytes, h.1) is))
 
--- by the rule that its bytes break
+-- or by the rule that its bytes break
 pub ends_with_fault : (told : Option Files) (modules : List Object) (name : Word) (e : ObjectFault) →
     LoadsObject told name (Err e) → (a : Answer) → IsRefusedBy e a → EndsWithFile told modules name a
 ends_with_fault told modules name (Refused e) h a is = (h.0, (h.1.0, no_object e h.1.1 is))
@@ -137,7 +137,7 @@ adds_file told modules modules' name bytes h g = (
   ),
 )
 
--- no call that went well failed to load
+-- a result is not both a success and an error
 pub ok_no_err : {A B : Type 0} (x : A) (y : B) (r s : Result A B) → r ≡ Ok x → s ≡ Err y → r ≡ s → ⊥
 ok_no_err x y r s a b e = cc
 
@@ -161,7 +161,7 @@ object_linked linkage first others o e accepted outputs status tolerates a writt
   written = subst (λ x. UpgradesObject x a) e written;
 }
 
--- what the linker gives
+-- the object that the linker makes
 pub links_object : (linkage : LinkMap) (modules : List Object) (o : Object) → IsLinked linkage modules o →
     refusal_of linkage modules ≡ None → (a : Answer) → UpgradesObject o a → LinksAdded linkage modules a
 links_object linkage modules o h unrefused a written =
@@ -171,7 +171,7 @@ links_object linkage modules o h unrefused a written =
     (subst (λ x. LinksUnless x linkage h.first h.others a) (sym none)
     (object_linked linkage h.first h.others o h.linked_is h.accepted h.outputs h.status h.tolerates a written))
 
--- what it refuses
+-- the refusals of the linker
 refused_so : (linkage : LinkMap) (modules : List Object) (r : LinkRefusal) → refusal_of linkage modules ≡ Some r →
     (a : Answer) → a ≡ unlinked r → LinksAdded linkage modules a
 refused_so linkage [] r e a is = absurd (none-some r e)
@@ -199,12 +199,12 @@ map_refused text short said lines (maps.Twice line) h a is =
     line_twice line (record { short = short; lines = said; are_said = lines; is = h }) is
 map_refused text short said lines maps.NoMemory h a is = absurd is
 
--- the loads after a text that was read
+-- no module was loaded
 pub makes_no_module : (told : Option Files) (text : List ℕ) (early : Bool) (asked : Option LoadList) →
     ((a : Answer) × EndsAtMap text a) ⊎ IsTrue early → MakesOfText told text early asked asked
 makes_no_module told text early asked h = inl (h, refl)
 
--- a load of a module failed
+-- the load of a module failed
 failed_module : (name : Word) (text : List ℕ) (shelf shelf' : ShelfLog) → IsToldFile shelf.files name text
     → (linkage : LinkMap) × (IsMap text linkage × FailsInTurn linkage shelf shelf')
     → OfFiles shelf.files (λ files. FailsIn (Links name) files shelf shelf')
@@ -213,7 +213,7 @@ failed_module name text shelf shelf' file x =
     let comes = inr (record { text = text; is_file = file; linkage = x.0; is_map = x.1.0; in_turn = x.1.1.1.0 }) in
     (m.0, (m.1.0, record { file = x.1.1.0; comes = comes; fails = x.1.1.1.1 }))
 
--- the same if the files are known, and the text lent, after the load of the map
+-- likewise for the shelf after the load of the map, and for the borrowed text
 pub failed_between : (name : Word) (text lent : List ℕ) (shelf between shelf' : ShelfLog) → between.files ≡ shelf.files
     → lent ≡ text → between.failures ≡ shelf.failures → IsToldFile shelf.files name text
     → (linkage : LinkMap) × (IsMap lent linkage × FailsInTurn linkage between shelf')

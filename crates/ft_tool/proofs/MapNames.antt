@@ -1,4 +1,4 @@
--- The files of a link map have names in ASCII.
+-- The names of a link map's files are ASCII.
 use Rattle.std.proofs.Common.{◌≡◌, ℕ, zero, suc, ◌&&◌, true, nat_lt, nat_le, List, [], ◌∷◌, length, Option, Some, None}
 use Rattle.std.proofs.Common.{subst, arith}
 use Rattle.std.specs.Prelude.{All, IsAscii}
@@ -23,7 +23,7 @@ ascii_file : (file : List ℕ) → is_file file ≡ true → IsAscii file
 ascii_file file h = ascii_bytes file (and_parts (nat_lt 0 (length file)
     && nat_le (length file) 255) (list_all is_file_byte file) h).1
 
--- one more line, and more lines
+-- adding a line, and adding lines
 ascii_line : (m : LinkMap) (number : ℕ) (line : List ℕ) (l : MapLine) → Says line l → All IsAscii m.files →
     All IsAscii (with_line m number l).files
 ascii_line m number line (Module file) h all = All-push IsAscii m.files file all (ascii_file file h.0)
@@ -39,7 +39,7 @@ ascii_lines (x ∷ xs) [] m count h all = absurd h
 ascii_lines (x ∷ xs) (l ∷ ls) m count h all = ascii_lines xs ls (with_line m (suc count) l) (suc count) h.1
     (ascii_line m (suc count) x l h.0 all)
 
--- the map that is answered
+-- the map of an answer
 answered_map : (bad twice : Option ℕ) (m linkage : LinkMap) → answered bad twice m ≡ Is linkage → m ≡ linkage
 answered_map (Some n) twice m linkage e = absurd (cc)
 answered_map None (Some n) m linkage e = absurd (cc)
@@ -48,7 +48,7 @@ answered_map None None m linkage e = cc
 no_files : All IsAscii []
 no_files = λ k d lt. absurd (omega (arith, lt))
 
--- each name of a map's files is ASCII
+-- each name in a map is ASCII
 pub ascii_names : (text : List ℕ) (linkage : LinkMap) → IsMap text linkage → All IsAscii linkage.files
 ascii_names text linkage h =
     subst (λ (m : LinkMap). All IsAscii m.files)

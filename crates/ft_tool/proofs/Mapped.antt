@@ -1,4 +1,4 @@
--- Files and scripts with the contents that were loaded and taken.
+-- Files and scripts with the contents that were loaded and read.
 use Rattle.std.proofs.Common.{◌≡◌, ℕ, zero, suc, ◌<◌, Bool, true, false, cond, List, [], ◌∷◌, length, get_or, Option}
 use Rattle.std.proofs.Common.{Some, None, Result, Ok, Err, refl, sym, ap, ◌∙◌, subst, arith}
 use Rattle.std.specs.Prelude.{IfSome}
@@ -19,7 +19,7 @@ use Rattle.ft_tool.specs.Replies.{IsFile, IsToldFile}
 use Rattle.ft_tool.specs.Told.{OfFiles, OfScript}
 use Rattle.ft_tool.specs.Files.{Gives}
 
--- no byte, and a byte before others
+-- the empty list is bytes, and so is a zero before bytes
 pub no_bytes : AreBytes []
 no_bytes i = omega arith
 
@@ -27,25 +27,25 @@ zero_first : (bytes : List ℕ) → AreBytes bytes → AreBytes (0 ∷ bytes)
 zero_first bytes h zero = omega arith
 zero_first bytes h (suc i) = h i
 
--- numbers each of which is a byte, in a list
+-- a list in which each number is a byte
 pub within_bytes : (bytes : List ℕ) → ((i : ℕ) → i < length bytes → get_or bytes i 0 < 256) → AreBytes bytes
 within_bytes [] h i = omega arith
 within_bytes (x ∷ xs) h zero = h 0 (omega arith)
 within_bytes (x ∷ xs) h (suc i) = within_bytes xs (λ j below. h (suc j) (omega (arith, below))) i
 
--- there are bytes more than any number
+-- there are byte lists longer than any number
 pub longer_bytes : (n : ℕ) → (bytes : List ℕ) × (AreBytes bytes × (n < length bytes))
 longer_bytes zero = (0 ∷ [], (zero_first [] no_bytes, omega arith))
 longer_bytes (suc n) = let h = longer_bytes n in (0 ∷ h.0, (zero_first h.0 h.1.0, omega (arith, h.1.1)))
 
--- each content is bytes
+-- the content of each file consists of bytes
 abbrev HasBytes : Files → Type 0
 HasBytes files = (name bytes : List ℕ) → get files name ≡ Some bytes → AreBytes bytes
 
 none_bytes : HasBytes empty
 none_bytes name bytes e = absurd (none-some bytes (sym (get-empty (slice_cmp nat_cmp) name) ∙ e))
 
--- one more file of bytes
+-- inserting a file whose content consists of bytes
 chosen : (t : Bool) (old : Option (List ℕ)) (more bytes : List ℕ) → AreBytes more →
     (old ≡ Some bytes → AreBytes bytes) → cond t (Some more) old ≡ Some bytes → AreBytes bytes
 chosen true old more bytes is rest e = subst AreBytes (ap (λ o. unwrap_or o []) e) is
@@ -56,7 +56,7 @@ more_bytes files name more all is q bytes e =
     chosen (eq_by_cmp (slice_cmp nat_cmp) q name) (get files q) more bytes is (all q bytes)
     (sym (get-insert nat_list_cmp_total files name more q) ∙ e)
 
--- a file that was put is there, and so is one that was there, if it has another name or the same content
+-- an inserted file is found, and so is an earlier one with another name or the same content
 put_there : (files : Files) (name bytes : List ℕ) → get (insert files name bytes) name ≡ Some bytes
 put_there files name bytes =
     get-insert nat_list_cmp_total files name bytes name
@@ -75,12 +75,12 @@ put_kept files name other bytes more same is =
     get-insert nat_list_cmp_total files other more name
     ∙ kept_by (slice_cmp nat_cmp name other) name other bytes more (get files name) refl same is
 
--- there are files
+-- there are files that agree with the revealed ones
 pub some_files : (told : Option Files) → OfFiles told (λ files. Unit {0})
 some_files (Some told) = (told, (refl, tt))
 some_files None = (empty, (none_bytes, tt))
 
--- there are files with this content
+-- there are such files in which a file has this content
 pub files_with : (told : Option Files) (name bytes : List ℕ) → IsToldFile told name bytes →
     OfFiles told (λ files. IsFile files name bytes)
 files_with (Some told) name bytes h = (told, (refl, h))
@@ -89,7 +89,7 @@ files_with None name bytes h = (
   (more_bytes empty name bytes none_bytes h, put_there empty name bytes),
 )
 
--- there are files with these two contents
+-- there are such files in which two files have these contents
 pub files_with_both : (told : Option Files) (name bytes other more : List ℕ) → IsToldFile told name bytes →
     IsToldFile told other more → (other ≡ name → more ≡ bytes)
     → OfFiles told (λ files. IsFile files name bytes × IsFile files other more)
@@ -103,12 +103,12 @@ files_with_both None name bytes other more h g same =
       ),
     )
 
--- there is a script
+-- there is a script that agrees with the revealed one
 pub some_script : (left : Option (List ℕ)) → OfScript left (λ script. Unit {0})
 some_script (Some told) = (told, (refl, tt))
 some_script None = ([], (no_bytes, tt))
 
--- what a load gives
+-- the result of a load
 told_file : (told : Option Files) (name bytes : List ℕ) → IfSome told (λ fs. get fs name ≡ Some bytes) →
     AreBytes bytes → IsToldFile told name bytes
 told_file (Some told) name bytes h is = h

@@ -1,4 +1,4 @@
--- What is answered for the text of a source.
+-- The answers of `mean`.
 use Rattle.std.proofs.Common.{◌≡◌, ◌≢◌, ℕ, List, Err, inl, inr, refl, ap}
 use Rattle.ft_edge.specs.Lines.{with_lines, BreaksOff as LinesBreakOff}
 use Rattle.ft_edge.specs.Logs.{SinkLog}
@@ -22,7 +22,7 @@ pub tree_refused : (turns : ℕ) (text : List ℕ) (t : SyntaxTree) (e : SourceE
     → (a : Answer) → IsSourceRefused e a → OverText (MeansProgram turns) text a
 tree_refused turns text t e source err a is = inr (e, (inr (t, source, err is.named), is))
 
--- the lines of a meaning that ended were put
+-- the lines of a meaning that ended were written
 pub meaning_ended : (turns : ℕ) (text : List ℕ) (p : Program) → IsProgramOf text p → (r : Outcome) → r
     ≡ meaning p turns → EndsAs ends.Ended r
     → (old new : SinkLog) → new ≡ with_lines (output_lines p.names (outputs r)) old
@@ -31,7 +31,7 @@ meaning_ended turns text p is (Ended s) e ended old new put =
     record { answer = meant p (Ended s); is = inl (p, (is, ap (meant p) e)); put = put; status_is = refl }
 meaning_ended turns text p is (Cut s) e ended old new put = absurd ended
 
--- the lines of a meaning that was cut were put
+-- the lines of a meaning that was cut were written
 pub meaning_cut : (turns : ℕ) (text : List ℕ) (p : Program) → IsProgramOf text p → (r : Outcome) → r ≡ meaning p turns →
     EndsAs ends.Cut r
     → (old new : SinkLog) → new ≡ with_lines (output_lines p.names (outputs r)) old
@@ -40,7 +40,7 @@ meaning_cut turns text p is (Ended s) e ended old new put = absurd ended
 meaning_cut turns text p is (Cut s) e ended old new put =
     record { answer = meant p (Cut s); is = inl (p, (is, ap (meant p) e)); put = put; status_is = refl }
 
--- a put of a meaning's lines failed
+-- the put of a line of a meaning failed
 pub meaning_broken : (turns : ℕ) (text : List ℕ) (p : Program) → IsProgramOf text p → (r : Outcome) → r
     ≡ meaning p turns
     → (old new : SinkLog) → LinesBreakOff (output_lines p.names (outputs r)) old new

@@ -23,7 +23,7 @@ asked_after-append : (loads more : LoadList) (asked : Option LoadList) → asked
 asked_after-append [] more asked = refl
 asked_after-append (load ∷ loads) more asked = asked_after-append loads more (append_told asked (load ∷ []))
 
--- loads after loads
+-- loads followed by more loads
 made_more : (loads more : LoadList) (asked between asked' : Option LoadList) → HasMade loads asked between →
     HasMade more between asked' → HasMade (loads ++ more) asked asked'
 made_more loads more asked between asked' h g = g ∙ ap (asked_after more) h ∙ sym (asked_after-append loads more asked)
@@ -40,7 +40,7 @@ makes_none told linkage asked = ([], (no_loads told [] linkage.files, refl))
 
 -- MODULES IN TURN
 
--- one more was added
+-- one more module was added
 added_object : (told : Option Files) (linkage : LinkMap) (modules : List Object) (name : Word) (names : List Word)
     (asked between asked' : Option LoadList) → HasAdded told linkage modules (name ∷ names) asked between
     → (modules' : List Object) → (g : AddsFile told name modules modules') →
@@ -73,14 +73,14 @@ pub ends_in_turn : (told : Option Files) (linkage : LinkMap) (modules : List Obj
     → (a : Answer) → EndsWithFile told modules name a → LinksFiles told linkage [] linkage.files a
 ends_in_turn told linkage modules name names asked between h a g = h.answers a (g.0, (g.1.0, inl g.1.1))
 
--- its load failed
+-- the load of that file failed
 fails_in_turn : (linkage : LinkMap) (modules : List Object) (name : Word) (names : List Word)
     (shelf between shelf' : ShelfLog)
     → HasAdded shelf.files linkage modules (name ∷ names) shelf.asked between.asked → LoadFails name shelf shelf'
     → FailsInTurn linkage shelf shelf'
 fails_in_turn linkage modules name names shelf between shelf' h g = (name, (h.comes name (inl refl), g))
 
--- the loads of a link that ended there
+-- the loads of a link that ended at that file
 pub makes_to_end : (told : Option Files) (linkage : LinkMap) (modules : List Object) (name : Word) (names : List Word)
     (asked between asked' : Option LoadList) (early : Bool) → HasAdded told linkage modules (name ∷ names) asked between
     → ((a : Answer) × EndsWithFile told modules name a) ⊎ IsTrue early →
@@ -103,9 +103,9 @@ makes_to_end told linkage modules name names asked between asked' early h g made
   ),
 )
 
--- THE NEXT FILE OF A LOOP, by its name, over a shelf with the same record
+-- THE NEXT FILE OF A LOOP, under an equal name and on a shelf with the same files
 
--- the rest of the files begins with the next one
+-- the remaining files begin with the next one
 at_file : (told : Option Files) (linkage : LinkMap) (modules : List Object) (files : List Word) (i : ℕ) (file : Word)
     (asked between : Option LoadList) → i < length files → file ≡ get_or files i file
     → HasAdded told linkage modules (drop i files) asked between →
@@ -141,7 +141,7 @@ ends_next told again linkage modules files i file name asked between e f within 
     (at_file told linkage modules files i file asked between within is h) a
     (same_end told again modules file name e f a g)
 
--- its load failed
+-- the load of the next file failed
 pub fails_next : (linkage : LinkMap) (modules : List Object) (files : List Word) (i : ℕ) (file name : Word)
     (shelf between shelf' : ShelfLog) → name ≡ file
     → i < length files → file ≡ get_or files i file
@@ -152,7 +152,7 @@ fails_next linkage modules files i file name shelf between shelf' f within is h 
     (at_file shelf.files linkage modules files i file shelf.asked between.asked within is h)
     (subst (λ b. Rose b shelf'.failures) e g.0, g.1 ∙ ap Some f)
 
--- the loads up to there
+-- the loads up to the next file
 pub makes_next : (told again : Option Files) (linkage : LinkMap) (modules : List Object) (files : List Word) (i : ℕ)
     (file name : Word) (asked between asked' : Option LoadList) (early : Bool) → again ≡ told → name ≡ file
     → i < length files → file ≡ get_or files i file → HasAdded told linkage modules (drop i files) asked between →
@@ -165,7 +165,7 @@ makes_next told again linkage modules files i file name asked between asked' ear
     (IsTrue early) (λ x. (x.0, same_end told again modules file name e f x.0 x.1)) g)
     (subst (λ n. HasMade (object_load n ∷ []) between asked') f made)
 
--- all were added
+-- all modules were added
 pub makes_all : (told : Option Files) (linkage : LinkMap) (modules : List Object) (asked asked' : Option LoadList)
     (early : Bool) → HasAdded told linkage modules [] asked asked' → MakesInTurn told linkage early asked asked'
 makes_all told linkage modules asked asked' early h = (

@@ -1,4 +1,4 @@
--- What is done for a request, said of the words that ask for it.
+-- What a call does for a request, restated for the words that ask for the request.
 use Rattle.std.proofs.Common.{◌≡◌, ◌≢◌, ℕ, List, [], ◌∷◌, Option, inl, inr, refl, sym, subst}
 use Rattle.std.specs.Prelude.{◌⊎◌, IsTrue}
 use Rattle.ft_edge.specs.Loads.{Files}
@@ -20,14 +20,14 @@ use Rattle.ft_tool.proofs.Answered.{Ends-map, count_kept}
 use Rattle.ft_tool.proofs.Mapped.{some_files, some_script}
 use Rattle.ft_tool.proofs.Statuses.{usage_alone}
 
--- WHAT IS DONE FOR A REQUEST
+-- REQUESTS
 
--- if the answer needs no script
+-- an answer that needs no script
 any_script : (r : Request) (told : Option Files) (left : Option (List ℕ)) (a : Answer) →
     OfFiles told (λ files. (script : List ℕ) → Answers r told files script a) → AnswersTo r told left a
 any_script r told left a h = let s = some_script left in (h.0, (h.1.0, (s.0, (s.1.0, h.1.1 s.0))))
 
--- the answer to a request that needs no script, and the loads
+-- a request that needs no script: its answer and its loads
 pub does_files : (r : Request) (e : Ending) {left : Option (List ℕ)} {old new : SinkLog} {shelf shelf' : ShelfLog}
     {Takes : Type 0} (Load : Type 0) (Is : Answer → Type 0) → Ends e Is old new Load
     → ((a : Answer) → Is a → OfFiles shelf.files (λ files. (script : List ℕ) → Answers r shelf.files files script a))
@@ -41,7 +41,7 @@ does_files r e {left} {old} {new} {shelf} {shelf'} {Takes} Load Is ends is fails
   made = made;
 }
 
--- the answer to a request that needs no file
+-- a request that needs no file
 pub does_alone : (r : Request) (e : Ending) {left : Option (List ℕ)} {old new : SinkLog} (shelf : ShelfLog)
     {Takes : Type 0} (Is : Answer → Type 0) → Ends e Is old new ⊥
     → ((files : Files) (script : List ℕ) (a : Answer) → Is a → Answers r shelf.files files script a)
@@ -52,13 +52,13 @@ does_alone r e shelf Is ends is none =
     does_files r e ⊥ Is ends (λ a h. (m.0, (m.1.0, λ script. is m.0 script a h))) (λ n. absurd n)
     (λ other. (refl, refl)) (m.0, (m.1.0, none m.0))
 
--- a load that failed, whatever takes of a script there are
+-- if the script cannot fail, a failure is a failed load
 loading : (r : Request) (shelf shelf' : ShelfLog) (Takes : Type 0) → FailsLoading r shelf shelf' ⊎ ⊥
     → FailsLoading r shelf shelf' ⊎ Takes
 loading r shelf shelf' Takes (inl h) = inl h
 loading r shelf shelf' Takes (inr none) = absurd none
 
--- a request that takes no script, by what it is
+-- a request that reads no script, given as an equal request
 pub does_untaken : {r q : Request} {e : Ending} {left : Option (List ℕ)} {old new : SinkLog}
     {shelf shelf' : ShelfLog} {Takes : Type 0} → r ≡ q → Does q e left old new shelf shelf' ⊥
     → Does r e left old new shelf shelf' Takes
@@ -71,7 +71,7 @@ does_untaken {r} {q} {e} {left} {old} {new} {shelf} {shelf'} {Takes} same h =
       made = h.made;
     })
 
--- the answer to a session, and how it fails
+-- the answer to a session, and how a session fails
 abbrev SessionAnswers : Debugging → ShelfLog → SourceLog → Answer → Type 0
 SessionAnswers d shelf script a =
     OfFiles shelf.files (λ files. OfScript script.left (λ text. OverFile (DebugsObject d text) d.object files a))
@@ -87,7 +87,7 @@ session_fails d shelf shelf' script script' files are (inl h) = inl (files, (are
 session_fails d shelf shelf' script script' files are (inr h) =
     inr (record { debugging = d; is = refl; fails = (files, (are, h)) })
 
--- a session, and its load
+-- what a call does for a session
 pub does_session : (d : Debugging) {r : Request} (e : Ending) {old new : SinkLog} (shelf shelf' : ShelfLog)
     (script script' : SourceLog) → r ≡ Debugs d
     → Ends e (SessionAnswers d shelf script) old new (SessionFails d shelf shelf' script script')
@@ -105,7 +105,7 @@ does_session d e {old} {new} shelf shelf' script script' same ends load_failures
       made = (m.0, (m.1.0, made));
     })
 
--- what a session takes of its script
+-- what a session reads of its script
 pub takes_session : (d : Debugging) {r : Request} (told : Option Files) (script script' : SourceLog) {Same : Type 0}
     → r ≡ Debugs d
     → (OfFiles told (λ files. SpellsFile files d.object)
@@ -114,7 +114,7 @@ pub takes_session : (d : Debugging) {r : Request} (told : Option Files) (script 
 takes_session d told script script' is (inl h) = inl (record { debugging = d; is = is; comes = h.0; taken = h.1 })
 takes_session d told script script' is (inr h) = inr h
 
--- WHAT IS SAID OF THE WORDS
+-- WORDS
 
 module _ (words : List Word) {r : Request} (asks : Asks words r) {e : Ending} {old new : SinkLog}
     {shelf shelf' : ShelfLog} {script script' : SourceLog}
@@ -163,7 +163,7 @@ module _ (words : List Word) {r : Request} (asks : Asks words r) {e : Ending} {o
   asked_loads =
       record { request = r; asks = asks; files = does.made.0; are_files = does.made.1.0; made = does.made.1.1 }
 
--- what is taken of a script
+-- what a call reads of its script
 pub asked_takes : (words : List Word) {r : Request} {told : Option Files} {script script' : SourceLog} {Same : Type 0}
     → Asks words r → TakesFor r told script script' ⊎ Same → TakesFrom words told script script' ⊎ Same
 asked_takes words asks (inl h) =

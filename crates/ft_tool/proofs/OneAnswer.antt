@@ -1,4 +1,4 @@
--- Two answers to the same words, for the same files and script.
+-- Two answers to the same words, for the same files and script, agree.
 use Rattle.std.proofs.Common.{◌≡◌, ◌≢◌, ℕ, List, Some, None, Result, sym, ◌∙◌, subst}
 use Rattle.ft_edge.specs.Loads.{Files}
 use Rattle.ft_isa.specs.declared.plan.Strike.{Strike}
@@ -39,9 +39,9 @@ use Rattle.ft_tool.proofs.OneCampaign.{over_list_file, strikes_same, session_sam
 use Rattle.ft_tool.proofs.OneCompilation.{over_source, two_objects, executed_same}
 use Rattle.ft_tool.proofs.OneLink.{says_same, link_same}
 
--- LINKS
+-- ANSWERS
 
--- what the answers rest on
+-- the laws that the proof rests on
 pub record HasLaws : Type 0 where
   pub one_request : (words : List Word) (a b : Request) → Asks words a → Asks words b → a ≡ b
   pub one_object : (bytes : List ℕ) (o : Object) → IsSpelling bytes o → object_of bytes ≡ o
@@ -62,7 +62,7 @@ pub record HasLaws : Type 0 where
   pub done : DoneRunsWriteTheMeaning
   pub running : RunningRunsBeginTheMeaning
 
--- two answers to one request
+-- two answers to one request agree
 same_answers : HasLaws → (r : Request) (files : Files) (script : List ℕ) (a b : Answer) →
     Answers r (Some files) files script a → Answers r (Some files) files script b → AreAnswers r a b
 same_answers l Usage files script a b h g = h ∙ sym g
@@ -105,7 +105,7 @@ same_answers l (Schedules name) files script a b h g = over_file l.one_object l.
 same_answers l (Links name) files script a b h g = link_same l.one_object l.unbroken (says_same l.one_map) name files a
     b h g
 
--- an answer for files and a script that are known
+-- the answer for known files and a known script
 answers_told : HasLaws → (words : List Word) (r : Request) (files : Files) (script : List ℕ) (a : Answer) →
     Asks words r → IsAnswer words (Some files) (Some script) a → Answers r (Some files) files script a
 answers_told l words r files script a asks h =

@@ -25,7 +25,7 @@ use Rattle.ft_tool.specs.Demonstrations.{ShowsSample}
 use Rattle.ft_tool.specs.Answers.{OverListFile, CampaignsUnless}
 use Rattle.ft_tool.proofs.OneObject.{not_both}
 
--- verdicts, and what stands over faults
+-- verdicts, and the answer for faults
 zipped_same : {A B : Type 0} (P : A → B → Type 0) → ((x : A) (u v : B) → P x u → P x v → u ≡ v) →
     (xs : List A) (us vs : List B) → AllZip P xs us → AllZip P xs vs → us ≡ vs
 zipped_same P one [] [] [] h g = refl
@@ -48,7 +48,7 @@ over_faults one Promised c o faults a b (tried few us is keeps e) (tried fewer v
     (zipped_same (λ x v. IsVerdict o x c.wild c.steps v) (λ x u v. one o x c.wild c.steps u v) faults us vs is are)
     ∙ sym f
 
--- the answer to a list that is refused
+-- the answer to a refused list
 named : (e : ListError) (a : Answer) → IsListAnswer e a → e ≢ NoMemory
 named (Line number) a h e = cc
 named TooMany a h e = cc
@@ -92,14 +92,14 @@ over_list_file one one_list one_refusal either Promised c files o a b x y =
     over_list one one_list one_refusal either Promised c o x.0 a b x.1.1
     (subst (λ list. OverList Promised c o list b) (same_Some y.0 x.0 (sym y.1.0 ∙ x.1.0)) y.1.1)
 
--- the answer of a campaign, unless its object is refused
+-- the answer of `campaign`, given the refusal of the object, if any
 pub strikes_same : (x : Option Refusal) (Accepted : Answer → Type 0) →
     ((a b : Answer) → Accepted a → Accepted b → a ≡ b) →
     (a b : Answer) → CampaignsUnless x Accepted a → CampaignsUnless x Accepted b → a ≡ b
 strikes_same None Accepted same a b h g = same a b h g
 strikes_same (Some r) Accepted same a b h g = h ∙ sym g
 
--- the answer of a session
+-- the answer of `debug`
 pub session_same : ((script : List ℕ) (commands others : List Command) → AreCommands script commands →
     AreCommands script others → commands ≡ others)
     → (d : Debugging) (script : List ℕ) (o : Object) (a b : Answer) → DebugsObject d script o a →
@@ -110,7 +110,7 @@ session_same one d script o a b (debugged within cs are f) (too_long above e) = 
 session_same one d script o a b (debugged within cs are e) (debugged short ds is f) =
     e ∙ ap (λ xs. record { pieces = session_lines o d.wild xs; status = 0 }) (one script cs ds are is) ∙ sym f
 
--- the answer of a demonstration
+-- the answer of `demo`
 pub shown_same : ((o : Object) (x : Strike) (w : List Wild) (n : ℕ) (u v : Verdict) → IsVerdict o x w n u →
     IsVerdict o x w n v → u ≡ v)
     → (turns : ℕ) (a b : Answer) → ShowsSample turns a → ShowsSample turns b → a ≡ b

@@ -39,7 +39,7 @@ tail_same x y xs ys e = cc
 answers_same : (a b : Answer) → a.pieces ≡ b.pieces → a.status ≡ b.status → a ≡ b
 answers_same a b e f = λ i. record { pieces = e i; status = f i }
 
--- two answers for the text of a source agree if two for its program do, and if two that are the same refusal do
+-- two answers for the text of a source agree if answers for its program do, and if equal refusals do
 over_text : ((text : List ℕ) (r s : Result Program SourceError) → IsOutcome text r → IsOutcome text s → r ≡ s)
     → (Over : Program → Answer → Type 0) (Agree : Answer → Answer → Type 0) →
     ((p : Program) (a b : Answer) → Over p a → Over p b → Agree a b) →
@@ -67,12 +67,12 @@ over_source one Over Agree same refusals name files a b x y =
     over_text one Over Agree same refusals x.0 a b x.1.1
     (subst (λ text. OverText Over text b) (same_Some y.0 x.0 (sym y.1.0 ∙ x.1.0)) y.1.1)
 
--- two objects for one program
+-- two objects for the same program
 pub two_objects : (p : Program) (a b : Answer) → CompilesProgram p a → CompilesProgram p b → AreCompilations a b
 two_objects p a b x y = one.compiled_both (ap (λ (r : Answer). r.status) x.answer)
     (ap (λ (r : Answer). r.status) y.answer)
 
--- the same before both
+-- with equal lines before both, one of two lists is still a prefix of the other
 begins_both : (x y : List ℕ) (xs ys : List (List ℕ)) → x ≡ y → LinesBegin xs ys ⊎ LinesBegin ys xs →
     LinesBegin (x ∷ xs) (y ∷ ys) ⊎ LinesBegin (y ∷ ys) (x ∷ xs)
 begins_both x y xs ys e (inl h) = inl (h.0, ap (λ z. z ∷ (xs ++ h.0)) e ∙ ap (λ zs. y ∷ zs) h.1)
@@ -89,7 +89,7 @@ begins_either (x ∷ xs) (y ∷ ys) zs h g =
       tail_same x y (xs ++ h.0) (ys ++ g.0) same,
     ) (g.0, refl))
 
--- the runs of two objects that stand for one program
+-- the runs of two objects that stand for the same program
 abbrev execution : Object → ℕ → Answer
 execution o n = ran o (run o None [] n)
 

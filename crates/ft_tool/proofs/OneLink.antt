@@ -1,4 +1,4 @@
--- Two links of the same map and modules have one answer.
+-- Two links of the same map and modules have equal answers.
 use Rattle.std.proofs.Common.{◌≡◌, ℕ, List, [], ◌∷◌, ◌++◌, Option, Some, None, inl, inr, sym, ap, ◌∙◌, subst}
 use Rattle.std.specs.Prelude.{◌⊎◌}
 use Rattle.std.proofs.lemmas.Option.{same_Some, none-some}
@@ -22,7 +22,7 @@ use Rattle.ft_tool.specs.Replies.{Answer, one_piece, IsSpelling}
 use Rattle.ft_tool.specs.Objects.{refused as object_refused, judged}
 use Rattle.ft_tool.proofs.OneObject.{not_both, upgraded_same}
 
--- a text says one thing as a map
+-- a text is read as a map in only one way
 pub says_same : ((text : List ℕ) (said others : List MapLine) → AreSaid text said → AreSaid text others → said
     ≡ others) →
     (text : List ℕ) (x y : MapSaid) → SaysOf text x → SaysOf text y → x ≡ y
@@ -46,7 +46,7 @@ line_map_differ n x e = cc
 twice_map_differ : (n : ℕ) (x : LinkMap) → maps.Twice n ≡ maps.Is x → ⊥
 twice_map_differ n x e = cc
 
--- the answer with which a text ends the link
+-- a text ends the link with only one answer
 map_ends : ((text : List ℕ) (x y : MapSaid) → SaysOf text x → SaysOf text y → x ≡ y) → (text : List ℕ) (a b : Answer) →
     EndsAtMap text a → EndsAtMap text b → a ≡ b
 map_ends one text a b (long_map l e) (long_map k f) = e ∙ sym f
@@ -63,7 +63,7 @@ map_ends one text a b (line_twice n h e) (bad_line m g f) =
 map_ends one text a b (line_twice n h e) (line_twice m g f) = e
     ∙ ap (λ k. one_piece (link_line 2 k) 13) (twice_same n m (one text (maps.Twice n) (maps.Twice m) h g)) ∙ sym f
 
--- a map ends no link
+-- a text that is a map does not end the link
 map_goes_on : ((text : List ℕ) (x y : MapSaid) → SaysOf text x → SaysOf text y → x ≡ y) →
     (text : List ℕ) (linkage : LinkMap) (a : Answer) → IsMap text linkage → EndsAtMap text a → ⊥
 map_goes_on one text linkage a h (long_map l e) = not_both _ _ l h.short
@@ -72,7 +72,7 @@ map_goes_on one text linkage a h (bad_line n g e) =
 map_goes_on one text linkage a h (line_twice n g e) =
     twice_map_differ n linkage (one text (maps.Twice n) (maps.Is linkage) g h)
 
--- the answer with which an object ends the link
+-- an object ends the link with only one answer
 object_ends : (modules : List Object) (o : Object) (a b : Answer) → EndsAtObject modules o a →
     EndsAtObject modules o b → a ≡ b
 object_ends modules o a b (not_accepted r h e) (not_accepted s g f) = e
@@ -82,7 +82,7 @@ object_ends modules o a b (not_added accepted s g f) (not_accepted r h e) = absu
 object_ends modules o a b (not_added accepted r h e) (not_added accepted' s g f) = e
     ∙ ap unlinked (same_Some r s (sym h ∙ g)) ∙ sym f
 
--- an object that is added ends no link
+-- an object that is added does not end the link
 object_goes_on : (modules : List Object) (o : Object) (a : Answer) → refusal o ≡ None → added_refusal modules o ≡ None →
     EndsAtObject modules o a → ⊥
 object_goes_on modules o a accepted unrefused (not_accepted r h e) = none-some r (sym accepted ∙ h)
@@ -90,11 +90,11 @@ object_goes_on modules o a accepted unrefused (not_added again r h e) = none-som
 
 module _ (one_object : (bytes : List ℕ) (o : Object) → IsSpelling bytes o → object_of bytes
     ≡ o) (unbroken : (bytes : List ℕ) (o : Object) → IsSpelling bytes o → broken bytes ≡ None) where
-  -- bytes spell one object
+  -- bytes spell only one object
   spelled_same : (bytes : List ℕ) (o u : Object) → IsSpelling bytes o → IsSpelling bytes u → u ≡ o
   spelled_same bytes o u h g = sym (one_object bytes u g) ∙ one_object bytes o h
 
-  -- the answer with which bytes end the link
+  -- bytes end the link with only one answer
   bytes_end : (modules : List Object) (bytes : List ℕ) (a b : Answer) → EndsAtBytes modules bytes a →
       EndsAtBytes modules bytes b → a ≡ b
   bytes_end modules bytes a b (no_object x h e) (no_object y g f) = e ∙ ap object_refused (same_Some x y (sym h ∙ g))
@@ -104,7 +104,7 @@ module _ (one_object : (bytes : List ℕ) (o : Object) → IsSpelling bytes o �
   bytes_end modules bytes a b (no_module o h e) (no_module u g f) =
       object_ends modules o a b e (subst (λ x. EndsAtObject modules x b) (spelled_same bytes o u h g) f)
 
-  -- bytes of an object that is added end no link
+  -- bytes of an object that is added do not end the link
   bytes_go_on : (modules : List Object) (bytes : List ℕ) (o : Object) (a : Answer) → IsAdded modules bytes o →
       EndsAtBytes modules bytes a → ⊥
   bytes_go_on modules bytes o a h (no_object x g e) = none-some x (sym (unbroken bytes o h.spelled) ∙ g)
@@ -112,7 +112,7 @@ module _ (one_object : (bytes : List ℕ) (o : Object) → IsSpelling bytes o �
       object_goes_on modules o a h.accepted h.unrefused
       (subst (λ x. EndsAtObject modules x a) (spelled_same bytes o u h.spelled g) e)
 
-  -- the answer for modules that were added
+  -- the answer for modules that were all added
   unless_same : (x : Option LinkRefusal) (linkage : LinkMap) (first : Object) (others : List Object) (a b : Answer) →
       LinksUnless x linkage first others a → LinksUnless x linkage first others b → a ≡ b
   unless_same None linkage first others a b h g = upgraded_same (linked linkage first others) a b h.written g.written
@@ -124,7 +124,7 @@ module _ (one_object : (bytes : List ℕ) (o : Object) → IsSpelling bytes o �
   added_same linkage (first ∷ others) a b h g = unless_same (link_refusal linkage first others) linkage first others a b
       h g
 
-  -- the answer for the files of further modules, by the bytes of the first
+  -- the answer for the files of further modules, given the bytes of the first
   next_same : (files : Files) (linkage : LinkMap) (modules : List Object) (names : List Word) (bytes : List ℕ)
       (a b : Answer)
       → ((o : Object) (x y : Answer) → LinksFiles (Some files) linkage (modules ++ o ∷ []) names x →

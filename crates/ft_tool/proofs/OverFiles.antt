@@ -1,4 +1,4 @@
--- What is done over one file.
+-- What a command on one file does.
 use Rattle.std.proofs.Common.{◌≡◌, ℕ, ◌<◌, Bool, List, [], ◌∷◌, length, Option, Some, Ok, inl, refl, ap, ◌∙◌, subst}
 use Rattle.std.specs.Prelude.{◌⊎◌, IsTrue}
 use Rattle.ft_edge.specs.declared.shelf.Load.TheVariants.{Whole, TooLong}
@@ -19,7 +19,7 @@ use Rattle.ft_tool.proofs.Mapped.{some_files, files_with, some_script}
 module _ (r : Request) (file : Word) (limit : ℕ) (Over : List ℕ → Answer → Type 0) (one : IsOverFile r file limit Over)
     (name : Word) (bound : ℕ) (named : name ≡ file) (bounded : bound ≡ limit) (left : Option (List ℕ))
     (old new : SinkLog) (shelf shelf' : ShelfLog) where
-  -- the answer for the bytes of the file is one to the request
+  -- an answer for the file's bytes answers the request
   answers_bytes : (bytes : List ℕ) → IsToldFile shelf.files name bytes → (a : Answer) → Over bytes a
       → AnswersTo r shelf.files left a
   answers_bytes bytes h a is =
@@ -41,7 +41,7 @@ module _ (r : Request) (file : Word) (limit : ℕ) (Over : List ℕ → Answer �
         ),
       )
 
-  -- a file was loaded whole
+  -- the whole file was loaded
   pub does_over : (e : Ending) (bytes lent : List ℕ) → Gives shelf.files name bound bytes (Ok Whole) → lent ≡ bytes
       → NoLoadFails shelf shelf' → HasMade ((name, bound) ∷ []) shelf.asked shelf'.asked
       → Ends e (Over lent) old new ⊥ → Does r e left old new shelf shelf' ⊥
@@ -52,7 +52,7 @@ module _ (r : Request) (file : Word) (limit : ℕ) (Over : List ℕ → Answer �
     made = loads_alone (ends_early e) made;
   }
 
-  -- a file is too long
+  -- the file is too long
   pub does_long : (e : Ending) (into : List ℕ) → Gives shelf.files name bound into (Ok TooLong)
       → NoLoadFails shelf shelf' → HasMade ((name, bound) ∷ []) shelf.asked shelf'.asked
       → Ends e (λ a. (bytes : List ℕ) → limit < length bytes → Over bytes a) old new ⊥

@@ -1,4 +1,4 @@
--- What is answered for an object that is scheduled.
+-- The answers of `schedule`.
 use Rattle.std.proofs.Common.{◌≡◌, Option, Some, None, sym, subst}
 use Rattle.ft_types.specs.declared.object.Object.{Object}
 use Rattle.ft_typing.specs.Accepted.{Refusal, refusal}
@@ -17,7 +17,7 @@ pub schedule_accepted : (x : Option Refusal) (o : Object) → x ≡ None → (a 
 schedule_accepted None o e a h = h
 schedule_accepted (Some r) o e a h = cc
 
--- if it is refused
+-- if the object is not accepted
 refused_so : (x : Option Refusal) (o : Object) (r : Refusal) → x ≡ Some r → (a : Answer) → a ≡ judged (Some r) →
     SchedulesUnless x o a
 refused_so x o r e a h = subst (λ y. SchedulesUnless y o a) (sym e) h

@@ -31,7 +31,7 @@ use Rattle.ft_tool.specs.Links.{LinksText}
 use Rattle.ft_tool.specs.Answers.{RunsUnless, RecoversUnless, AssemblesAs, SchedulesUnless, CampaignsUnless}
 use Rattle.ft_tool.specs.Answers.{CampaignsAccepted, SurveysObject, TrialsObject, DisassemblesObject, Answers}
 
--- an answer has the status of its kind
+-- an answer of one piece has the status that it was made with
 same_status : (n : ℕ) (piece : List ℕ) (a : Answer) → a ≡ one_piece piece n → 2 ≡ a.status → 2 ≡ n
 same_status n piece a is e = e ∙ ap (λ (r : Answer). r.status) is
 
@@ -40,7 +40,7 @@ thirteen piece a is e = let s : 2 ≡ 13 = same_status 13 piece a is e in omega 
 
 -- OBJECTS
 
--- the answer for bytes, by that for an object
+-- the answer for bytes, given the answer for an object
 over_bytes : (Over : Object → Answer → Type 0) → ((o : Object) (a : Answer) → Over o a → 2 ≡ a.status → ⊥) →
     (bytes : List ℕ) (a : Answer) → OverBytes Over bytes a → 2 ≡ a.status → ⊥
 over_bytes Over none bytes a (inl x) e = none x.0 a x.1.1 e

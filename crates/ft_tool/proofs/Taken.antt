@@ -1,4 +1,4 @@
--- What was taken of a script, and what a session of it concludes.
+-- What was read of a script, and how its session ends.
 use Rattle.std.proofs.Common.{◌≡◌, ℕ, ◌<◌, ◌≤◌, List, [], ◌++◌, length, take, append-nil, Option, Some, None, Ok, Err}
 use Rattle.std.proofs.Common.{inl, inr, refl, sym, ap, ◌∙◌, subst, arith, length-append}
 use Rattle.std.specs.Prelude.{◌⊎◌, IfSome}
@@ -26,7 +26,7 @@ use Rattle.ft_tool.specs.Files.{LoadsObject, IsRefusedBy}
 use Rattle.ft_tool.proofs.Mapped.{longer_bytes, some_files, files_with, some_script}
 use Rattle.ft_tool.proofs.Tried.{spells_file}
 
--- the script was taken to its end
+-- the script was read to its end
 pub whole_script : (old between new : Option (List ℕ)) (text : List ℕ) (n : ℕ) (buf : List ℕ) →
     Consumes old between text → n ≡ 0 → Consumes between new (take n buf) → IsAtEnd new →
     IfSome old (λ told. text ≡ told)
@@ -37,13 +37,13 @@ whole_script (Some old) (Some between) (Some new) text n buf taken none more end
     let rest : between ≡ [] = more ∙ ap (λ k. take k buf ++ new) none ∙ end in
     sym (taken ∙ ap (λ l. text ++ l) rest ∙ append-nil text)
 
--- a revealed text of bytes is the script
+-- bytes that agree with the revealed script are the script
 is_script : (left : Option (List ℕ)) (text : List ℕ) → AreBytes text → IfSome left (λ told. text ≡ told) →
     IsScript left text
 is_script None text bytes h = bytes
 is_script (Some told) text bytes h = h
 
--- if more than the limit was taken of a script, it is longer than the limit
+-- if more bytes than the limit were read, the script is longer than the limit
 pub longer_script : (old new : Option (List ℕ)) (taken : List ℕ) → Consumes old new taken → 1048576 < length taken →
     (text : List ℕ) × (IsScript old text × (1048576 < length text))
 longer_script None new taken h long = longer_bytes 1048576
@@ -51,7 +51,7 @@ longer_script (Some text) None taken h long = absurd h
 longer_script (Some text) (Some rest) taken h long = let e : length text ≡ length (taken ++ rest) = ap length h in
     (text, (refl, omega (arith, e, length-append {A = ℕ}, long)))
 
--- a session whose lines were put
+-- a session whose lines were written
 pub session_concludes : (d : Debugging) (o : Object) (w : List Wild) (text : List ℕ) (old new : SinkLog)
     → length text ≤ 1048576 → w ≡ d.wild
     → PutsSession AllPut o w text old new → Concludes (DebugsObject d text o) 0 old new
@@ -72,13 +72,13 @@ session_breaks_off d o w text old new short is h = record {
   broken = subst (λ ws. LinesBreakOff (session_lines o ws h.commands) old new) is h.lines;
 }
 
--- the answer for the text of a script is one for the script
+-- the answer for the bytes that were read is an answer for the script
 pub over_script : {V : Type 0} (bytes_of : V → List ℕ) (d : Debugging) (left : Option (List ℕ)) (o : Object) (v : V)
     → TakesScript bytes_of left (Ok v) → AreBytes (bytes_of v) → (a : Answer) → DebugsObject d (bytes_of v) o a →
     OfScript left (λ text. DebugsObject d text o a)
 over_script bytes_of d left o v h bytes a is = (bytes_of v, (is_script left (bytes_of v) bytes h.1, is))
 
--- the answer to a script that is too long is one for the script
+-- the answer to a script that is too long is an answer for the script
 pub over_long_script : {V : Type 0} (bytes_of : V → List ℕ) (d : Debugging) (left : Option (List ℕ)) (o : Object)
     (e : ScriptFault)
     → TakesScript bytes_of left (Err e) → (a : Answer) → IsScriptRefusedBy e a →
@@ -87,7 +87,7 @@ over_long_script bytes_of d left o faults.TooLong h a is = (h.0, (h.1.0, too_lon
 over_long_script bytes_of d left o faults.Failed h a is = absurd is
 over_long_script bytes_of d left o faults.NoMemory h a is = absurd is
 
--- the answer of a session for the object that a file's bytes spell is one for the file
+-- the answer of a session for the object that a file's bytes spell is an answer for the file
 pub over_debugged : (d : Debugging) (told : Option Files) (left : Option (List ℕ)) (bytes : List ℕ) →
     LoadsObject told d.object (Ok bytes) → (a : Answer) →
     OfScript left (λ text. DebugsObject d text (object_of bytes) a)
@@ -96,7 +96,7 @@ over_debugged d told left bytes h a is =
     let m = files_with told d.object bytes h.0 in
     (m.0, (m.1.0, (is.0, (is.1.0, (bytes, (m.1.1, inl (object_of bytes, ((version_at bytes, h.1), is.1.1))))))))
 
--- the answer to an object's bytes that are refused is one for the file
+-- the answer to refused bytes is an answer for the file
 pub over_undebugged : (d : Debugging) (told : Option Files) (left : Option (List ℕ)) (e : ObjectFault) →
     LoadsObject told d.object (Err e) → (a : Answer) → IsRefusedBy e a
     → OfFiles told (λ files. OfScript left (λ text. OverFile (DebugsObject d text) d.object files a))
@@ -107,7 +107,7 @@ over_undebugged d told left (Refused e) h a is =
 over_undebugged d told left Failed h a is = absurd is
 over_undebugged d told left NoMemory h a is = absurd is
 
--- a session came to its script, and a take of it failed
+-- a session got as far as its script, and a take of the script failed
 pub script_failed : (d : Debugging) (bytes : List ℕ) (shelf shelf' : ShelfLog) (script script' : SourceLog)
     → LoadsObject shelf.files d.object (Ok bytes) → Rose script.failures script'.failures
     → OfFiles shelf.files (λ files. FailsIn (Debugs d) files shelf shelf' ⊎ FailsAtScript d files script script')
@@ -115,7 +115,7 @@ script_failed d bytes shelf shelf' script script' h rose =
     let m = spells_file shelf.files d.object bytes h in
     (m.0, (m.1.0, inr (record { rose = rose; comes = m.1.1 })))
 
--- a session's load of its object failed
+-- the load of a session's object failed
 pub session_failed : (d : Debugging) (shelf shelf' : ShelfLog) (script script' : SourceLog)
     → LoadFails d.object shelf shelf'
     → OfFiles shelf.files (λ files. FailsIn (Debugs d) files shelf shelf' ⊎ FailsAtScript d files script script')
@@ -123,7 +123,7 @@ session_failed d shelf shelf' script script' h =
     let m = some_files shelf.files in
     (m.0, (m.1.0, inl (record { file = d.object; comes = refl; fails = h })))
 
--- a take that failed
+-- a take failed
 pub take_failed : (V : Type 0) (before now : ℕ) (e : ScriptFault) → TakeCause {V = V} before now (Err e) → e
     ≡ faults.Failed → Rose before now
 take_failed V before now e h is = subst (λ f. TakeCause {V = V} before now (Err f)) is h

@@ -1,4 +1,4 @@
--- What the parts of a campaign conclude.
+-- How the parts of a campaign end.
 use Rattle.std.proofs.Common.{◌≡◌, ◌≢◌, ℕ, suc, ◌*◌, ◌<◌, ◌≤◌, List, [], ◌∷◌, length, Option, Some, None, Ok, Err, inl}
 use Rattle.std.proofs.Common.{inr, refl, sym, ap, ◌∙◌, subst, arith, if◌then◌else◌, eq-eqb, ne_eqb}
 use Rattle.std.specs.Prelude.{◌⊎◌, count_by}
@@ -38,11 +38,11 @@ use Rattle.ft_tool.specs.Told.{OfFiles, IsListOf, OverListOf, CampaignsListOf, L
 use Rattle.ft_tool.specs.Files.{LoadsObject, GetsList, ListCause, IsRefusedBy, IsListRefusedBy}
 use Rattle.ft_tool.proofs.Mapped.{files_with, files_with_both}
 
--- a number that is not above another is at most it
+-- a number that is not above another is at most the other
 pub at_most : (n m : ℕ) → (n < m → ⊥) → m ≤ n
 at_most n m h = omega (arith, lt_of_not-le {n = suc n} {m = m} h)
 
--- a campaign that came to its end
+-- a campaign that finished
 pub tried_concludes : (Promised : List Verdict → Type 0) (c : Campaign) (o : Object) (faults : List Strike)
     (totals : Totals) (status : ℕ) (old new : SinkLog)
     → Finishes totals o faults c.wild c.steps old new → length faults * c.steps ≤ 1000000000
@@ -56,7 +56,7 @@ tried_concludes Promised c o faults totals status old new h few keeps is = recor
   status_is = is h.found h.totals_are;
 }
 
--- a campaign whose lines were written up to some place
+-- a campaign whose lines were written up to a failed put
 pub tried_breaks_off : (Promised : List Verdict → Type 0) (c : Campaign) (o : Object) (faults : List Strike)
     (old new : SinkLog)
     → Stops o faults c.wild c.steps old new → length faults * c.steps ≤ 1000000000
@@ -68,13 +68,13 @@ tried_breaks_off Promised c o faults old new h few keeps = record {
   broken = h.lines;
 }
 
--- the run of the object of a demonstration is never detected without a fault
+-- without a fault, the run of a demonstration's object is never detected
 pub sample_undetected : (turns : ℕ) → 1 ≤ turns → turns ≤ 10921 → IsNeverDetected (sample_object turns) []
 sample_undetected turns some few = never_detected (sample_object turns) []
     (sample_is_spellable (sample_object turns) turns refl some few)
     (sample_is_accepted (sample_object turns) turns refl)
 
--- the status of a survey by its totals
+-- the status of a survey, given its totals
 pub none_corrupt : (totals : Totals) (vs : List Verdict) → totals.corrupt ≡ 0 → totals ≡ totals_of vs → 0 ≡ status_of vs
 none_corrupt totals vs none is = sym (ap (λ b. if b then 0
     else 10) (eq-eqb (count_by is_corrupt vs) 0 (sym (ap (λ (t : Totals). t.corrupt) is) ∙ none)))
@@ -84,14 +84,14 @@ pub some_corrupt : (totals : Totals) (vs : List Verdict) → (totals.corrupt ≡
 some_corrupt totals vs some is = sym (ap (λ b. if b then 0
     else 10) (ne_eqb (count_by is_corrupt vs) 0 (λ e. some (ap (λ (t : Totals). t.corrupt) is ∙ e))))
 
--- the answer for the faults of a list is one for the list
+-- the answer for the faults of a list is an answer for the list
 pub over_listed : {V : Type 0} (faults_of : V → List Strike) (Promised : List Verdict →
     Type 0) (c : Campaign) (told : Option Files) (bytes : List ℕ) (o : Object) (v : V)
     → GetsList faults_of (IsListOf c told bytes) (Ok v) → (a : Answer) → OverFaults Promised c o (faults_of v) a →
     OverListOf Promised c told bytes o a
 over_listed faults_of Promised c told bytes o v h a is = (h.0, (h.1.0, listed (faults_of v) h.1.1 is))
 
--- the answer to a list that is refused is one for the list
+-- the answer to a refused list is an answer for the list
 pub over_refused_list : {V : Type 0} (faults_of : V → List Strike) (Promised : List Verdict →
     Type 0) (c : Campaign) (told : Option Files) (bytes : List ℕ) (o : Object) (e : ListFault)
     → GetsList faults_of (IsListOf c told bytes) (Err e) → (a : Answer) → IsListRefusedBy e a →
@@ -103,7 +103,7 @@ over_refused_list faults_of Promised c told bytes o list_faults.TooMany h a is =
 over_refused_list faults_of Promised c told bytes o list_faults.Failed h a is = absurd is
 over_refused_list faults_of Promised c told bytes o list_faults.NoMemory h a is = absurd is
 
--- the answer for the list is one for its file, if the object's file has these bytes
+-- the answer for the list is an answer for its file, if the object's file has these bytes
 with_list : (Promised : List Verdict → Type 0) (c : Campaign) (told : Option Files) (bytes : List ℕ) (o : Object)
     (a : Answer) → IsToldFile told c.object bytes → OverListOf Promised c told bytes o a
     → OfFiles told (λ files. IsFile files c.object bytes × OverListFile Promised c files o a)
@@ -111,7 +111,7 @@ with_list Promised c told bytes o a file is =
     let m = files_with_both told c.object bytes c.faults is.0 file is.1.0.file is.1.0.own in
     (m.0, (m.1.0, (m.1.1.0, (is.0, (m.1.1.1, is.1.1)))))
 
--- the answer of a campaign is one for its file, also if its object is refused
+-- the answer of a campaign is an answer for its file, even if its object is refused
 with_strikes : (x : Option Refusal) (c : Campaign) (told : Option Files) (bytes : List ℕ) (o : Object) (a : Answer) →
     IsToldFile told c.object bytes → CampaignsUnless x (CampaignsListOf c told bytes o) a
     → OfFiles told (λ files. IsFile files c.object bytes × CampaignsUnless x (CampaignsAccepted c files o) a)
@@ -120,7 +120,7 @@ with_strikes None c told bytes o a file is = let m = with_list NoneCorrupt c tol
 with_strikes (Some r) c told bytes o a file is = let m = files_with told c.object bytes file in
     (m.0, (m.1.0, (m.1.1, is)))
 
--- the answer of a survey for the object that a file's bytes spell, and of a campaign, is one for the file
+-- the answer of a survey, or of a campaign, for the object that a file's bytes spell is an answer for the file
 pub over_surveyed : (c : Campaign) (told : Option Files) (bytes : List ℕ) → LoadsObject told c.object (Ok bytes) →
     (a : Answer) → OverListOf AnyVerdicts c told bytes (object_of bytes) a
     → OfFiles told (λ files. OverFile (SurveysObject c files) c.object files a)
@@ -135,7 +135,7 @@ over_struck c told bytes h a is =
     let m = with_strikes (refusal (object_of bytes)) c told bytes (object_of bytes) a h.0 is in
     (m.0, (m.1.0, (bytes, (m.1.1.0, inl (object_of bytes, ((version_at bytes, h.1), m.1.1.1))))))
 
--- the same if the files are known, and the bytes lent, after the load
+-- likewise for the shelf after the load, and for the borrowed bytes
 pub own_bytes : (told between : Option Files) (name : Word) (bytes lent : List ℕ) → between ≡ told → lent ≡ bytes →
     LoadsObject told name (Ok bytes) → IsToldFile between name lent
 own_bytes told between name bytes lent e f h = subst (λ t. IsToldFile t name lent) (sym e)
@@ -158,7 +158,7 @@ over_struck_between c told between bytes lent e f h a is =
     (subst (λ t. CampaignsUnless (refusal (object_of bytes)) (CampaignsListOf c t bytes (object_of bytes)) a) e
     (subst (λ b. CampaignsUnless (refusal (object_of bytes)) (CampaignsListOf c between b (object_of bytes)) a) f is))
 
--- the answer to an object's bytes that are refused is one of a campaign for the file
+-- the answer to refused bytes is an answer for the file
 pub over_unstruck : (Over : Files → Object → Answer → Type 0) (told : Option Files) (name : Word) (e : ObjectFault) →
     LoadsObject told name (Err e) → (a : Answer) → IsRefusedBy e a
     → OfFiles told (λ files. OverFile (Over files) name files a)
@@ -167,7 +167,7 @@ over_unstruck Over told name (Refused e) h a is = let m = files_with told name h
 over_unstruck Over told name Failed h a is = absurd is
 over_unstruck Over told name no_memory h a is = absurd is
 
--- the file of an object that was loaded spells it, and one that is accepted
+-- the file of a loaded object spells it, and spells an accepted object if it is accepted
 pub spells_file : (told : Option Files) (name : Word) (bytes : List ℕ) → LoadsObject told name (Ok bytes) →
     OfFiles told (λ files. SpellsFile files name)
 spells_file told name bytes h = let m = files_with told name bytes h.0 in
@@ -178,7 +178,7 @@ pub spells_accepted : (told : Option Files) (name : Word) (bytes : List ℕ) →
 spells_accepted told name bytes h unrefused = let m = files_with told name bytes h.0 in
     (m.0, (m.1.0, (bytes, (m.1.1, (object_of bytes, ((version_at bytes, h.1), unrefused))))))
 
--- the file of an object that is refused spells none that is accepted
+-- the file of a refused object spells no accepted one
 unrefused : (files : Files) (name : Word) (bytes : List ℕ) → IsFile files name bytes →
     refusal (object_of bytes) ≢ None → SpellsAccepted files name → ⊥
 unrefused files name bytes file refused s =
@@ -196,7 +196,7 @@ refused_file : (told : Option Files) (name : Word) (bytes : List ℕ) (Early : T
 refused_file told name bytes Early h refused = let m = files_with told name bytes h.0 in
     (m.0, (m.1.0, refused_by m.0 name bytes Early m.1.1 refused))
 
--- if a fact fails unless the call ends early, so does any fact that implies it, and it implies anything
+-- unless the call ends early: a fact that implies a false one is false, and a false one implies anything
 unaccepted_file : (Spells Accepted Early : Type 0) → (Accepted → Spells) → (Spells → ⊥) ⊎ Early → (Accepted → ⊥) ⊎ Early
 unaccepted_file Spells Accepted Early f (inl none) = inl (λ a. none (f a))
 unaccepted_file Spells Accepted Early f (inr early) = inr early
@@ -205,7 +205,7 @@ alone : (Comes Own Early : Type 0) → (Comes → ⊥) ⊎ Early → (Comes → 
 alone Comes Own Early (inl none) = inl (λ comes. absurd (none comes))
 alone Comes Own Early (inr early) = inr early
 
--- a load of the fault list failed, after that of the object
+-- the load of the fault list failed, after the load of the object
 fails_later : (name : Word) (shelf between shelf' : ShelfLog) → between.failures ≡ shelf.failures
     → LoadFails name between shelf' → LoadFails name shelf shelf'
 fails_later name shelf between shelf' same h = (subst (λ n. Rose n shelf'.failures) same h.0, h.1)
@@ -246,7 +246,7 @@ campaign_failed c bytes shelf between shelf' h same f =
       ),
     )
 
--- the loads of a campaign that does not come to its list, or ends early
+-- the loads of a campaign that does not get to its list, or ends early
 pub object_alone : (c : Campaign) (told : Option Files) (Comes : Files →
     Type 0) (Early : Type 0) (asked asked' : Option LoadList) → OfFiles told (λ files. (Comes files → ⊥) ⊎ Early)
     → HasMade (object_load c.object ∷ []) asked asked' →
@@ -254,7 +254,7 @@ pub object_alone : (c : Campaign) (told : Option Files) (Comes : Files →
 object_alone c told Comes Early asked asked' m h =
     (m.0, (m.1.0, inl (record { none = alone (Comes m.0) (c.faults ≡ c.object) Early m.1.1; made = h })))
 
--- the loads of a campaign that comes to its list
+-- the loads of a campaign that gets to its list
 list_loaded : (c : Campaign) (told : Option Files) (Comes : Files →
     Type 0) (Early : Type 0) (asked between asked' : Option LoadList) → OfFiles told Comes →
     HasMade (object_load c.object ∷ []) asked between → LoadsOther c between asked'
@@ -295,7 +295,7 @@ campaigns_loaded c told bytes Early asked between asked' h first (inr more) =
     list_loaded c told (λ files. SpellsAccepted files c.object) Early asked between asked'
     (spells_accepted told c.object bytes h more.0) first more.1
 
--- the loads of a campaign or a survey whose object was not loaded, or is none
+-- the loads of a campaign or a survey whose object was not loaded or is not an object
 pub survey_unloaded : (c : Campaign) (told : Option Files) (Early : Type 0) (asked asked' : Option LoadList) →
     OfFiles told (λ files. (SpellsFile files c.object → ⊥) ⊎ Early) → HasMade (object_load c.object ∷ []) asked asked'
     → OfFiles told (λ files. LoadsFor (Surveys c) told files Early asked asked')
@@ -315,7 +315,7 @@ campaign_unloaded c told Early asked asked' m h =
       ),
     ) h
 
--- a load of a list that failed
+-- the load of a list failed
 pub list_failed : (V : Type 0) (name : Word) (e : ListFault) (old new : ShelfLog)
     → ListCause {V = V} name (Err e) old new → e ≡ list_faults.Failed → LoadFails name old new
 list_failed V name e old new h is = subst (λ f. ListCause {V = V} name (Err f) old new) is h

@@ -1,4 +1,4 @@
--- What each command writes, and the status that it ends with: a row for each command.
+-- What each command writes, and the status that it ends with, by one rule per command.
 use Rattle.std.specs.Prelude.{◌≡◌, ◌⊎◌, ℕ, List, [], ◌∷◌, ◌++◌, Option, Some, None, Bool, ◌==◌, codes}
 use Rattle.std.specs.List.{list_any}
 use Rattle.ft_edge.specs.Causes.{Rose}
@@ -29,11 +29,11 @@ use Rattle.ft_tool.specs.Objects.{refused, judged, OverBytes, UpgradesObject}
 use Rattle.ft_tool.specs.Links.{LinksFile, ComesToModule}
 use Rattle.ft_tool.specs.Demonstrations.{ShowsSample}
 
--- words that are not a command
+-- the answer to words that are not a command
 abbrev pub usage : Answer
 usage = one_piece (codes "usage\n") 2
 
--- the run of an object for n steps under a plan
+-- the run of an object under the requested plan, for the requested number of steps
 abbrev pub tried : Run → Object → Answer
 tried r o = ran o (run o r.strike r.wild r.steps)
 
@@ -46,33 +46,33 @@ pub record Withstands (o : Object) (strike : Option Strike) (w : List Wild) : Ty
   pub agrees : (n : ℕ) → Agrees (outputs_after o strike w n) (status_after o strike w n) (outputs_after o None w n) (status_after o None w n)
   pub undetected : IsNeverDetected o w
 
--- the run of an object that is accepted, which withstands its plan, or why the object is refused
+-- for an accepted object, its run, which withstands the plan; otherwise the refusal of the object
 abbrev pub RunsUnless : Option Refusal → Run → Object → Answer → Type 0
 RunsUnless None r o a = (a ≡ tried r o) × Withstands o r.strike r.wild
 RunsUnless (Some x) r o a = a ≡ judged (Some x)
 
--- the line of a restart, if there was one
+-- the line that reports a restart, if there was one
 abbrev pub again_lines : Option ℕ → List (List ℕ)
 again_lines None = []
 again_lines (Some n) = again_line n ∷ []
 
--- the recovery of an object: the lines and the end of its run without a fault, and the restart
+-- the recovery of an object: the lines and the status of its run without a fault, and the line of the restart
 abbrev pub recovered : Run → Object → Answer
 recovered r o = record {
   pieces = whole_output o r.wild r.steps ++ again_lines (restart_output o r.strike r.wild r.steps);
   status = status_of_run (status_after o None r.wild r.steps);
 }
 
--- the recovery of an object that is accepted, whose run without a fault is never detected; or why the object is refused
+-- for an accepted object, its recovery, and its run without a fault is never detected; otherwise its refusal
 abbrev pub RecoversUnless : Option Refusal → Run → Object → Answer → Type 0
 RecoversUnless None r o a = (a ≡ recovered r o) × IsNeverDetected o r.wild
 RecoversUnless (Some x) r o a = a ≡ judged (Some x)
 
--- the answer for the file of a name
+-- the answer for the object file with this name
 abbrev pub OverFile : (Object → Answer → Type 0) → Word → Files → Answer → Type 0
 OverFile Over name files a = (bytes : List ℕ) × (IsFile files name bytes × OverBytes Over bytes a)
 
--- the answer of a check, of a run, of a trial and of a recovery for an object
+-- the answers of `check`, `run`, `trial` and `recover` for an object
 abbrev pub ChecksObject : Object → Answer → Type 0
 ChecksObject o a = a ≡ checked o
 
@@ -85,12 +85,12 @@ TrialsObject r o a = a ≡ tried r o
 abbrev pub RecoversObject : Run → Object → Answer → Type 0
 RecoversObject r o a = RecoversUnless (refusal o) r o a
 
--- the answer of a disassembly for an object: its text, in one piece
+-- the answer of `dis` for an object: its text, in one piece
 abbrev pub DisassemblesObject : Object → Answer → Type 0
 DisassemblesObject o a = a ≡ one_piece (text_of o) 0
 
--- the answer of an assembly by the outcome of the text: the bytes of its object in version 2 of the format, or the line
--- of the refusal
+-- the answer of `asm`, given the outcome of reading the text: the bytes of the object in version 2 of the format, or
+-- the line of the refusal
 abbrev pub AssemblesAs : Said → Answer → Type 0
 AssemblesAs (Is o) a = UpgradesObject o a
 AssemblesAs TooLong a = a ≡ one_piece (asm_line 3 134217728) 12
@@ -98,23 +98,23 @@ AssemblesAs (Text line) a = a ≡ one_piece (asm_line 1 line) 12
 AssemblesAs (Order line) a = a ≡ one_piece (asm_line 2 line) 12
 AssemblesAs (Broken e) a = a ≡ refused e
 
--- the answer for an assembly text
+-- the answer of `asm` for a text
 abbrev pub OverAssembly : List ℕ → Answer → Type 0
 OverAssembly text a = (said : Said) × (Applies text said × AssemblesAs said a)
 
--- the answer for the assembly text in the file of a name
+-- the answer of `asm` for the text in the file with this name
 abbrev pub OverAssemblyFile : Word → Files → Answer → Type 0
 OverAssemblyFile name files a = (text : List ℕ) × (IsFile files name text × OverAssembly text a)
 
--- the answer of a schedule for an object that is accepted: the bytes of its schedule in version 2 of the format, in one
--- piece. The object obeys the rules of its tables, so it has one schedule
+-- the answer of `schedule` for an accepted object: the bytes of its schedule in version 2 of the format, in one piece.
+-- The object obeys the rules of its tables, so it has one schedule
 pub record SchedulesAccepted (o : Object) (a : Answer) : Type 0 where
   pub spellable : IsSpellable o
   pub schedule : Object
   pub scheduled : IsScheduled o schedule
   pub written : UpgradesObject schedule a
 
--- the answer of a schedule: the refusal of an object that is not accepted
+-- the answer of `schedule`, given the refusal of the object, if any
 abbrev pub SchedulesUnless : Option Refusal → Object → Answer → Type 0
 SchedulesUnless None o a = SchedulesAccepted o a
 SchedulesUnless (Some x) o a = a ≡ judged (Some x)
@@ -122,34 +122,33 @@ SchedulesUnless (Some x) o a = a ≡ judged (Some x)
 abbrev pub SchedulesObject : Object → Answer → Type 0
 SchedulesObject o a = SchedulesUnless (refusal o) o a
 
--- the answer for an object and the file of a fault list
+-- the answer for an object and the fault list in a file
 abbrev pub OverListFile : (List Verdict → Type 0) → Campaign → Files → Object → Answer → Type 0
 OverListFile Promised c files o a = (list : List ℕ) × (IsFile files c.faults list × OverList Promised c o list a)
 
--- the answer of a survey for an object
+-- the answer of `survey` for an object
 abbrev pub SurveysObject : Campaign → Files → Object → Answer → Type 0
 SurveysObject c files o a = OverListFile AnyVerdicts c files o a
 
--- the answer of a campaign for an object that is accepted: no verdict is corrupt, and the run without a fault is never
--- detected
+-- the answer of `campaign` for an accepted object: no verdict is corrupt, and the run without a fault is never detected
 abbrev pub CampaignsAccepted : Campaign → Files → Object → Answer → Type 0
 CampaignsAccepted c files o a = OverListFile NoneCorrupt c files o a × IsNeverDetected o c.wild
 
--- the answer of a campaign: the refusal of an object that is not accepted
+-- the answer of `campaign`, given the refusal of the object, if any
 abbrev pub CampaignsUnless : Option Refusal → (Answer → Type 0) → Answer → Type 0
 CampaignsUnless None Accepted a = Accepted a
 CampaignsUnless (Some r) Accepted a = a ≡ judged (Some r)
 
--- the answer of a campaign for an object
+-- the answer of `campaign` for an object
 abbrev pub CampaignsObject : Campaign → Files → Object → Answer → Type 0
 CampaignsObject c files o a = CampaignsUnless (refusal o) (CampaignsAccepted c files o) a
 
--- the answer for the source in the file of a name
+-- the answer for the source in the file with this name
 abbrev pub OverSource : (Program → Answer → Type 0) → Word → Files → Answer → Type 0
 OverSource Over name files a = (text : List ℕ) × (IsFile files name text × OverText Over text a)
 
--- the answer of a command for files and a script. If a shelf does not reveal its files, a link may load a name more
--- than once with other bytes each time, so its answer is for what is revealed
+-- the answer of a command for files and a script. If a shelf does not reveal its files, a link may get different bytes
+-- each time it loads the same name, so its answer is for what is revealed
 abbrev pub Answers : Request → Option Files → Files → List ℕ → Answer → Type 0
 Answers Usage told files script a = a ≡ usage
 Answers (Checks name) told files script a = OverFile ChecksObject name files a
@@ -170,7 +169,7 @@ Answers (Schedules name) told files script a = OverFile SchedulesObject name fil
 Answers (Links name) told files script a = LinksFile told name a
 
 -- the answer of the command that the words ask for, with the revealed files and script, or else with some files and
--- some script. One map of files serves all loads, so a name has one content
+-- some script. One map of files serves all loads, so each name has one content
 pub record IsAnswer (words : List Word) (told : Option Files) (left : Option (List ℕ)) (a : Answer) : Type 0 where
   pub request : Request
   pub asks : Asks words request
@@ -180,28 +179,28 @@ pub record IsAnswer (words : List Word) (told : Option Files) (left : Option (Li
   pub is_script : IsScript left script
   pub answers : Answers request told files script a
 
--- all pieces of an answer were put, with one put each, and this is its status
+-- all pieces of an answer were written, with one put each, and this is its status
 pub record Concludes (Is : Answer → Type 0) (status : ℕ) (old new : SinkLog) : Type 0 where
   pub answer : Answer
   pub is : Is answer
   pub put : new ≡ with_lines answer.pieces old
   pub status_is : status ≡ answer.status
 
--- the put of a piece of an answer failed, and it was the last put
+-- an answer was written up to a piece whose put failed, and that put was the last
 pub record BreaksOff (Is : Answer → Type 0) (old new : SinkLog) : Type 0 where
   pub answer : Answer
   pub is : Is answer
   pub broken : LinesBreakOff answer.pieces old new
 
--- the file of a name spells an object
+-- the file with this name spells an object
 abbrev pub SpellsFile : Files → Word → Type 0
 SpellsFile files name = (bytes : List ℕ) × (IsFile files name bytes × ((o : Object) × IsSpelling bytes o))
 
--- the file of a name spells an object that is accepted
+-- the file with this name spells an accepted object
 abbrev pub SpellsAccepted : Files → Word → Type 0
 SpellsAccepted files name = (bytes : List ℕ) × (IsFile files name bytes × ((o : Object) × (IsSpelling bytes o × (refusal o ≡ None))))
 
--- a request gets as far as loading this file: no earlier step of it refuses
+-- a request gets as far as loading this file: no earlier step refuses it
 abbrev pub ComesTo : Request → Option Files → Files → Word → Type 0
 ComesTo Usage told files file = ⊥
 ComesTo (Checks object) told files file = file ≡ object
@@ -227,8 +226,8 @@ pub record FailsIn (request : Request) (files : Files) (old new : ShelfLog) : Ty
   pub comes : ComesTo request old.files files file
   pub fails : LoadFails file old new
 
--- the words ask for a command that got as far as loading a file, with the revealed files or else with some files of
--- bytes, and that load failed
+-- the words ask for a command that got as far as loading a file, with the revealed files or else with some files, and
+-- that load failed
 pub record FailedToLoad (words : List Word) (old new : ShelfLog) : Type 0 where
   pub request : Request
   pub asks : Asks words request
@@ -236,13 +235,13 @@ pub record FailedToLoad (words : List Word) (old new : ShelfLog) : Type 0 where
   pub are_files : AreFiles old.files files
   pub fails : FailsIn request files old new
 
--- a request got as far as its script: no earlier step of it refuses; a take of the script failed, and the count of
--- failed takes rose
+-- a session got as far as its script: no earlier step refuses it; a take of the script failed, and the count of failed
+-- takes rose
 pub record FailsAtScript (d : Debugging) (files : Files) (old new : SourceLog) : Type 0 where
   pub rose : Rose old.failures new.failures
   pub comes : SpellsFile files d.object
 
--- the words ask for a session that got to its script, with the revealed files or else with some files of bytes, and a
+-- the words ask for a session that got as far as its script, with the revealed files or else with some files, and a
 -- take of the script failed
 pub record FailedToTake (words : List Word) (told : Option Files) (old new : SourceLog) : Type 0 where
   pub debugging : Debugging
@@ -251,6 +250,6 @@ pub record FailedToTake (words : List Word) (told : Option Files) (old new : Sou
   pub are_files : AreFiles told files
   pub fails : FailsAtScript debugging files old new
 
--- the statuses
+-- whether a number is one of the statuses
 abbrev pub is_status : ℕ → Bool
 is_status n = list_any (λ s. s == n) (0 ∷ 1 ∷ 2 ∷ 3 ∷ 4 ∷ 5 ∷ 6 ∷ 7 ∷ 8 ∷ 9 ∷ 10 ∷ 11 ∷ 12 ∷ 13 ∷ [])

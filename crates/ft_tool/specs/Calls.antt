@@ -1,4 +1,4 @@
--- Which loads a command makes, and what it takes from its script.
+-- Which loads a command makes, and what it reads of its script.
 use Rattle.std.specs.Prelude.{◌≡◌, ◌≢◌, ◌⊎◌, ℕ, ◌==◌, Bool, ◌||◌, List, [], ◌∷◌, ◌++◌, Option}
 use Rattle.ft_edge.specs.Loads.{Files}
 use Rattle.ft_edge.specs.Told.{append_told}
@@ -12,20 +12,20 @@ use Rattle.ft_tool.specs.Replies.{Answer, AreFiles, IsToldFile}
 use Rattle.ft_tool.specs.Links.{IsMap, EndsAtMap, EndsAtBytes, IsAdded}
 use Rattle.ft_tool.specs.Answers.{SpellsFile, SpellsAccepted}
 
--- loads, each by its name and its limit
+-- loads, each with its name and its limit
 abbrev pub LoadList : Type 0
 LoadList = List (Word × ℕ)
 
--- a shelf's record after these loads
+-- the shelf's record after these loads
 abbrev pub asked_after : LoadList → Option LoadList → Option LoadList
 asked_after [] asked = asked
 asked_after (load ∷ loads) asked = asked_after loads (append_told asked (load ∷ []))
 
--- these loads were made, in their order, and no other
+-- exactly these loads were made, in this order
 abbrev pub HasMade : LoadList → Option LoadList → Option LoadList → Type 0
 HasMade loads asked asked' = asked' ≡ asked_after loads asked
 
--- the load of an object, of a fault list and of a source, each with its limit
+-- the loads of an object, a fault list and a source, each with its limit
 abbrev pub object_load : Word → Word × ℕ
 object_load name = (name, 67108864)
 
@@ -47,18 +47,18 @@ map_load name = (name, 65536)
 abbrev pub is_early : ℕ → Bool
 is_early status = status == 3 || status == 5
 
--- the fault list of a campaign was loaded: the campaign got to it, and its name is not the object's own
+-- the fault list of a campaign was loaded: the campaign got to it, and its name is not the object's
 pub record LoadsList (c : Campaign) (Comes : Type 0) (asked asked' : Option LoadList) : Type 0 where
   pub comes : Comes
   pub other : c.faults ≢ c.object
   pub made : HasMade (object_load c.object ∷ list_load c.faults ∷ []) asked asked'
 
--- no fault list was loaded: if the campaign got to it, its name is the object's own, or the call ended early
+-- no fault list was loaded: if the campaign got to it, its name is the object's, or the call ended early
 pub record LoadsNoList (c : Campaign) (Comes Early : Type 0) (asked asked' : Option LoadList) : Type 0 where
   pub none : (Comes → c.faults ≡ c.object) ⊎ Early
   pub made : HasMade (object_load c.object ∷ []) asked asked'
 
--- the object of a campaign was loaded, and then the fault list, or no other file
+-- the object of a campaign was loaded, and then its fault list or nothing else
 abbrev pub LoadsCampaign : Campaign → Type 0 → Type 0 → Option LoadList → Option LoadList → Type 0
 LoadsCampaign c Comes Early asked asked' = LoadsNoList c Comes Early asked asked' ⊎ LoadsList c Comes asked asked'
 
@@ -66,8 +66,8 @@ LoadsCampaign c Comes Early asked asked' = LoadsNoList c Comes Early asked asked
 abbrev pub EndsAtFile : Option Files → List Object → Word → Type 0
 EndsAtFile told modules name = (bytes : List ℕ) × (IsToldFile told name bytes × ((a : Answer) × EndsAtBytes modules bytes a))
 
--- the loads of further modules, in turn: the file of the first, and if it is added, those of the modules after it. A
--- call that ends early may make fewer
+-- the loads of further modules, in turn: the file of the first, and if it is added, the files of the modules after it.
+-- A call that ends early may make fewer
 abbrev pub LoadsInTurn : Option Files → Type 0 → List Object → List Word → LoadList → Type 0
 LoadsInTurn told Early modules [] loads = loads ≡ []
 LoadsInTurn told Early modules (name ∷ names) loads =
@@ -76,12 +76,12 @@ LoadsInTurn told Early modules (name ∷ names) loads =
     × (((more ≡ []) × (EndsAtFile told modules name ⊎ Early))
     ⊎ ((bytes : List ℕ) × (IsToldFile told name bytes × ((o : Object) × (IsAdded modules bytes o × LoadsInTurn told Early (modules ++ o ∷ []) names more)))))))
 
--- the file of a map was loaded and no other: its text is not a map, or the call ended early
+-- only the file of the map was loaded: its text is not a map, or the call ended early
 pub record LoadsNoModule (told : Option Files) (name : Word) (Early : Type 0) (asked asked' : Option LoadList) : Type 0 where
   pub none : ((text : List ℕ) × (IsToldFile told name text × ((a : Answer) × EndsAtMap text a))) ⊎ Early
   pub made : HasMade (map_load name ∷ []) asked asked'
 
--- the file of a map was loaded, and then those of its modules
+-- the file of the map was loaded, and then the files of its modules
 pub record LoadsModules (told : Option Files) (name : Word) (Early : Type 0) (asked asked' : Option LoadList) : Type 0 where
   pub text : List ℕ
   pub is_file : IsToldFile told name text
@@ -91,13 +91,13 @@ pub record LoadsModules (told : Option Files) (name : Word) (Early : Type 0) (as
   pub in_turn : LoadsInTurn told Early [] linkage.files loads
   pub made : HasMade (map_load name ∷ loads) asked asked'
 
--- the loads of a link: the map, and then its modules, or no other file
+-- the loads of a link: the map, and then its modules or nothing else
 abbrev pub LoadsLink : Option Files → Word → Type 0 → Option LoadList → Option LoadList → Type 0
 LoadsLink told name Early asked asked' = LoadsNoModule told name Early asked asked' ⊎ LoadsModules told name Early asked asked'
 
--- the loads of a request: one of each file that it names, in their order. The fault list of a campaign is loaded
--- exactly when its object is accepted, that of a survey exactly when its object's bytes spell an object, and a module
--- of a map exactly when the modules before it were added, unless the call ended early
+-- the loads of a request: the files that it names, in order. Unless the call ends early, the fault list of a campaign
+-- is loaded exactly when its object is accepted, that of a survey exactly when its object's bytes spell an object, and
+-- a module exactly when the modules before it were added. A fault list that has the object's name is not loaded again
 abbrev pub LoadsFor : Request → Option Files → Files → Type 0 → Option LoadList → Option LoadList → Type 0
 LoadsFor Usage told files Early asked asked' = HasMade [] asked asked'
 LoadsFor (Checks object) told files Early asked asked' = HasMade (object_load object ∷ []) asked asked'
@@ -117,7 +117,7 @@ LoadsFor (Disassembles object) told files Early asked asked' = HasMade (object_l
 LoadsFor (Schedules object) told files Early asked asked' = HasMade (object_load object ∷ []) asked asked'
 LoadsFor (Links name) told files Early asked asked' = LoadsLink told name Early asked asked'
 
--- the loads of the request that words ask for, with the revealed files or else with some files of bytes
+-- the loads of the request that the words ask for, with the revealed files or else with some files
 pub record Loads (words : List Word) (Early : Type 0) (old new : ShelfLog) : Type 0 where
   pub request : Request
   pub asks : Asks words request
@@ -125,9 +125,9 @@ pub record Loads (words : List Word) (Early : Type 0) (old new : ShelfLog) : Typ
   pub are_files : AreFiles old.files files
   pub made : LoadsFor request old.files files Early old.asked new.asked
 
--- the words ask for a session, and the file of its object spells one, with the revealed files or else with some files
--- of bytes; at most 1,048,577 bytes of the script were taken, and each take but the last returned some, so none was
--- made after the end or after a failure
+-- the words ask for a session on a file that spells an object, with the revealed files or else with some files. At most
+-- 1,048,577 bytes of the script were read, and each take but the last returned some, so no take followed the end or a
+-- failure
 pub record TakesFrom (words : List Word) (told : Option Files) (old new : SourceLog) : Type 0 where
   pub debugging : Debugging
   pub asks : Asks words (Debugs debugging)

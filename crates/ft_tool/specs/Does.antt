@@ -1,4 +1,4 @@
--- What a part of the tool does for a request: private to the tool.
+-- What the parts of the tool do for a request: private to the tool.
 use Rattle.std.specs.Prelude.{◌≡◌, ◌≢◌, ◌⊎◌, ℕ, Bool, IsTrue, List, [], ◌∷◌, Option}
 use Rattle.ft_edge.specs.Loads.{Files}
 use Rattle.ft_edge.specs.Streams.{TakesAtMost}
@@ -21,29 +21,29 @@ AnswersTo r told left a = OfFiles told (λ files. OfScript left (λ script. Answ
 abbrev pub FailsLoading : Request → ShelfLog → ShelfLog → Type 0
 FailsLoading r old new = OfFiles old.files (λ files. FailsIn r files old new)
 
--- a request for a session got as far as its script, and a take of it failed
+-- a request for a session got as far as its script, and a take of the script failed
 pub record FailsTaking (r : Request) (told : Option Files) (old new : SourceLog) : Type 0 where
   pub debugging : Debugging
   pub is : r ≡ Debugs debugging
   pub fails : OfFiles told (λ files. FailsAtScript debugging files old new)
 
--- a request for a session on an object took this of its script
+-- a request for a session on an object read at most 1,048,577 bytes of its script
 pub record TakesFor (r : Request) (told : Option Files) (old new : SourceLog) : Type 0 where
   pub debugging : Debugging
   pub is : r ≡ Debugs debugging
   pub comes : OfFiles told (λ files. SpellsFile files debugging.object)
   pub taken : TakesAtMost 1048577 old new
 
--- what is done for a request, over a shelf and a script: the answer was put, up to a failed put, or a load or a take
--- failed; with any end but `LoadFailed`, no load failed; and the loads of the request were made
+-- what a call does for a request: it writes the answer, up to a failed put, or a load or a take fails, or memory runs
+-- out; no load fails unless the call ends with `LoadFailed`; and it makes the loads of the request
 pub record Does (r : Request) (e : Ending) (left : Option (List ℕ)) (old new : SinkLog) (shelf shelf' : ShelfLog)
     (Takes : Type 0) : Type 0 where
   pub ends : Ends e (AnswersTo r shelf.files left) old new (FailsLoading r shelf shelf' ⊎ Takes)
   pub load_failures : e ≢ LoadFailed → NoLoadFails shelf shelf'
   pub made : OfFiles shelf.files (λ files. LoadsFor r shelf.files files (IsTrue (ends_early e)) shelf.asked shelf'.asked)
 
--- a request over one file, of which at most `limit` bytes are read: an answer for the file's bytes answers the
--- request, which loads this file and no other
+-- a request that reads at most `limit` bytes of one file: an answer for the file's bytes answers the request, which
+-- loads no other file
 pub record IsOverFile (r : Request) (file : Word) (limit : ℕ) (Over : List ℕ → Answer → Type 0) : Type 0 where
   pub answers : (told : Option Files) (files : Files) (script bytes : List ℕ) (a : Answer) → IsFile files file bytes → Over bytes a → Answers r told files script a
   pub comes : (told : Option Files) (files : Files) → ComesTo r told files file

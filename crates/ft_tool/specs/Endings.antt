@@ -1,4 +1,4 @@
--- How a command's parts end: private to the tool.
+-- How the parts of a command end: private to the tool.
 use Rattle.std.specs.Prelude.{◌≡◌, ℕ, Bool, true, false, Option, None}
 use Rattle.ft_edge.specs.Logs.{SinkLog}
 use Rattle.ft_machine.specs.declared.run.RunEnd.{RunEnd}
@@ -12,13 +12,13 @@ use Rattle.ft_tool.specs.declared.ending.Ending.TheVariants.{Done, Detected, Usa
 
 -- how a part of a command ends
 pub data PartEnd : Type 0 where
-  -- it ends with an answer of this status, which was put
+  -- it wrote an answer with this status
   Concluded : ℕ → PartEnd
-  -- it ends at a load or a take that failed
+  -- a load or a take failed
   Unloaded : PartEnd
-  -- it ends at a put of its answer that failed
+  -- a put of its answer failed
   Unwritten : PartEnd
-  -- it ends when memory runs out
+  -- memory ran out
   Unfinished : PartEnd
 
 abbrev pub part_end : Ending → PartEnd
@@ -58,7 +58,7 @@ EndsSo Unfinished Is old new Load = new ≡ old
 abbrev pub Ends : Ending → (Answer → Type 0) → SinkLog → SinkLog → Type 0 → Type 0
 Ends e Is old new Load = EndsSo (part_end e) Is old new Load
 
--- how a command ends, from how its run ended
+-- how a command ends, given how its run ended
 abbrev pub ending_of_run : RunEnd → Ending
 ending_of_run runs.Done = Done
 ending_of_run runs.Detected = Detected
@@ -72,7 +72,7 @@ again_of (recoveries.OutOfSteps again) = again
 again_of recoveries.WriteFault = None
 again_of recoveries.NoMemory = None
 
--- how a command ends, from how its recovery ended
+-- how a command ends, given how its recovery ended
 abbrev pub ending_of_recovery : RecoverEnd → Ending
 ending_of_recovery (recoveries.Done again) = Done
 ending_of_recovery (recoveries.OutOfSteps again) = OutOfSteps

@@ -36,13 +36,13 @@ use Rattle.ft_tool.specs.declared.load.ListFault.TheVariants as list_faults
 use Rattle.ft_tool.specs.declared.load.ObjectFault.{ObjectFault}
 use Rattle.ft_tool.specs.declared.load.ObjectFault.TheVariants.{Refused, Failed, NoMemory}
 
--- the result of a load: the file's bytes, or that they are more than the limit
+-- the result of a load: the file's bytes, or that there are more than the limit
 abbrev pub Gives : Option Files → Word → ℕ → List ℕ → Result Load LoadFault → Type 0
 Gives files name limit into (Ok Whole) = (length into ≤ limit) × IsToldFile files name into
 Gives files name limit into (Ok TooLong) = (bytes : List ℕ) × (IsToldFile files name bytes × (limit < length bytes))
 Gives files name limit into (Err e) = Unit {0}
 
--- why bytes that were loaded are not read as an object
+-- why loaded bytes are not read as an object
 abbrev pub fault_of : DecodeError → ObjectFault
 fault_of (decodes.Object e) = Refused e
 fault_of decodes.NoMemory = NoMemory
@@ -53,23 +53,23 @@ RefusesFile files name (Refused e) = (bytes : List ℕ) × (IsToldFile files nam
 RefusesFile files name Failed = Unit {0}
 RefusesFile files name NoMemory = Unit {0}
 
--- the file's bytes, or the number of the rule that they break
+-- the file's bytes, or the first rule of the format that they break
 abbrev pub LoadsBytes : {V : Type 0} → Option Files → Word → List ℕ → Result V ObjectFault → Type 0
 LoadsBytes files name into (Ok v) = IsToldFile files name into
 LoadsBytes files name into (Err e) = RefusesFile files name e
 
--- the file's bytes, and that they spell an object, or the first rule of the format that they break
+-- the file's bytes, which spell an object, or the first rule of the format that they break
 abbrev pub LoadsObject : Option Files → Word → Result (List ℕ) ObjectFault → Type 0
 LoadsObject files name (Ok bytes) = IsToldFile files name bytes × Spells bytes (version_at bytes) (object_of bytes)
 LoadsObject files name (Err e) = RefusesFile files name e
 
--- a load that failed shows in the count and is recorded as the last; any other fault leaves both unchanged
+-- a failed load raises the count of failures and is recorded as the last; any other fault leaves both unchanged
 abbrev pub FaultCause : Word → ObjectFault → ShelfLog → ShelfLog → Type 0
 FaultCause name (Refused e) old new = NoLoadFails old new
 FaultCause name Failed old new = LoadFails name old new
 FaultCause name NoMemory old new = NoLoadFails old new
 
--- the same for a result, which leaves both unchanged too if it is no fault
+-- likewise for a result: if it is not a fault, it leaves both unchanged, too
 abbrev pub LoadCause : {V : Type 0} → Word → Result V ObjectFault → ShelfLog → ShelfLog → Type 0
 LoadCause name (Ok v) old new = NoLoadFails old new
 LoadCause name (Err e) old new = FaultCause name e old new
@@ -87,7 +87,7 @@ IsNotAccepted (checks.CellType k) a = a ≡ judged (Some (accepted.CellType k))
 IsNotAccepted (checks.Refused b i why) a = a ≡ judged (Some (accepted.Refused b i why))
 IsNotAccepted checks.NoMemory a = ⊥
 
--- the text is that of these faults, or is not a fault list
+-- the text is a list of these faults, or is not a fault list
 abbrev pub ReadsList : {V : Type 0} → (V → List Strike) → List ℕ → Result V ListFault → Type 0
 ReadsList faults_of list (Ok v) = IsFaultList list (faults_of v)
 ReadsList faults_of list (Err (list_faults.Line number)) = IsListError list (lists.Line number)
@@ -95,7 +95,7 @@ ReadsList faults_of list (Err list_faults.TooMany) = IsListError list lists.TooM
 ReadsList faults_of list (Err list_faults.Failed) = ⊥
 ReadsList faults_of list (Err list_faults.NoMemory) = Unit {0}
 
--- some text of these is a list of these faults, or is not a fault list
+-- a text with this property is a list of these faults, or is not a fault list
 abbrev pub GetsList : {V : Type 0} → (V → List Strike) → (List ℕ → Type 0) → Result V ListFault → Type 0
 GetsList faults_of Is (Ok v) = (list : List ℕ) × (Is list × IsFaultList list (faults_of v))
 GetsList faults_of Is (Err (list_faults.Line number)) = (list : List ℕ) × (Is list × IsListError list (lists.Line number))
@@ -103,7 +103,8 @@ GetsList faults_of Is (Err list_faults.TooMany) = (list : List ℕ) × (Is list 
 GetsList faults_of Is (Err list_faults.Failed) = Unit {0}
 GetsList faults_of Is (Err list_faults.NoMemory) = Unit {0}
 
--- a load of a list that failed shows in the count and is recorded as the last; any other result leaves both unchanged
+-- a failed load of a list raises the count of failures and is recorded as the last; any other result leaves both
+-- unchanged
 abbrev pub ListCause : {V : Type 0} → Word → Result V ListFault → ShelfLog → ShelfLog → Type 0
 ListCause name (Ok v) old new = NoLoadFails old new
 ListCause name (Err (list_faults.Line number)) old new = NoLoadFails old new
@@ -132,7 +133,7 @@ IsMapRefused (maps.Line line) a = a ≡ one_piece (link_line 1 line) 13
 IsMapRefused (maps.Twice line) a = a ≡ one_piece (link_line 2 line) 13
 IsMapRefused maps.NoMemory a = ⊥
 
--- the answer of a command whose modules are not linked
+-- the answer of a command whose modules cannot be linked
 abbrev pub IsUnlinkedBy : LinkError → Answer → Type 0
 IsUnlinkedBy (links.Cells m) a = a ≡ unlinked (link_refusals.Cells m)
 IsUnlinkedBy (links.Rows m) a = a ≡ unlinked (link_refusals.Rows m)

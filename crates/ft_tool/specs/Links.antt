@@ -1,4 +1,4 @@
--- The answers of a link for the text of a link map and the files of its modules.
+-- The answers of `link` for the text of a link map and the files of its modules.
 use Rattle.std.specs.Prelude.{◌≡◌, ◌⊎◌, ℕ, ◌<◌, ◌≤◌, List, [], ◌∷◌, ◌++◌, length, Option, Some, None}
 use Rattle.ft_edge.specs.Loads.{Files}
 use Rattle.ft_isa.specs.declared.plan.Strike.{Strike}
@@ -23,14 +23,14 @@ use Rattle.ft_tool.specs.Objects.{refused, judged, UpgradesObject}
 
 -- THE MAP
 
--- the outcome of a text as a link map; the text has at most 65,536 bytes
+-- the outcome of reading a text as a link map; the text has at most 65,536 bytes
 pub record SaysOf (text : List ℕ) (said : Said) : Type 0 where
   pub short : length text ≤ 65536
   pub lines : List MapLine
   pub are_said : AreSaid text lines
   pub is : answer_of lines ≡ said
 
--- the text is that of a map
+-- the text is this map
 abbrev pub IsMap : List ℕ → LinkMap → Type 0
 IsMap text linkage = SaysOf text (Is linkage)
 
@@ -42,21 +42,21 @@ pub data EndsAtMap (text : List ℕ) (a : Answer) : Type 0 where
 
 -- MODULES
 
--- the answer to modules that are not linked
+-- the answer if the modules cannot be linked
 abbrev pub unlinked : LinkRefusal → Answer
 unlinked r = one_piece (unlinked_line r) 13
 
--- an object ends the link with this answer: it is not accepted, or not added to the modules before it
+-- an object ends the link with this answer: it is not accepted, or cannot be added to the modules before it
 pub data EndsAtObject (modules : List Object) (o : Object) (a : Answer) : Type 0 where
   not_accepted : (r : Refusal) → refusal o ≡ Some r → a ≡ judged (Some r) → EndsAtObject modules o a
   not_added : refusal o ≡ None → (r : LinkRefusal) → added_refusal modules o ≡ Some r → a ≡ unlinked r → EndsAtObject modules o a
 
--- the link ends with this answer to the bytes of a module's file: they spell no object, or a refused one
+-- the bytes of a module's file end the link with this answer: they spell no object, or one that ends the link
 pub data EndsAtBytes (modules : List Object) (bytes : List ℕ) (a : Answer) : Type 0 where
   no_object : (e : ObjectError) → broken bytes ≡ Some e → a ≡ refused e → EndsAtBytes modules bytes a
   no_module : (o : Object) → IsSpelling bytes o → EndsAtObject modules o a → EndsAtBytes modules bytes a
 
--- the bytes spell an object that is accepted and is added to the modules before it
+-- the bytes spell an accepted object, which can be added to the modules before it
 pub record IsAdded (modules : List Object) (bytes : List ℕ) (o : Object) : Type 0 where
   pub spelled : IsSpelling bytes o
   pub accepted : refusal o ≡ None
@@ -65,8 +65,8 @@ pub record IsAdded (modules : List Object) (bytes : List ℕ) (o : Object) : Typ
 -- THE LINKED OBJECT
 
 -- the answer is the object that the map makes of the modules: its bytes in version 2 of the format, in one piece. It is
--- accepted; after each number of steps its run has the outputs and the status of the modules' run; with a fault it has
--- them, too, or it is detected and its outputs are a prefix of those
+-- accepted; after each number of steps its run has the outputs and the status of the modules' run; with a fault it
+-- still has them, or it is detected and its outputs are a prefix of them
 pub record LinksObject (linkage : LinkMap) (first : Object) (others : List Object) (a : Answer) : Type 0 where
   pub accepted : IsAccepted (linked linkage first others)
   pub outputs : (n : ℕ) → outputs_after (linked linkage first others) None [] n ≡ modules_outputs linkage first others n
@@ -79,7 +79,7 @@ abbrev pub LinksUnless : Option LinkRefusal → LinkMap → Object → List Obje
 LinksUnless None linkage first others a = LinksObject linkage first others a
 LinksUnless (Some r) linkage first others a = a ≡ unlinked r
 
--- the answer for modules that were all added, at least one
+-- the answer once all modules were added, of which there must be at least one
 abbrev pub LinksAdded : LinkMap → List Object → Answer → Type 0
 LinksAdded linkage [] a = ⊥
 LinksAdded linkage (first ∷ others) a = LinksUnless (link_refusal linkage first others) linkage first others a
@@ -98,21 +98,21 @@ LinksFiles told linkage modules (name ∷ names) a =
 abbrev pub LinksText : Option Files → List ℕ → Answer → Type 0
 LinksText told text a = EndsAtMap text a ⊎ ((linkage : LinkMap) × (IsMap text linkage × LinksFiles told linkage [] linkage.files a))
 
--- the answer for the map in the file of a name. If the shelf does not reveal its files, the file of each load may have
--- any bytes
+-- the answer for the map in the file with this name. If the shelf does not reveal its files, each load may get any
+-- bytes
 abbrev pub LinksFile : Option Files → Word → Answer → Type 0
 LinksFile told name a = (text : List ℕ) × (IsToldFile told name text × LinksText told text a)
 
 -- LOADS
 
--- a link gets as far as loading this file of further modules: each module before it was added
+-- a link of further modules gets as far as loading this file: each module before it was added
 abbrev pub ComesInTurn : Option Files → List Object → List Word → Word → Type 0
 ComesInTurn told modules [] file = ⊥
 ComesInTurn told modules (name ∷ names) file =
     (file ≡ name)
     ⊎ ((bytes : List ℕ) × (IsToldFile told name bytes × ((o : Object) × (IsAdded modules bytes o × ComesInTurn told (modules ++ o ∷ []) names file))))
 
--- a link gets as far as loading this file of a module
+-- a link gets as far as loading this module's file
 pub record ComesToModule (told : Option Files) (name file : Word) : Type 0 where
   pub text : List ℕ
   pub is_file : IsToldFile told name text

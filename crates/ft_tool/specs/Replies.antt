@@ -1,4 +1,4 @@
--- What a command replies, and the bytes of files.
+-- What a command answers, and the contents of files.
 use Rattle.std.specs.Prelude.{◌≡◌, ℕ, List, [], ◌∷◌, Option, Some, None}
 use Rattle.std.specs.FinMap.{get}
 use Rattle.ft_edge.specs.Loads.{Files}
@@ -11,22 +11,22 @@ use Rattle.ft_semantics.specs.Run.{Ran}
 use Rattle.ft_machine.specs.Drives.{output_lines}
 use Rattle.ft_command.specs.Options.{Word}
 
--- the pieces of a text, each of which is one put, and a status
+-- the pieces of the output, each written with one put, and the status
 pub record Answer : Type 0 where
   pub pieces : List (List ℕ)
   pub status : ℕ
 
--- a text that is one piece, a line or an object
+-- an answer of one piece: a line, a text or an object
 abbrev pub one_piece : List ℕ → ℕ → Answer
 one_piece piece status = record { pieces = piece ∷ []; status = status }
 
--- the status of a run by the machine's status after its steps
+-- the status of a call that runs an object, given the machine's status after the run
 abbrev pub status_of_run : Status → ℕ
 status_of_run machine.Done = 0
 status_of_run machine.Detected = 1
 status_of_run machine.Running = 9
 
--- a line for each output of a run
+-- the answer for a run: a line for each output
 abbrev pub ran : Object → Ran → Answer
 ran o r = record { pieces = output_lines o r.outputs; status = status_of_run r.state.status }
 
@@ -40,11 +40,11 @@ abbrev pub IsScript : Option (List ℕ) → List ℕ → Type 0
 IsScript (Some told) script = script ≡ told
 IsScript None script = AreBytes script
 
--- the content of the file of a name
+-- the file with this name has this content
 abbrev pub IsFile : Files → Word → List ℕ → Type 0
 IsFile files name bytes = get files name ≡ Some bytes
 
--- the content of the file of a name, if the shelf reveals its files; else it may be any bytes
+-- the file with this name has this content, if the shelf reveals its files; otherwise the content may be any bytes
 abbrev pub IsToldFile : Option Files → Word → List ℕ → Type 0
 IsToldFile (Some told) name bytes = get told name ≡ Some bytes
 IsToldFile None name bytes = AreBytes bytes

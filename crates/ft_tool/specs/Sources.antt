@@ -14,23 +14,23 @@ use Rattle.ft_meaning.specs.Lines.{output_lines}
 use Rattle.ft_tool.specs.Texts.{source_line}
 use Rattle.ft_tool.specs.Replies.{Answer, one_piece, ran}
 
--- the answer of a source that is refused
+-- the answer to a source that is refused
 pub record IsSourceRefused (e : SourceError) (a : Answer) : Type 0 where
   pub named : e ≢ NoMemory
   pub answer : a ≡ one_piece (source_line e) 6
 
--- a line for each output of a meaning, which ended or was cut
+-- the answer for a meaning that ended or was cut: a line for each output
 abbrev pub meant : Program → Outcome → Answer
 meant p (Ended s) = record { pieces = output_lines p.names s.out; status = 0 }
 meant p (Cut s) = record { pieces = output_lines p.names s.out; status = 9 }
 
--- the answer for the text of a source: that for its program, or its refusal
+-- the answer for the text of a source: the answer for its program, or its refusal
 abbrev pub OverText : (Program → Answer → Type 0) → List ℕ → Answer → Type 0
 OverText Over text a =
     ((p : Program) × (IsProgramOf text p × Over p a))
     ⊎ ((e : SourceError) × (IsRefusalOf text e × IsSourceRefused e a))
 
--- the answer of a compilation: the bytes of an object that stands for the program, in version 2 of the format and one
+-- the answer of `compile`: the bytes of an object that stands for the program, in version 2 of the format and in one
 -- piece
 pub record CompilesProgram (p : Program) (a : Answer) : Type 0 where
   pub object : Object
@@ -39,12 +39,12 @@ pub record CompilesProgram (p : Program) (a : Answer) : Type 0 where
   pub spelled : Spells bytes Second object
   pub answer : a ≡ one_piece bytes 0
 
--- the answer of an execution: the run of an object that stands for the program, for this many steps without a strike
+-- the answer of `exec`: the run of an object that stands for the program, for this many steps and without a strike
 pub record ExecutesProgram (steps : ℕ) (p : Program) (a : Answer) : Type 0 where
   pub object : Object
   pub stands : StandsFor p object
   pub is : a ≡ ran object (run object None [] steps)
 
--- the answer of a meaning with n turns
+-- the answer of `mean` for this many turns
 abbrev pub MeansProgram : ℕ → Program → Answer → Type 0
 MeansProgram turns p a = a ≡ meant p (meaning p turns)

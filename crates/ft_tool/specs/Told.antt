@@ -1,4 +1,4 @@
--- What is known of the files and the script of a call part by part: private to the tool.
+-- What the parts of the tool know of a call's files and script: private to the tool.
 use Rattle.std.specs.Prelude.{◌≡◌, ◌≢◌, ◌⊎◌, ℕ, List, [], ◌∷◌, Option}
 use Rattle.ft_edge.specs.Loads.{Files}
 use Rattle.ft_types.specs.declared.object.Object.{Object}
@@ -9,27 +9,27 @@ use Rattle.ft_tool.specs.Lists.{NoneCorrupt, OverList}
 use Rattle.ft_tool.specs.Replies.{Answer, AreFiles, IsScript, IsToldFile}
 use Rattle.ft_tool.specs.Calls.{LoadList, HasMade, list_load}
 
--- this holds for the revealed files, or else for some files of bytes
+-- this holds for the revealed files, or else for some files
 abbrev pub OfFiles : Option Files → (Files → Type 0) → Type 0
 OfFiles told Holds = (files : Files) × (AreFiles told files × Holds files)
 
--- this holds for the revealed script, or else for some script of bytes
+-- this holds for the revealed script, or else for some script
 abbrev pub OfScript : Option (List ℕ) → (List ℕ → Type 0) → Type 0
 OfScript left Holds = (script : List ℕ) × (IsScript left script × Holds script)
 
--- the fault list of a campaign whose object's file has these bytes
+-- the text is the fault list of a campaign whose object file has these bytes
 pub record IsListOf (c : Campaign) (told : Option Files) (bytes list : List ℕ) : Type 0 where
   pub file : IsToldFile told c.faults list
   pub own : c.faults ≡ c.object → list ≡ bytes
 
--- the answer for an object, whose file has these bytes, and the fault list
+-- the answer for the fault list and an object whose file has these bytes
 abbrev pub OverListOf : (List Verdict → Type 0) → Campaign → Option Files → List ℕ → Object → Answer → Type 0
 OverListOf Promised c told bytes o a = (list : List ℕ) × (IsListOf c told bytes list × OverList Promised c o list a)
 
--- the same for a campaign on an object that is accepted
+-- likewise for a campaign on an accepted object
 abbrev pub CampaignsListOf : Campaign → Option Files → List ℕ → Object → Answer → Type 0
 CampaignsListOf c told bytes o a = OverListOf NoneCorrupt c told bytes o a × IsNeverDetected o c.wild
 
--- the fault list of a campaign was loaded, if its name is not the object's own; else nothing was
+-- the fault list of a campaign was loaded, unless its name is the object's, in which case nothing was
 abbrev pub LoadsOther : Campaign → Option LoadList → Option LoadList → Type 0
 LoadsOther c asked asked' = ((c.faults ≡ c.object) × HasMade [] asked asked') ⊎ ((c.faults ≢ c.object) × HasMade (list_load c.faults ∷ []) asked asked')

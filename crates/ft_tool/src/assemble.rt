@@ -10,7 +10,7 @@ use ft_asm::{AsmError, assemble_bytes};
 use ft_edge::Sink;
 use std::alloc::Global;
 
-/// Reads an assembly text and puts its object.
+/// Assembles a text and writes its object.
 fn assemble_text<K: Sink>(alloc: Global, text: &[u8], out: &mut K) -> Ending
     ensures { Ends result (OverAssembly text.now)
         (K.log out.old) (K.log out.new) ⊥ }
@@ -21,7 +21,7 @@ fn assemble_text<K: Sink>(alloc: Global, text: &[u8], out: &mut K) -> Ending
     }
 }
 
-/// The object of the assembly text of a file.
+/// The command that assembles the text in a file.
 #[derive(Drop)]
 pub(crate) struct AssembleCommand<'w> {
     pub text: &'w str,

@@ -26,7 +26,7 @@ use std::alloc::Global;
 use std::marker::Brand;
 use std::sync::ledger::{Blank, Ledger};
 
-/// A campaign on an object that is accepted, with a counter of its own.
+/// Runs a campaign on an accepted object, with a step counter of its own.
 fn campaign_counted<P: Program, K: Sink, L: Ledger>(
     alloc: Global,
     checked: &Checked<P>,
@@ -56,7 +56,7 @@ fn campaign_counted<P: Program, K: Sink, L: Ledger>(
     )
 }
 
-/// The verdicts of faults on an object that is accepted, none of which is corrupt.
+/// Tries faults on an accepted object and writes their verdicts, none of which is corrupt.
 fn campaign_faults<P: Program, K: Sink>(
     alloc: Global,
     checked: &Checked<P>,
@@ -79,7 +79,7 @@ fn campaign_faults<P: Program, K: Sink>(
     }
 }
 
-/// An object that is accepted, on which faults are tried.
+/// An accepted object on which faults are tried.
 #[derive(Drop)]
 struct CheckedTarget<'a, P: Program> {
     checked: &'a Checked<'a, P>,
@@ -108,7 +108,7 @@ impl<'a, P: Program> Target for CheckedTarget<'a, P> {
     }
 }
 
-/// Loads a fault list and tries it on an object that is accepted.
+/// Loads a fault list and tries it on an accepted object.
 fn campaign_checked<P: Program, F: Shelf, K: Sink>(
     alloc: Global,
     checked: &Checked<P>,

@@ -26,7 +26,7 @@ fn check_object<P: Program, K: Sink>(alloc: Global, program: &P, out: &mut K) ->
     }
 }
 
-/// The check of the object of a file.
+/// The command that checks the object in a file.
 #[derive(Drop)]
 pub(crate) struct CheckCommand<'w> {
     pub object: &'w str,

@@ -11,7 +11,7 @@ use ft_edge::Sink;
 use ft_syntax::SourceError;
 use std::alloc::Global;
 
-/// Compiles a source and puts its object.
+/// Compiles a source and writes its object.
 fn compile_text<K: Sink>(alloc: Global, text: &[u8], out: &mut K) -> Ending
     ensures { Ends result (OverText CompilesProgram text.now)
         (K.log out.old) (K.log out.new) ⊥ }
@@ -22,7 +22,7 @@ fn compile_text<K: Sink>(alloc: Global, text: &[u8], out: &mut K) -> Ending
     }
 }
 
-/// The object that the source of a file is compiled to.
+/// The command that compiles the source in a file.
 #[derive(Drop)]
 pub(crate) struct CompileCommand<'w> {
     pub source: &'w str,

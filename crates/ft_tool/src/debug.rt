@@ -22,7 +22,7 @@ use ft_edge::{Shelf, Sink, Source};
 use ft_types::Program;
 use std::alloc::Global;
 
-/// Runs the session of a script on an object.
+/// Runs a script as a debugger session on an object.
 fn debug_text<P: Program, K: Sink>(
     alloc: Global,
     program: &P,
@@ -43,7 +43,7 @@ fn debug_text<P: Program, K: Sink>(
     }
 }
 
-/// Reads the script and runs its session on an object.
+/// Reads the script and runs it as a session on an object.
 fn debug_object<P: Program, I: Source, K: Sink>(
     alloc: Global,
     program: &P,
@@ -64,7 +64,7 @@ fn debug_object<P: Program, I: Source, K: Sink>(
     }
 }
 
-/// Loads an object and runs the script's session over it, without checking it.
+/// Loads an object and runs the script as a session on it, without checking the object.
 pub(crate) fn debug_file<F: Shelf, I: Source, K: Sink>(
     alloc: Global,
     asked: &Debugging,

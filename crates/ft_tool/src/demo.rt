@@ -8,7 +8,7 @@ use ft_demo::{DemoEnd, demo};
 use ft_edge::Sink;
 use std::alloc::Global;
 
-/// Demonstrates the object of this many turns.
+/// Runs the demonstration with the object of this many turns.
 pub(crate) fn demonstrate<K: Sink>(alloc: Global, turns: u32, out: &mut K) -> Ending
     requires some { 1 ≤ turns }
     requires few { turns ≤ 10921 }

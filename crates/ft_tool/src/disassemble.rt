@@ -11,7 +11,7 @@ use ft_edge::{Sink, put_line};
 use ft_types::Program;
 use std::alloc::Global;
 
-/// Puts the text of an object.
+/// Writes the assembly text of an object.
 fn put_text<P: Program, K: Sink>(alloc: Global, program: &P, out: &mut K) -> Ending
     requires { IsSpellable (P.object program.now) }
     ensures { Ends result (DisassemblesObject (P.object program.now))
@@ -26,7 +26,7 @@ fn put_text<P: Program, K: Sink>(alloc: Global, program: &P, out: &mut K) -> End
     }
 }
 
-/// The assembly text of the object of a file.
+/// The command that disassembles the object in a file.
 #[derive(Drop)]
 pub(crate) struct DisassembleCommand<'w> {
     pub object: &'w str,

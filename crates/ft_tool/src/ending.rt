@@ -30,9 +30,9 @@ use std::alloc::Global;
 /// How a command ended.
 #[derive(Clone, Copy, Debug, PartialEq, Eq)]
 pub(crate) enum Ending {
-    /// The command did what it is for.
+    /// The command succeeded.
     Done,
-    /// The machine noticed a fault.
+    /// The machine detected a fault.
     Detected,
     /// The words are not a command.
     Usage,
@@ -42,7 +42,7 @@ pub(crate) enum Ending {
     WriteFailed,
     /// Memory ran out.
     NoMemory,
-    /// The text is refused as a source.
+    /// The source is refused.
     SourceRefused,
     /// The bytes spell no object.
     ObjectRefused,
@@ -54,13 +54,13 @@ pub(crate) enum Ending {
     Corrupt,
     /// The fault list, the campaign over it, or the script is refused.
     ListRefused,
-    /// The text is refused as an assembly text.
+    /// The assembly text is refused.
     TextRefused,
     /// The link map, or the link that it describes, is refused.
     LinkRefused,
 }
 
-/// How a command ends, from how its run ended.
+/// How a command ends, given how its run ended.
 pub(crate) fn ending_of_run(end: RunEnd) -> Ending
     ensures { result ≡ ending_of_run end }
 {
@@ -72,7 +72,7 @@ pub(crate) fn ending_of_run(end: RunEnd) -> Ending
     }
 }
 
-/// Puts bytes that spell an object, in version 2 of the format, with one put.
+/// Writes bytes that spell an object in version 2 of the format, with one put.
 pub(crate) fn put_spelling<K: Sink>(bytes: &[u8], out: &mut K) -> Ending
     ensures { (o : Spelled) → Spells bytes.now Second o → Ends result (UpgradesObject o)
         (K.log out.old) (K.log out.new) ⊥ }
@@ -83,7 +83,7 @@ pub(crate) fn put_spelling<K: Sink>(bytes: &[u8], out: &mut K) -> Ending
     }
 }
 
-/// Puts the bytes of an object, in version 2 of the format, with one put.
+/// Writes the bytes of an object in version 2 of the format, with one put.
 pub(crate) fn put_object<K: Sink>(alloc: Global, object: &Object, out: &mut K) -> Ending
     requires { IsSpellable object.now }
     ensures { Ends result (UpgradesObject object.now)
@@ -95,7 +95,7 @@ pub(crate) fn put_object<K: Sink>(alloc: Global, object: &Object, out: &mut K) -
     put_spelling(bytes.as_slice(), out)
 }
 
-/// Puts the line of words that are not a command.
+/// Writes the line for words that are not a command.
 pub(crate) fn put_usage<K: Sink>(out: &mut K) -> Ending
     ensures { Ends result (λ a. a ≡ usage) (K.log out.old) (K.log out.new) ⊥ }
 {
@@ -105,7 +105,7 @@ pub(crate) fn put_usage<K: Sink>(out: &mut K) -> Ending
     }
 }
 
-/// Ends a command whose object's bytes are refused, with the line of the refusal.
+/// Ends a command whose object's bytes are refused: writes the line of the refusal.
 pub(crate) fn refuse_bytes<K: Sink>(error: ObjectError, out: &mut K) -> Ending
     ensures { Ends result (λ a. a ≡ refused error) (K.log out.old) (K.log out.new) ⊥ }
 {
@@ -115,7 +115,7 @@ pub(crate) fn refuse_bytes<K: Sink>(error: ObjectError, out: &mut K) -> Ending
     }
 }
 
-/// Ends a command that has no object, with the line of the refusal if its bytes are refused.
+/// Ends a command that has no object: writes the line of the refusal if its bytes are refused.
 pub(crate) fn refuse_object<K: Sink>(fault: ObjectFault, out: &mut K) -> Ending
     ensures ends { Ends result (IsRefusedBy fault)
         (K.log out.old) (K.log out.new) (fault ≡ ObjectFault.Failed) }
@@ -128,7 +128,7 @@ pub(crate) fn refuse_object<K: Sink>(fault: ObjectFault, out: &mut K) -> Ending
     }
 }
 
-/// Ends a command whose object is not accepted, with the line of the refusal.
+/// Ends a command whose object is not accepted: writes the line of the refusal.
 pub(crate) fn refuse_check<K: Sink>(error: CheckError, out: &mut K) -> Ending
     ensures { Ends result (IsNotAccepted error) (K.log out.old) (K.log out.new) ⊥ }
 {
@@ -144,7 +144,7 @@ pub(crate) fn refuse_check<K: Sink>(error: CheckError, out: &mut K) -> Ending
     }
 }
 
-/// Puts the line of a list or of a campaign that is refused.
+/// Writes the line for a list, a campaign or a script that is refused.
 pub(crate) fn put_list_line<K: Sink>(number: u64, told: u64, out: &mut K) -> Ending
     ensures { Ends result (λ a. a ≡ one_piece (list_line number told) 11)
         (K.log out.old) (K.log out.new) ⊥ }
@@ -155,7 +155,7 @@ pub(crate) fn put_list_line<K: Sink>(number: u64, told: u64, out: &mut K) -> End
     }
 }
 
-/// Ends a command that has no fault list, with the line of the refusal if its text is refused.
+/// Ends a command that has no fault list: writes the line of the refusal if its text is refused.
 pub(crate) fn refuse_list<K: Sink>(fault: ListFault, out: &mut K) -> Ending
     ensures ends { Ends result (IsListRefusedBy fault)
         (K.log out.old) (K.log out.new) (fault ≡ ListFault.Failed) }
@@ -169,7 +169,7 @@ pub(crate) fn refuse_list<K: Sink>(fault: ListFault, out: &mut K) -> Ending
     }
 }
 
-/// Ends a command that has no script, with the line of the refusal if it is too long.
+/// Ends a command that has no script: writes the line of the refusal if it is too long.
 pub(crate) fn refuse_script<K: Sink>(fault: ScriptFault, out: &mut K) -> Ending
     ensures ends { Ends result (IsScriptRefusedBy fault)
         (K.log out.old) (K.log out.new) (fault ≡ ScriptFault.Failed) }
@@ -182,7 +182,7 @@ pub(crate) fn refuse_script<K: Sink>(fault: ScriptFault, out: &mut K) -> Ending
     }
 }
 
-/// Ends a command whose source is refused, with the line of the refusal.
+/// Ends a command whose source is refused: writes the line of the refusal.
 pub(crate) fn refuse_source<K: Sink>(error: SourceError, out: &mut K) -> Ending
     ensures { Ends result (IsSourceRefused error) (K.log out.old) (K.log out.new) ⊥ }
 {
@@ -195,7 +195,7 @@ pub(crate) fn refuse_source<K: Sink>(error: SourceError, out: &mut K) -> Ending
     }
 }
 
-/// Puts the line of an assembly text that is refused.
+/// Writes the line for an assembly text that is refused.
 fn put_text_line<K: Sink>(number: u64, told: u64, out: &mut K) -> Ending
     ensures { Ends result (λ a. a ≡ one_piece (asm_line number told) 12)
         (K.log out.old) (K.log out.new) ⊥ }
@@ -206,7 +206,7 @@ fn put_text_line<K: Sink>(number: u64, told: u64, out: &mut K) -> Ending
     }
 }
 
-/// Ends a command whose assembly text is refused, with the line of the refusal.
+/// Ends a command whose assembly text is refused: writes the line of the refusal.
 pub(crate) fn refuse_text<K: Sink>(error: AsmError, out: &mut K) -> Ending
     ensures { Ends result (IsTextRefused error) (K.log out.old) (K.log out.new) ⊥ }
 {

@@ -21,7 +21,7 @@ use ft_syntax::SourceError;
 use ft_types::Object;
 use std::alloc::Global;
 
-/// Runs an object that is accepted, without a strike and without answers to wild loads.
+/// Runs an accepted object without a strike and without answers to wild loads.
 fn run_accepted<K: Sink>(alloc: Global, object: &Object, steps: u64, out: &mut K) -> Ending
     requires spellable { IsSpellable object.now }
     requires accepted { IsAccepted object.now }
@@ -50,7 +50,7 @@ fn exec_text<K: Sink>(alloc: Global, text: &[u8], steps: u64, out: &mut K) -> En
     }
 }
 
-/// The run of the object that the source of a file is compiled to.
+/// The command that compiles the source in a file and runs its object.
 #[derive(Drop)]
 pub(crate) struct ExecCommand<'w> {
     pub asked: Execution<'w>,

@@ -1,4 +1,4 @@
-//! Laws of the tool's definitions, each the contract of a function that does nothing.
+//! Laws of the tool's definitions, each stated as the contract of a function that does nothing.
 ghost use Rattle.std.specs.Prelude.{◌≡◌, ℕ, List, [], None, Some};
 ghost use Rattle.ft_isa.specs.declared.plan.Wild.{Wild};
 ghost use Rattle.ft_types.specs.declared.object.Object.{Object};
@@ -22,11 +22,11 @@ use ft_link_map::lines_are_one;
 use ft_scope::one_text_has_one_outcome;
 use ft_script::commands_are_one;
 
-/// If files and script are known, words have at most one answer, with its pieces and its status. For `compile` and
-/// `exec` the definition leaves open which object stands for a source, so more than one answer is possible: two answers
-/// to `compile` are the same refusal, or one object each; two answers to `exec` are the same refusal, or the pieces of
-/// one are a prefix of those of the other, each with status 0 or 9, and they are the same if both have status 0.
-/// Neither ever has status 8.
+/// If the files and the script are known, the words have at most one answer, pieces and status included. For `compile`
+/// and `exec`, the definition leaves open which object stands for a source, so several answers are possible: two
+/// answers of `compile` are the same refusal, or one object each; two answers of `exec` are the same refusal, or each
+/// has status 0 or 9 and the pieces of one are a prefix of the other's, and they are equal if both have status 0.
+/// Neither command ever ends with status 8.
 pub fn words_have_one_answer()
     ensures { (words : List Word) (request : Request) (files : Files) (script : List ℕ) (a b : Answer) → Asks words request
         → IsAnswer words (Some files) (Some script) a → IsAnswer words (Some files) (Some script) b → AreAnswers request a b }
@@ -43,9 +43,9 @@ pub fn words_have_one_answer()
     runs_and_meanings_write_the_same_lines();
 }
 
-/// The run of an accepted object without a strike is the same for all answers to wild loads. So the run that gives a
-/// compiled object its meaning, which has no answers, is the one with which a struck run is compared, whatever answers
-/// its plan has.
+/// Without a strike, the run of an accepted object is the same for all answers to wild loads. So a run with a strike is
+/// compared, whatever answers its plan has, with the run without answers, which commits what a compiled object's source
+/// means.
 pub fn answers_matter_after_a_strike_alone()
     ensures outputs { (o : Object) (w : List Wild) (n : ℕ) → IsSpellable o → IsAccepted o → outputs_after o None w n ≡ outputs_after o None [] n }
     ensures status { (o : Object) (w : List Wild) (n : ℕ) → IsSpellable o → IsAccepted o → status_after o None w n ≡ status_after o None [] n }

@@ -1,8 +1,8 @@
-//! The tool: what a command line does over files, a script and an output.
+//! The tool: what a command line does with files, a script and an output.
 //!
-//! The crate promises that `tool` writes the output and returns the status that the words ask for, by one
-//! rule per command in `specs/Answers.antt`. The words' table is in `ft_command`. The lines of refusals are
-//! in `specs/Texts.antt`.
+//! The crate promises that, unless reading or writing fails or memory runs out, `tool` writes the output and returns
+//! the status that the words ask for. `specs/Answers.antt` defines both by one rule per command, and `ft_command`
+//! defines which words ask for which command. The lines of refusals are in `specs/Texts.antt`.
 #![tactic(auto)]
 
 mod assemble;

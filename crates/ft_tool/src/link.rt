@@ -21,7 +21,7 @@ use ft_linker::Linker;
 use ft_types::{Program, Table};
 use std::alloc::Global;
 
-/// The name of a module's file as a text.
+/// The name of a module's file as a string.
 fn name_of(file: &Table<u8>) -> &str
     requires { IsAscii file.now }
     ensures { result.now ≡ file.now }
@@ -32,7 +32,7 @@ fn name_of(file: &Table<u8>) -> &str
     name
 }
 
-/// Checks an object and adds it to the linker; or ends the link.
+/// Checks an object and adds it to the linker, or ends the link.
 fn add_object<P: Program, K: Sink>(
     alloc: Global,
     program: &P,
@@ -54,7 +54,7 @@ fn add_object<P: Program, K: Sink>(
     }
 }
 
-/// Loads an object, checks it and adds it to the linker; or ends the link.
+/// Loads an object, checks it and adds it to the linker, or ends the link.
 fn add_file<F: Shelf, K: Sink>(
     alloc: Global,
     name: &str,
@@ -79,7 +79,7 @@ fn add_file<F: Shelf, K: Sink>(
     }
 }
 
-/// Adds the modules of a map to the linker, in their order; or ends the link.
+/// Adds the modules of a map to the linker in order, or ends the link.
 fn add_files<F: Shelf, K: Sink>(
     alloc: Global,
     linkage: &LinkMap,
@@ -108,7 +108,7 @@ fn add_files<F: Shelf, K: Sink>(
     Ok(())
 }
 
-/// Links the modules that were added, and puts the object.
+/// Links the modules that were added, and writes the object.
 fn put_linked<K: Sink>(alloc: Global, linker: Linker, linkage: &LinkMap, out: &mut K) -> Ending
     requires sound { IsSound linkage.now }
     requires modules { length linker ≡ length linkage.now.files }
@@ -121,7 +121,7 @@ fn put_linked<K: Sink>(alloc: Global, linker: Linker, linkage: &LinkMap, out: &m
     }
 }
 
-/// Links the modules of a map, and puts the object.
+/// Links the modules of a map, and writes the object.
 fn link_files<F: Shelf, K: Sink>(
     alloc: Global,
     linkage: &LinkMap,
@@ -146,7 +146,7 @@ fn link_files<F: Shelf, K: Sink>(
     }
 }
 
-/// Reads a link map, links its modules and puts the object.
+/// Reads a link map, links its modules and writes the object.
 fn link_text<F: Shelf, K: Sink>(alloc: Global, text: &[u8], shelf: &mut F, out: &mut K) -> Ending
     requires { length text.now ≤ 65536 }
     ensures ends { Ends result (LinksText (F.log shelf.old).files text.now)
@@ -163,7 +163,7 @@ fn link_text<F: Shelf, K: Sink>(alloc: Global, text: &[u8], shelf: &mut F, out: 
     }
 }
 
-/// Loads a link map, links its modules and puts the object.
+/// Loads a link map, links its modules and writes the object.
 pub(crate) fn link_file<F: Shelf, K: Sink>(
     alloc: Global,
     name: &str,

@@ -1,4 +1,4 @@
-//! What a command's files hold.
+//! Loads the files of a command.
 ghost use Rattle.std.specs.Prelude.{◌≡◌, [], ◌∷◌};
 ghost use Rattle.ft_command.specs.Asked.{campaign_view};
 ghost use Rattle.ft_tool.specs.Calls.{HasMade, object_load, list_load};
@@ -16,22 +16,22 @@ use ft_view::View;
 use std::alloc::Global;
 use thiserror::Error;
 
-/// The maximum number of bytes of a file that are read as an object.
+/// The maximum size of an object file in bytes.
 pub(crate) const OBJECT_LIMIT: usize = 67_108_864;
 
-/// The maximum number of bytes of a file that are read as a source.
+/// The maximum size of a source in bytes.
 pub(crate) const SOURCE_LIMIT: usize = 1_048_576;
 
-/// The maximum number of bytes of a file that are read as an assembly text.
+/// The maximum size of an assembly text in bytes.
 pub(crate) const TEXT_LIMIT: usize = 134_217_728;
 
-/// The maximum number of bytes of a file that are read as a link map.
+/// The maximum size of a link map in bytes.
 pub(crate) const MAP_LIMIT: usize = 65_536;
 
-/// The maximum number of bytes of a file that are read as a fault list.
+/// The maximum size of a fault list in bytes.
 const LIST_LIMIT: usize = 4_194_304;
 
-/// Loads the file of a name into an empty vector, up to a limit.
+/// Loads the file with this name into an empty vector, unless the file is longer than the limit.
 pub(crate) fn load_bytes<F: Shelf>(
     name: &str,
     limit: usize,
@@ -61,7 +61,7 @@ pub(crate) enum ObjectFault {
     NoMemory,
 }
 
-/// Why bytes that were loaded are not read as an object.
+/// Why loaded bytes are not read as an object.
 pub(crate) fn fault_of(error: DecodeError) -> ObjectFault
     ensures { result ≡ fault_of error }
 {
@@ -71,7 +71,7 @@ pub(crate) fn fault_of(error: DecodeError) -> ObjectFault
     }
 }
 
-/// Loads the file of a name, as the bytes of an object, into an empty vector.
+/// Loads the file with this name, which should be an object, into an empty vector.
 pub(crate) fn load_object_bytes<F: Shelf>(
     name: &str,
     shelf: &mut F,
@@ -91,7 +91,7 @@ pub(crate) fn load_object_bytes<F: Shelf>(
     }
 }
 
-/// Loads the file of a name into an empty vector, and looks at the bytes as an object.
+/// Loads the file with this name into an empty vector, and views the bytes as an object.
 pub(crate) fn load_object<'a, F: Shelf>(
     name: &str,
     shelf: &mut F,
@@ -115,7 +115,7 @@ pub(crate) fn load_object<'a, F: Shelf>(
 /// Why there is no fault list.
 #[derive(Clone, Copy, Debug, PartialEq, Eq, Error)]
 pub(crate) enum ListFault {
-    /// The line with this number, counted from 1, is not a strike.
+    /// The line with this number, counted from 1, is not a fault.
     #[error("line {0} is no strike")]
     Line(u32),
     /// The file has more than 4,194,304 bytes or more than 65,536 lines.
@@ -141,7 +141,7 @@ fn read_list(alloc: Global, bytes: &[u8]) -> Result<Vec<Strike>, ListFault>
     }
 }
 
-/// Loads the file of a name and reads it as a fault list.
+/// Loads the file with this name and reads it as a fault list.
 fn load_list<F: Shelf>(alloc: Global, name: &str, shelf: &mut F) -> Result<Vec<Strike>, ListFault>
     ensures gets { GetsList (λ v. v.items) (IsToldFile (F.log shelf.old).files name.now) result }
     ensures cause { ListCause name.now result (F.log shelf.old) (F.log shelf.new) }
@@ -157,8 +157,8 @@ fn load_list<F: Shelf>(alloc: Global, name: &str, shelf: &mut F) -> Result<Vec<S
     }
 }
 
-/// The fault list of a campaign, whose object's file has these bytes. If the list has the object's own name, it is read
-/// from these bytes, and no file is loaded.
+/// The fault list of a campaign whose object file has these bytes. If the list has the object's name, it is read from
+/// these bytes, and no file is loaded.
 pub(crate) fn list_of<F: Shelf>(
     alloc: Global,
     asked: &Campaign,

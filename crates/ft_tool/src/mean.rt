@@ -34,7 +34,7 @@ fn mean_text<K: Sink>(alloc: Global, text: &[u8], turns: u64, out: &mut K) -> En
     }
 }
 
-/// The meaning of the source of a file.
+/// The command that writes the meaning of the source in a file.
 #[derive(Drop)]
 pub(crate) struct MeanCommand<'w> {
     pub asked: Meaning<'w>,

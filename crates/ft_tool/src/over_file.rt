@@ -1,4 +1,4 @@
-//! Commands over one file.
+//! Commands on one file.
 ghost use Rattle.std.specs.Prelude.{◌≡◌, ◌≢◌, ◌<◌, List, ℕ, Option, length};
 ghost use Rattle.ft_tool.specs.Does.{Does};
 
@@ -7,7 +7,7 @@ use crate::load::load_bytes;
 use ft_edge::{Load, LoadFault, Shelf, Sink};
 use std::alloc::Global;
 
-/// A command over one file.
+/// A command on one file.
 pub(crate) trait FileCommand {
     ghost use Rattle.std.specs.Prelude.{◌≡◌, ◌≢◌, ◌<◌, ℕ, List, length};
     ghost use Rattle.ft_command.specs.Options.{Word};
@@ -22,7 +22,7 @@ pub(crate) trait FileCommand {
     // The name of its file.
     ghost file: { Self → Word };
 
-    // The maximum number of bytes that are read of its file.
+    // The maximum number of bytes that it reads of its file.
     ghost limit: { Self → ℕ };
 
     // The answer for the file's bytes.
@@ -32,7 +32,7 @@ pub(crate) trait FileCommand {
     fn file(&self) -> &str
         ensures { result.now ≡ file self.now };
 
-    /// The maximum number of bytes that are read of its file.
+    /// The maximum number of bytes that it reads of its file.
     fn limit(&self) -> usize
         ensures { result ≡ limit self.now };
 
@@ -41,12 +41,12 @@ pub(crate) trait FileCommand {
         ensures { Ends result (answer self.now bytes.now)
             (K.log out.old) (K.log out.new) ⊥ };
 
-    /// Writes the answer for a file that has more bytes than the limit.
+    /// Writes the answer for a file that is longer than the limit.
     fn refuse_long<K: Sink>(&self, out: &mut K) -> Ending
         ensures { Ends result (λ a. (bytes : List ℕ) → limit self.now < length bytes → answer self.now bytes a)
             (K.log out.old) (K.log out.new) ⊥ };
 
-    // An answer for this file's bytes is one to the request, which loads no other file.
+    // An answer for this file's bytes answers the request, which loads no other file.
     ghost is_over_file: { (c : Self) → IsOverFile (request c) (file c) (limit c) (answer c) };
 }
 

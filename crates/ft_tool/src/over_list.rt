@@ -1,4 +1,4 @@
-//! Fault lists that are tried on an object.
+//! Tries fault lists on objects.
 ghost use Rattle.std.specs.Prelude.{◌≡◌, ◌≢◌, ◌≤◌, Some};
 ghost use Rattle.ft_command.specs.Asked.{campaign_view};
 ghost use Rattle.ft_edge.specs.Logs.{LoadFails, NoLoadFails};
@@ -46,7 +46,7 @@ pub(crate) trait Target {
             (K.log out.old) (K.log out.new) ⊥ };
 }
 
-/// Loads the fault list of a campaign, whose object's file has these bytes, and tries it.
+/// Loads the fault list of a campaign whose object file has these bytes, and tries it.
 pub(crate) fn over_list<T: Target, F: Shelf, K: Sink>(
     alloc: Global,
     target: &T,

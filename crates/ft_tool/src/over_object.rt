@@ -1,4 +1,4 @@
-//! Commands over the object of one file, in place.
+//! Commands on the object in one file, which is read in place.
 ghost use Rattle.std.specs.Prelude.{List, ℕ, Option};
 ghost use Rattle.ft_tool.specs.Does.{Does};
 
@@ -11,7 +11,7 @@ use ft_types::Program;
 use ft_view::View;
 use std::alloc::Global;
 
-/// A command over the object of one file.
+/// A command on the object in one file.
 pub(crate) trait ObjectCommand {
     ghost use Rattle.std.specs.Prelude.{◌≡◌, ◌≢◌};
     ghost use Rattle.ft_types.specs.declared.object.Object.{Object};
@@ -42,11 +42,11 @@ pub(crate) trait ObjectCommand {
         ensures { Ends result (answer self.now (P.object program.now))
             (K.log out.old) (K.log out.new) ⊥ };
 
-    // An answer for this file's bytes is one to the request, which loads no other file.
+    // An answer for this file's bytes answers the request, which loads no other file.
     ghost is_over_file: { (c : Self) → IsOverFile (request c) (file c) 67108864 (OverBytes (answer c)) };
 }
 
-/// A command over the object of one file, as one over the file.
+/// A command on the object in one file, as a command on the file.
 #[derive(Drop)]
 pub(crate) struct OverObject<C> {
     pub command: C,

@@ -19,7 +19,7 @@ use ft_text::Line;
 use ft_types::Program;
 use std::alloc::Global;
 
-/// The line of a restart after this many outputs.
+/// The line that reports a restart after this many outputs.
 fn again_line(count: u64) -> Line
     ensures { result ≡ again_line count }
 {
@@ -30,7 +30,7 @@ fn again_line(count: u64) -> Line
     line
 }
 
-/// Puts the line of a restart, if there was one.
+/// Writes the line that reports the restart, if there was one.
 fn put_again<K: Sink>(again: Option<u64>, out: &mut K) -> Result<(), Failed>
     ensures { Puts (end_of_puts result) (again_lines again) (K.log out.old) (K.log out.new) }
 {
@@ -52,7 +52,7 @@ fn again_of(end: RecoverEnd) -> Option<u64>
     }
 }
 
-/// How a command ends, from how its recovery ended.
+/// How a command ends, given how its recovery ended.
 fn ending_of_recovery(end: RecoverEnd) -> Ending
     ensures { result ≡ ending_of_recovery end }
 {
@@ -64,7 +64,7 @@ fn ending_of_recovery(end: RecoverEnd) -> Ending
     }
 }
 
-/// Runs a checked object, and again if a fault is detected.
+/// Runs a checked object, and runs it again if a fault is detected.
 fn recover_checked<P: Program, K: Sink>(
     alloc: Global,
     checked: &Checked<P>,
@@ -87,7 +87,7 @@ fn recover_checked<P: Program, K: Sink>(
     }
 }
 
-/// Runs an object that is accepted, and again if a fault is detected.
+/// Checks an object, runs it, and runs it again if a fault is detected.
 fn recover_object<P: Program, K: Sink>(alloc: Global, program: &P, run: &Run, out: &mut K) -> Ending
     requires { IsSpellable (P.object program.now) }
     ensures { Ends result (RecoversObject (run_view run.now) (P.object program.now))
@@ -100,7 +100,7 @@ fn recover_object<P: Program, K: Sink>(alloc: Global, program: &P, run: &Run, ou
     recover_checked(alloc, &checked, run, out)
 }
 
-/// The run of the object of a file, if it is accepted, and again if a fault is detected.
+/// The command that checks the object in a file, runs it, and runs it again if a fault is detected.
 #[derive(Drop)]
 pub(crate) struct RecoverCommand<'w> {
     pub run: Run<'w>,

@@ -8,7 +8,7 @@ use ft_rules::Why;
 use ft_syntax::SourceError;
 use ft_text::Line;
 
-/// The line of an object that is refused.
+/// The line for bytes that spell no object.
 pub(crate) fn object_line(error: ObjectError) -> Line
     ensures { result ≡ object_line error }
 {
@@ -21,7 +21,7 @@ pub(crate) fn object_line(error: ObjectError) -> Line
     line
 }
 
-/// The line of an entry block with which no run may begin.
+/// The line for an entry block in which no run may begin.
 pub(crate) fn entry_line() -> Line
     ensures { result ≡ check_line accepted.EntryType }
 {
@@ -30,7 +30,7 @@ pub(crate) fn entry_line() -> Line
     line
 }
 
-/// The line of a cell whose initial word does not have its type.
+/// The line for a cell whose initial word does not have its type.
 pub(crate) fn cell_line(cell: u32) -> Line
     ensures { result ≡ check_line (accepted.CellType cell) }
 {
@@ -41,7 +41,7 @@ pub(crate) fn cell_line(cell: u32) -> Line
     line
 }
 
-/// The line of an instruction whose row does not apply.
+/// The line for an instruction whose typing rule does not apply.
 pub(crate) fn place_line(block: u32, index: u32, why: Why) -> Line
     ensures { result ≡ check_line (accepted.Refused block index why) }
 {
@@ -56,7 +56,7 @@ pub(crate) fn place_line(block: u32, index: u32, why: Why) -> Line
     line
 }
 
-/// The line of a fault list, or of a campaign, that is refused.
+/// The line for a fault list, a campaign or a script that is refused.
 pub(crate) fn list_line(number: u64, told: u64) -> Line
     ensures { result ≡ list_line number told }
 {
@@ -69,7 +69,7 @@ pub(crate) fn list_line(number: u64, told: u64) -> Line
     line
 }
 
-/// The line of an assembly text that is refused.
+/// The line for an assembly text that is refused.
 pub(crate) fn asm_line(number: u64, told: u64) -> Line
     ensures { result ≡ asm_line number told }
 {
@@ -82,7 +82,7 @@ pub(crate) fn asm_line(number: u64, told: u64) -> Line
     line
 }
 
-/// The line of a link that is refused: by its map, a module or a line of the map.
+/// The line for a link that is refused: it gives a line of the map, a module or a limit.
 pub(crate) fn link_line(number: u64, told: u64) -> Line
     ensures { result ≡ link_line number told }
 {
@@ -95,7 +95,7 @@ pub(crate) fn link_line(number: u64, told: u64) -> Line
     line
 }
 
-/// The line of a code address used other than as a target, by the number of its module.
+/// The line for an instruction that uses a code address other than as a target, in the module with this number.
 pub(crate) fn link_code_line(number: u32, block: u32, index: u32) -> Line
     ensures { result ≡ link_code_line number block index }
 {
@@ -110,7 +110,7 @@ pub(crate) fn link_code_line(number: u32, block: u32, index: u32) -> Line
     line
 }
 
-/// The line of a source that is refused.
+/// The line for a source that is refused.
 pub(crate) fn source_line(error: SourceError) -> Line
     ensures { result ≡ source_line error }
 {

@@ -15,7 +15,7 @@ use ft_runs::Clean;
 use ft_types::Program;
 use std::alloc::Global;
 
-/// Runs an object that is accepted.
+/// Checks an object and runs it.
 fn run_object<P: Program, K: Sink>(alloc: Global, program: &P, run: &Run, out: &mut K) -> Ending
     requires { IsSpellable (P.object program.now) }
     ensures { Ends result (RunsObject (run_view run.now) (P.object program.now))
@@ -35,7 +35,7 @@ fn run_object<P: Program, K: Sink>(alloc: Global, program: &P, run: &Run, out: &
     ending_of_run(ft_runs::run(clean, plan, run.steps, out))
 }
 
-/// The run of the object of a file, if it is accepted.
+/// The command that checks the object in a file and runs it.
 #[derive(Drop)]
 pub(crate) struct RunCommand<'w> {
     pub run: Run<'w>,

@@ -12,7 +12,7 @@ use ft_sched::schedule;
 use ft_types::Program;
 use std::alloc::Global;
 
-/// Puts the schedule of an accepted object.
+/// Writes the schedule of an accepted object.
 fn put_schedule<'a, P: Program, K: Sink>(
     alloc: Global,
     checked: &Checked<'a, P>,
@@ -28,7 +28,7 @@ fn put_schedule<'a, P: Program, K: Sink>(
     }
 }
 
-/// Schedules an object that is accepted.
+/// Checks an object and writes its schedule.
 fn schedule_object<P: Program, K: Sink>(alloc: Global, program: &P, out: &mut K) -> Ending
     requires { IsSpellable (P.object program.now) }
     ensures { Ends result (SchedulesObject (P.object program.now))
@@ -40,7 +40,7 @@ fn schedule_object<P: Program, K: Sink>(alloc: Global, program: &P, out: &mut K)
     }
 }
 
-/// The schedule of the object of a file, if it is accepted.
+/// The command that checks the object in a file and writes its schedule.
 #[derive(Drop)]
 pub(crate) struct ScheduleCommand<'w> {
     pub object: &'w str,

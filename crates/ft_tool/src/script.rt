@@ -27,8 +27,7 @@ pub(crate) enum ScriptFault {
     NoMemory,
 }
 
-/// Reads the script to its end, or to one byte past the limit. It is not read after its end, nor after a take that
-/// failed.
+/// Reads the script to its end, or to one byte past the limit. It is not read after its end, nor after a failed take.
 pub(crate) fn take_script<I: Source>(alloc: Global, script: &mut I) -> Result<Vec<u8>, ScriptFault>
     ensures takes { TakesScript (λ v. v.items) (I.log script.old).left result }
     ensures cause { TakeCause (I.log script.old).failures (I.log script.new).failures result }

@@ -24,7 +24,7 @@ use std::alloc::Global;
 use std::marker::Brand;
 use std::sync::ledger::{Blank, Ledger};
 
-/// A campaign on an object that is not checked, with a counter of its own.
+/// Runs a campaign on an object without checking it, with a step counter of its own.
 fn survey_counted<P: Program, K: Sink, L: Ledger>(
     alloc: Global,
     program: &P,
@@ -54,7 +54,7 @@ fn survey_counted<P: Program, K: Sink, L: Ledger>(
     )
 }
 
-/// The verdicts of faults on an object that is not checked.
+/// Tries faults on an object without checking it, and writes their verdicts.
 fn survey_faults<P: Program, K: Sink>(
     alloc: Global,
     program: &P,
@@ -82,7 +82,7 @@ fn survey_faults<P: Program, K: Sink>(
     }
 }
 
-/// An object that is not checked, on which faults are tried.
+/// An unchecked object on which faults are tried.
 #[derive(Drop)]
 struct UncheckedTarget<'a, P> {
     program: &'a P,
@@ -109,7 +109,7 @@ impl<'a, P: Program> Target for UncheckedTarget<'a, P> {
     }
 }
 
-/// Loads an object and tries a fault list on it without checking it.
+/// Loads an object and, without checking it, tries a fault list on it.
 pub(crate) fn survey_file<F: Shelf, K: Sink>(
     alloc: Global,
     asked: &Campaign,

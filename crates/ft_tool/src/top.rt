@@ -1,4 +1,4 @@
-//! The top call.
+//! The tool's entry point.
 ghost use Rattle.std.specs.Prelude.{◌≡◌, ◌≢◌, ◌⊎◌, [], map, string_bytes, IsTrue};
 ghost use Rattle.ft_edge.specs.Logs.{NoLoadFails};
 ghost use Rattle.ft_tool.specs.Calls.{HasMade, is_early, Loads, TakesFrom};
@@ -102,7 +102,7 @@ fn carry_out<F: Shelf, I: Source, K: Sink>(
     }
 }
 
-/// Obeys the command line, with the files of a shelf, and returns the program's status. Only `debug` reads the script.
+/// Carries out a command line with the files of a shelf, and returns the exit status. Only `debug` reads the script.
 pub fn tool<F: Shelf, I: Source, K: Sink>(
     alloc: Global,
     words: &[String],
@@ -112,40 +112,41 @@ pub fn tool<F: Shelf, I: Source, K: Sink>(
 ) -> u8
     ensures status { IsTrue (is_status result) }
 
-    // Each piece of the answer of the command that the words ask for was put with one put, and the status is its
-    // status. So a source is compiled exactly if its text has a program: to an object that is accepted and whose run
-    // commits what the program means and ends when that does. After each number of steps, the run of an accepted object
-    // under its plan has exactly what the run without the strike has, or it is detected and has a prefix of that. A
-    // recovery puts the whole output of the run without the strike. The object linked from accepted modules is accepted
-    // and runs as they do.
+    // The answer of the command that the words ask for was written, each piece with one put, and the result is its
+    // status. So a source is compiled exactly if its text is a program, to an accepted object whose run commits what
+    // the program means and ends when the meaning ends. After each number of steps, the run of an accepted object under
+    // its plan has the outputs and the status of the run without the strike, or it is detected and its outputs are a
+    // prefix of those. A recovery writes the whole output of the run without the strike. The object linked from
+    // accepted modules is accepted and runs as they do.
     ensures headline { result ≢ 3 → result ≢ 4 → result ≢ 5 →
         Concludes (IsAnswer (map string_bytes words.now) (F.log shelf.old).files (I.log script.old).left) result
         (K.log out.old) (K.log out.new) }
     ensures usage { result ≡ 2 → Asks (map string_bytes words.now) Usage }
 
-    // A load of the command's own file failed, or a take of its script, and nothing was put.
+    // A load of one of the command's files failed, or a take of its script, and nothing was written.
     ensures load_failure { result ≡ 3 →
         FailedToLoad (map string_bytes words.now) (F.log shelf.old) (F.log shelf.new)
         ⊎ FailedToTake (map string_bytes words.now) (F.log shelf.old).files
         (I.log script.old) (I.log script.new) }
     ensures load_failure_puts_nothing { result ≡ 3 → K.log out.new ≡ K.log out.old }
 
-    // A put failed, and it was the last: the pieces before it were put, and a prefix of its own. The count of failed
-    // puts rose.
+    // A put failed and was the last: all earlier pieces were written, and a prefix of the piece that failed. The count
+    // of failed puts rose.
     ensures write_failure { result ≡ 4 →
         BreaksOff (IsAnswer (map string_bytes words.now) (F.log shelf.old).files (I.log script.old).left)
         (K.log out.old) (K.log out.new) }
 
-    // Nothing was put. This status is meant for memory that ran out.
+    // Nothing was written. This status is meant for running out of memory.
     ensures no_memory_puts_nothing { result ≡ 5 → K.log out.new ≡ K.log out.old }
 
     // The count of failed puts is unchanged with any status but 4.
     ensures write_failures { result ≢ 4 → (K.log out.new).failures ≡ (K.log out.old).failures }
 
-    // The counts of failed loads and takes are unchanged with any status but 3. The script is read only in a session
-    // on an object, at most 1,048,577 bytes of it, and never again after its end or a failure. Each file is loaded
-    // once, in the order of the request and up to its limit, and a fault list or a module exactly if the command gets
-    // to it; with statuses 3 and 5 that load may be missing, and with status 5 every load.
+    // The counts of failed loads and takes are unchanged with any status but 3. The script is read only in a session on
+    // an object, at most 1,048,577 bytes of it, and never again after its end or a failure. Only the files that the
+    // request names are loaded, in its order and each up to its limit; a fault list or a module is loaded exactly if
+    // the command gets to it, except that a fault list with the object's name is not loaded again. With statuses 3 and
+    // 5, loads of fault lists and modules may be missing; with status 5, all loads may be.
     ensures load_failures { result ≢ 3 → NoLoadFails (F.log shelf.old) (F.log shelf.new) }
     ensures script { TakesFrom (map string_bytes words.now) (F.log shelf.old).files
         (I.log script.old) (I.log script.new) ⊎ (script.new ≡ script.old) }

@@ -36,7 +36,7 @@ pub(crate) fn trial_object<P: Program, K: Sink>(
     ending_of_run(drive(&mut machine, program, plan, run.steps, out))
 }
 
-/// The run of the object of a file, which is not checked.
+/// The command that runs the object in a file without checking it.
 #[derive(Drop)]
 pub(crate) struct TrialCommand<'w> {
     pub run: Run<'w>,

@@ -11,7 +11,7 @@ use ft_edge::{Sink, put_line};
 use ft_link_map::MapError;
 use ft_linker::LinkError;
 
-/// Puts the line of a link that is refused.
+/// Writes the line for a link that is refused.
 pub(crate) fn put_link_line<K: Sink>(number: u64, told: u64, out: &mut K) -> Ending
     ensures { Ends result (λ a. a ≡ one_piece (link_line number told) 13)
         (K.log out.old) (K.log out.new) ⊥ }
@@ -22,7 +22,7 @@ pub(crate) fn put_link_line<K: Sink>(number: u64, told: u64, out: &mut K) -> End
     }
 }
 
-/// Puts the line of a code address used other than as a target, by the number of its module.
+/// Writes the line for an instruction that uses a code address other than as a target, in the module with this number.
 fn put_code_line<K: Sink>(number: u32, block: u32, index: u32, out: &mut K) -> Ending
     ensures { Ends result (λ a. a ≡ one_piece (link_code_line number block index) 13)
         (K.log out.old) (K.log out.new) ⊥ }
@@ -33,7 +33,7 @@ fn put_code_line<K: Sink>(number: u32, block: u32, index: u32, out: &mut K) -> E
     }
 }
 
-/// Ends a link whose modules are refused, with the line of the refusal.
+/// Ends a link whose modules are refused: writes the line of the refusal.
 pub(crate) fn refuse_modules<K: Sink>(error: LinkError, out: &mut K) -> Ending
     ensures { Ends result (IsUnlinkedBy error) (K.log out.old) (K.log out.new) ⊥ }
 {
@@ -54,7 +54,7 @@ pub(crate) fn refuse_modules<K: Sink>(error: LinkError, out: &mut K) -> Ending
     }
 }
 
-/// Ends a link whose map is refused, with the line of the refusal.
+/// Ends a link whose map is refused: writes the line of the refusal.
 pub(crate) fn refuse_map<K: Sink>(error: MapError, out: &mut K) -> Ending
     ensures { Ends result (IsMapRefused error) (K.log out.old) (K.log out.new) ⊥ }
 {

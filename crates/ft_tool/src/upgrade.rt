@@ -10,7 +10,7 @@ use ft_edge::Sink;
 use ft_object::{ObjectError, decode};
 use std::alloc::Global;
 
-/// Decodes an object and puts it in version 2 of the format.
+/// Decodes an object and writes it in version 2 of the format.
 fn upgrade_bytes<K: Sink>(alloc: Global, bytes: &[u8], out: &mut K) -> Ending
     ensures { Ends result (OverBytes UpgradesObject bytes.now)
         (K.log out.old) (K.log out.new) ⊥ }
@@ -21,7 +21,7 @@ fn upgrade_bytes<K: Sink>(alloc: Global, bytes: &[u8], out: &mut K) -> Ending
     }
 }
 
-/// The object of a file, in version 2 of the format.
+/// The command that writes the object in a file in version 2 of the format.
 #[derive(Drop)]
 pub(crate) struct UpgradeCommand<'w> {
     pub object: &'w str,

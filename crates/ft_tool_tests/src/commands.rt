@@ -69,7 +69,7 @@ fn commands_over_texts(rt: HostRuntime) -> Result<(), Fail> {
     Ok(())
 }
 
-/// Commands that write an object, over the text under their name.
+/// Commands that write an object.
 const WRITERS: &[&str] = &[
     "compile source",
     "asm five",
@@ -78,7 +78,7 @@ const WRITERS: &[&str] = &[
     "link one",
 ];
 
-/// Texts that these read.
+/// The texts that they read.
 const READ: &[(&str, &[u8])] = &[
     ("source", b"cell out = 0; out = 7;"),
     (

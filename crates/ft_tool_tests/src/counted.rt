@@ -1,5 +1,5 @@
-//! A late fault on the object of an endless counter: its verdict, the steps that it costs and the
-//! instructions that are fetched for it.
+//! A late fault on the object of an endless counter: its verdict, the steps that it costs and the instructions fetched
+//! for it.
 ghost use Rattle.std.specs.Prelude.{◌≡◌, ◌+◌, ◌≤◌, ◌<◌};
 ghost use Rattle.ft_types.specs.Spellable.{IsSpellable};
 
@@ -111,7 +111,7 @@ fn counter(rt: &impl AllocGlobal) -> Result<Vec<u8>, Fail> {
     Ok(sink.written().to_vec(rt.alloc())?)
 }
 
-/// The fault before step 99,000 that puts 1 into a register that is written before it is read.
+/// The fault before step 99,000 that puts 1 into a register that is overwritten before it is read.
 fn late_fault(r40: Reg) -> Strike
     ensures { result.step ≡ 99000 }
 {
@@ -174,7 +174,7 @@ fn check_and_repeat<P: Program, L: Ledger>(
     Ok(campaign(alloc, &checked, &[fault; 10], &[], 100_000, out, &mut steps))
 }
 
-/// The totals of `count` faults that are masked.
+/// The totals of `count` masked faults.
 fn all_masked(count: u32) -> CampaignEnd {
     CampaignEnd::Finished(Totals {
         masked: count,

@@ -1,9 +1,8 @@
-//! Tests of the top call, over files in memory: each command once, loads, takes and puts that fail, and
-//! how many instructions late faults of a campaign cost.
+//! Tests of the top-level call, over files in memory: each command once; loads, takes and puts that fail; and how many
+//! instructions late faults of a campaign cost.
 //!
-//! The crate has only tests, since a crate with tests is proved twice. A row has the words, the text that
-//! is written and the status. The values come from the definitions and from another implementation, not
-//! from this one's output.
+//! The crate has only tests, since a crate with tests is proved twice. A row has the words, the text written and the
+//! status. The values come from the definitions and from another implementation, not from this one's output.
 #![tactic(auto)]
 
 #[cfg(test)]

@@ -3,7 +3,7 @@ use Rattle.std.proofs.Common.{◌≡◌, ◌<◌, ◌≤◌, ℕ, zero, suc, Lis
 use Rattle.ft_types.specs.declared.object.Block.{Block}
 use Rattle.ft_types.specs.Spellable.{AreBlocks}
 
--- a block begins at the least place or after it
+-- no block begins before `least`
 pub above_least : (end least : ℕ) (bs : List Block) (i : ℕ) (x : Block) → AreBlocks end least bs → slice_get bs i
     ≡ Some x → least ≤ x.start
 above_least end least [] i x h e = cc

@@ -1,11 +1,11 @@
--- An object that obeys the rules of its tables is short enough to be counted.
+-- The lists of a spellable object are short enough to be counted.
 use Rattle.std.proofs.Common.{length, arith}
 use Rattle.std.proofs.lemmas.List.Sums.{get_or-le-sum_by}
 use Rattle.ft_types.specs.declared.object.Object.{Object}
 use Rattle.ft_types.specs.Objects.{IsCounted, regs_of, queue_of}
 use Rattle.ft_types.specs.Spellable.{IsSpellable}
 
--- an object that is spellable is counted
+-- a spellable object is counted
 pub spellable_counted : (o : Object) → IsSpellable o → IsCounted o
 spellable_counted o h = record {
   cells = omega (arith, h.few_cells);

@@ -1,4 +1,4 @@
--- The numbers that stand for a node, and the two words that they make.
+-- The numbers that encode a node, and the two words that they make up.
 use Rattle.std.specs.Prelude.{ℕ, ◌+◌, ◌*◌, ◌/◌, ◌%◌, ◌^◌, List, [], ◌∷◌}
 use Rattle.ft_isa.specs.Operations.{op_code}
 use Rattle.ft_static.specs.declared.node.Node.{Node}
@@ -13,11 +13,11 @@ high_half w = w / 2 ^ 32
 abbrev pub low_half : ℕ → ℕ
 low_half w = w % 2 ^ 32
 
--- a word, by its two halves
+-- a word, from its two halves
 abbrev pub joined : ℕ → ℕ → ℕ
 joined high low = high * 2 ^ 32 + low
 
--- a node, by its scope and its shape
+-- the numbers of a node with this scope and shape
 abbrev pub shape_row : ℕ → Shape → List ℕ
 shape_row scope (Word w) = 0 ∷ 0 ∷ scope ∷ 0 ∷ 0 ∷ high_half w ∷ low_half w ∷ []
 shape_row scope (Var i) = 1 ∷ 0 ∷ scope ∷ 0 ∷ i ∷ 0 ∷ 0 ∷ []
@@ -27,7 +27,7 @@ shape_row scope Memory = 4 ∷ 0 ∷ scope ∷ 0 ∷ 0 ∷ 0 ∷ 0 ∷ []
 shape_row scope (Upd memory at value) = 5 ∷ 0 ∷ scope ∷ 0 ∷ memory ∷ at ∷ value ∷ []
 shape_row scope (Rem a m) = 6 ∷ 0 ∷ scope ∷ 0 ∷ a ∷ m ∷ 0 ∷ []
 
--- a node
+-- the numbers of a node
 abbrev pub node_row : Node → List ℕ
 node_row n = shape_row n.scope n.shape
 

@@ -114,11 +114,11 @@ scope_of_node n = n.scope
 abbrev pub scope_of : Object → ℕ → ℕ
 scope_of o n = unwrap_or (option_map scope_of_node (slice_get o.nodes n)) 0
 
--- the initial word of an existing cell
+-- the initial word of a cell, 0 if it does not exist
 abbrev pub init_or_zero : Option CellHead → ℕ
 init_or_zero None = 0
 init_or_zero (Some head) = head.init
 
--- the initial word of cell k
+-- the initial word of cell k, 0 if it does not exist
 abbrev pub init_of : Object → ℕ → ℕ
 init_of o k = init_or_zero (option_map cell_head_of (slice_get o.cells k))

@@ -1,5 +1,5 @@
--- The rules that an object's tables obey, those of version 2 of the format; an object that obeys them is spelled by
--- some bytes.
+-- The rules that an object's tables obey, which are those of version 2 of the format. Any object that obeys them can be
+-- spelled in bytes.
 use Rattle.std.specs.Prelude.{◌≡◌, ◌≢◌, ℕ, suc, ◌+◌, ◌<◌, ◌≤◌, Bool, true, false, ◌&&◌, ◌||◌, ◌==◌, nat_le, List, [], ◌∷◌, length, map, sum_by, Option, Some, None, All}
 use Rattle.std.specs.List.{list_all, AllPairs}
 use Rattle.ft_isa.specs.Words.{IsWord}
@@ -30,7 +30,7 @@ is_digit b = nat_le 48 b && nat_le b 57
 abbrev pub is_bracket : ℕ → Bool
 is_bracket b = (b == 91) || (b == 93)
 
--- a byte that is allowed in a name
+-- a byte allowed in a name
 abbrev pub is_name_byte : ℕ → Bool
 is_name_byte b = is_letter b || is_digit b || is_bracket b
 
@@ -56,7 +56,7 @@ pub record IsCell (types : ℕ) (c : Cell) : Type 0 where
   pub basic : IsBasic types c.basic
   pub init : IsWord c.init
 
--- n is the number of a node of this sort and of at most this scope
+-- n is the number of a node of this sort, with at most this scope
 abbrev pub IsNodeIn : List Node → ℕ → Bool → ℕ → Type 0
 IsNodeIn nodes scope memory n = MayName nodes (length nodes) scope memory n
 
@@ -65,7 +65,7 @@ pub record IsRegRow (types : ℕ) (nodes : List Node) (scope : ℕ) (r : RegType
   pub basic : IsBasic types r.basic
   pub expr : IsNodeIn nodes scope false r.expr
 
--- the registers of these rows increase, and none is below the least
+-- the register numbers of these rows increase, and none is below `least`
 abbrev pub AreRising : ℕ → List RegType → Type 0
 AreRising least [] = Unit {0}
 AreRising least (r ∷ rs) = (least ≤ r.reg.number) × AreRising (suc r.reg.number) rs
@@ -75,8 +75,8 @@ pub record IsQueueRow (nodes : List Node) (scope : ℕ) (q : ℕ × ℕ) : Type 
   pub address : IsNodeIn nodes scope false q.0
   pub value : IsNodeIn nodes scope false q.1
 
--- a code type has at most 128 integer variables and 8 queue rows, and its rows and its memory are within
--- the scope of the variables
+-- a code type has at most 128 integer variables and 8 queue rows, its register rows are in increasing order, and its
+-- rows and its memory are within the scope of the variables
 pub record IsCodeType (types : ℕ) (nodes : List Node) (t : CodeType) : Type 0 where
   pub ints : t.ints ≤ 128
   pub regs : All (IsRegRow types nodes t.ints) t.regs
@@ -89,12 +89,12 @@ pub record IsCodeType (types : ℕ) (nodes : List Node) (t : CodeType) : Type 0 
 abbrev pub HasCodeType : ℕ → Block → Type 0
 HasCodeType types b = b.code_type < types
 
--- these blocks begin one after the other, none before the least place, and all below the end
+-- these blocks begin in increasing order, none before `least`, and all before `end`
 abbrev pub AreBlocks : ℕ → ℕ → List Block → Type 0
 AreBlocks end least [] = Unit {0}
 AreBlocks end least (b ∷ bs) = (least ≤ b.start) × (b.start < end) × AreBlocks end (suc b.start) bs
 
--- there is a first block, which begins at instruction 0, and the others begin after it
+-- there is a first block, and it begins at instruction 0
 abbrev pub BeginAtZero : List Block → Type 0
 BeginAtZero [] = ⊥
 BeginAtZero (b ∷ bs) = b.start ≡ 0
@@ -105,7 +105,7 @@ pub record IsRun (cells first m : ℕ) : Type 0 where
   pub length : IsLength m
   pub ends : first + m ≤ cells
 
--- the rules for an instruction by itself: its number is a word, its basic type is valid, and its cells exist
+-- the rules for a single instruction: its number is a word, its basic type is valid, and its cells exist
 abbrev pub IsInstr : ℕ → ℕ → Instr → Type 0
 IsInstr types cells (OpWord op rd rs value) = IsWord value.word
 IsInstr types cells (Mov rd value basic) = IsWord value.word × IsBasic types basic
@@ -118,7 +118,7 @@ subst_of (JmpB rd subst) = Some subst
 subst_of (BzB rz rd subst) = Some subst
 subst_of i = None
 
--- a substitution takes the rows that follow the first ones, at most 128 of all there are, and names a memory
+-- a substitution takes the rows from number `first` on, at most 128 of those that exist, and names a memory
 pub record IsSubst (nodes : List Node) (rows first : ℕ) (s : Subst) : Type 0 where
   pub first_is : s.first ≡ first
   pub rising : s.first ≤ s.past
@@ -126,7 +126,7 @@ pub record IsSubst (nodes : List Node) (rows first : ℕ) (s : Subst) : Type 0 w
   pub few : s.past ≤ s.first + 128
   pub memory : IsNodeIn nodes 128 true s.memory
 
--- the substitution of an instruction that carries one, before those that follow
+-- adds an instruction's substitution, if it carries one, before those that follow
 abbrev pub before : Option Subst → List Subst → List Subst
 before None ss = ss
 before (Some s) ss = s ∷ ss
@@ -136,7 +136,7 @@ abbrev pub substs_of : List Instr → List Subst
 substs_of [] = []
 substs_of (i ∷ is) = before (subst_of i) (substs_of is)
 
--- these substitutions take the rows from the first ones, each in turn, up to the last
+-- these substitutions, one after another, take exactly the rows from number `first` to the last
 abbrev pub Cover : List Node → ℕ → ℕ → List Subst → Type 0
 Cover nodes rows first [] = first ≡ rows
 Cover nodes rows first (s ∷ ss) = IsSubst nodes rows first s × Cover nodes rows s.past ss
@@ -148,7 +148,7 @@ reg_row_count ts = sum_by (λ t. length (regs_of t)) ts
 abbrev pub queue_row_count : List CodeType → ℕ
 queue_row_count ts = sum_by (λ t. length (queue_of t)) ts
 
--- an object that some bytes spell: every table obeys its rules
+-- an object that can be spelled in bytes: every table obeys its rules
 pub record IsSpellable (o : Object) : Type 0 where
   pub few_cells : length o.cells ≤ 1024
   pub cells : All (IsCell (length o.types)) o.cells

@@ -6,7 +6,7 @@ use Rattle.ft_isa.specs.declared.output.Output.{Output}
 use Rattle.ft_types.specs.declared.object.Object.{Object}
 use Rattle.ft_types.specs.Objects.{name_of}
 
--- the name of the cell at an address, which is a cell's: an output goes only to cells
+-- the name of the cell at an address; an output's address is always that of a cell
 abbrev pub name_at : Object → ℕ → List ℕ
 name_at o a = unwrap_or (option_map name_of (slice_get o.cells (a - cell_address 0))) []
 

@@ -1,4 +1,4 @@
-//! A program's object as a value of its own.
+//! Copies of a program's object.
 ghost use Rattle.std.specs.Prelude.{◌≡◌, ◌<◌, Some, IfOk, length, slice_get};
 ghost use Rattle.ft_types.specs.Spellable.{IsSpellable};
 
@@ -100,7 +100,7 @@ fn copy_whole<P: Program>(alloc: Global, program: &P) -> Result<Object, AllocErr
     copy_parts(alloc, program, Table::from_vec(instrs))
 }
 
-/// A copy of a program's cells, in their order.
+/// A copy of a program's cells, in order.
 pub fn copy_cells<P: Program>(alloc: Global, program: &P) -> Result<Table<Cell>, NoMemory>
     requires { IsSpellable (P.object program.now) }
     ensures { IfOk result (λ t. t ≡ (P.object program.now).cells) }
@@ -111,7 +111,7 @@ pub fn copy_cells<P: Program>(alloc: Global, program: &P) -> Result<Table<Cell>,
     }
 }
 
-/// A copy of the object that a program stands for.
+/// A copy of the object that a program represents.
 pub fn copy_object<P: Program>(alloc: Global, program: &P) -> Result<Object, NoMemory>
     requires { IsSpellable (P.object program.now) }
     ensures { IfOk result (λ s. s ≡ P.object program.now) }
@@ -122,7 +122,7 @@ pub fn copy_object<P: Program>(alloc: Global, program: &P) -> Result<Object, NoM
     }
 }
 
-/// A copy of the object that a program stands for, with these instructions in place of its own.
+/// A copy of the object that a program represents, with these instructions in place of its own.
 pub fn copy_with_instrs<P: Program>(
     alloc: Global,
     program: &P,

@@ -1,9 +1,9 @@
 //! Objects and programs: an object's tables, and how to read them.
 //!
-//! The crate promises that an object returns its parts exactly as its tables hold them. It defines the
-//! parts of an object (`specs/Objects.antt`), the numbers that stand for a node (`specs/NodeRows.antt`),
-//! the objects that have bytes (`specs/Spellable.antt`) and the line of an output (`specs/Texts.antt`). A
-//! copy of a program is the object that the program stands for, or that object with other instructions.
+//! The crate promises that an object returns its parts exactly as its tables hold them. It defines the parts of an
+//! object (`specs/Objects.antt`), the numbers that encode a node (`specs/NodeRows.antt`), which objects can be spelled
+//! in bytes (`specs/Spellable.antt`) and the line of an output (`specs/Texts.antt`). A copy of a program is the object
+//! that the program represents, or that object with other instructions.
 #![tactic(auto)]
 
 mod copying;

@@ -13,9 +13,9 @@ pub struct RegType {
     pub expr: u32,
 }
 
-/// What holds where a block of this type begins: the number of its integer variables (0 to 128), the registers that
-/// have a type, in increasing order, the pairs of address node and value node that wait in the store queue, oldest
-/// first (at most 8), and the node of the memory.
+/// What holds at the start of a block of this type: the number of its integer variables (0 to 128); the registers that
+/// have a type, in increasing order; the pairs of address node and value node in the store queue, oldest first (at most
+/// 8); and the node of the memory.
 #[derive(Drop)]
 pub struct CodeType {
     pub ints: u8,
@@ -24,16 +24,15 @@ pub struct CodeType {
     pub memory: u32,
 }
 
-/// A block: the number of its first instruction, and the number of its code type. It goes up to the
-/// next block, or to the last instruction.
+/// A block: the number of its first instruction, and the number of its code type. It extends to the next block, or to
+/// the last instruction.
 #[derive(Clone, Copy, Debug, PartialEq, Eq)]
 pub struct Block {
     pub start: u32,
     pub code_type: u32,
 }
 
-/// A named word of memory: a name of 1 to 40 bytes, the basic type that its word keeps, and the word
-/// that it has at the start.
+/// A named word of memory: a name of 1 to 40 bytes, the basic type of its word, and its initial word.
 #[derive(Drop)]
 pub struct Cell {
     pub name: Table<u8>,
@@ -41,8 +40,8 @@ pub struct Cell {
     pub init: u64,
 }
 
-/// Code with its types, its blocks and its cells, and the number of the block in which a run begins. The rows that blue
-/// jumps and branches substitute for variables are nodes, in the order of the code.
+/// Code with its types, its blocks and its cells, and the number of the block in which a run begins. `substs` has the
+/// nodes that blue jumps and branches substitute for variables, in the order of the code.
 #[derive(Drop)]
 pub struct Object {
     pub cells: Table<Cell>,

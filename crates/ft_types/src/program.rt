@@ -1,4 +1,4 @@
-//! Programs: objects, however they are kept.
+//! Programs: objects in any representation.
 ghost use Rattle.std.specs.Prelude.{◌≡◌, ◌<◌, ◌*◌, ◌/◌, ◌^◌, Some, length, slice_get};
 ghost use Rattle.std.specs.Option.{option_map};
 ghost use Rattle.ft_types.specs.Objects.{block_end};
@@ -9,10 +9,10 @@ use crate::words::node_words;
 use ft_isa::Instr;
 use ft_static::{Node, Nodes};
 
-/// The bytes of an instruction in the object format.
+/// The size of an instruction in the object format, in bytes.
 pub const INSTR_BYTES: usize = 16;
 
-/// An object, however it is kept. Its meaning is one `Object`, and each call returns a part of it.
+/// An object in any representation. It represents one `Object`, and each call returns a part of that.
 pub trait Program: Nodes {
     ghost use Rattle.ft_types.specs.NodeRows.{node_words};
     ghost use Rattle.ft_types.specs.Objects.{IsCounted, cell_head_of, name_of, type_head_of, reg_rows, queue_rows};
@@ -20,15 +20,15 @@ pub trait Program: Nodes {
 
     ghost object: { Self → Object };
 
-    /// What a loop keeps while it fetches instructions one after the other: a slice of their records, say, so that no
-    /// fetch has to find them again.
+    /// What a loop keeps while it fetches one instruction after another: for instance a slice of their records, so that
+    /// no fetch has to find them again.
     type Code: Copy;
 
-    // What a loop keeps is the result of `code` for the program. An implementation whose `fetch` does not read it
-    // may allow anything.
+    // Whether a value is the result of `code` for the program. An implementation whose `fetch` does not read it may
+    // allow any value.
     ghost is_code: { Self → Self.Code → Type 0 };
 
-    /// How many there are of each kind of part.
+    /// How many parts of each kind there are.
     fn counts(&self) -> Counts
         requires { IsCounted (object self.now) }
         ensures cells { result.cells ≡ length (object self.now).cells }
@@ -50,8 +50,8 @@ pub trait Program: Nodes {
     fn code(&self) -> Self::Code
         ensures { is_code self.now result };
 
-    /// The instruction `at` bytes after the first one, where each takes `INSTR_BYTES`, from the result of `code`. A
-    /// loop counts these bytes, so that no fetch has to multiply.
+    /// The instruction `at` bytes after the first one, from the result of `code`; each instruction takes `INSTR_BYTES`
+    /// bytes. A loop counts these bytes, so that no fetch has to multiply.
     fn fetch(&self, code: Self::Code, at: usize) -> Instr
         requires there { at / 16 < length (object self.now).instrs }
         requires whole { at ≡ 16 * (at / 16) }
@@ -96,8 +96,7 @@ pub trait Program: Nodes {
         requires { k < length (object self.now).cells }
         ensures { option_map name_of (slice_get (object self.now).cells k) ≡ Some result.now };
 
-    /// Node `n` as two words that hold the whole of it: the two halves of its record in the object
-    /// format, each a big-endian number.
+    /// Node `n` as two words: the two halves of its record in the object format, each read as a big-endian number.
     fn node_words(&self, n: u32) -> (u64, u64)
         requires { n < length (Self.nodes self.now) }
         ensures { option_map node_words (slice_get (Self.nodes self.now) n) ≡ Some result }

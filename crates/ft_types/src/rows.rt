@@ -22,7 +22,7 @@ pub fn copy_nodes<P: Program>(alloc: Global, program: &P) -> Result<Vec<Node>, A
     Ok(nodes)
 }
 
-/// All register rows of code type `t`, which are this many.
+/// All register rows of code type `t`; `count` is their number.
 #[tactic(auto, using(crate::proofs::Copies::grown))]
 pub fn copy_regs<P: Program>(
     alloc: Global,
@@ -41,7 +41,7 @@ pub fn copy_regs<P: Program>(
     Ok(regs)
 }
 
-/// All queue rows of code type `t`, which are this many.
+/// All queue rows of code type `t`; `count` is their number.
 #[tactic(auto, using(crate::proofs::Copies::grown))]
 pub fn copy_queue<P: Program>(
     alloc: Global,

@@ -1,4 +1,4 @@
-//! Tables: lists of values that contracts see as lists.
+//! Tables: vectors that contracts see as lists.
 ghost use Rattle.std.specs.Prelude.{◌≡◌, ◌<◌, [], Some, length, slice_get};
 
 use std::alloc::Global;

@@ -4,7 +4,7 @@ ghost use Rattle.ft_types.specs.NodeRows.{high_half, joined, low_half, node_word
 
 use ft_static::{Node, Shape};
 
-/// A word by its two halves.
+/// A word from its two halves.
 #[inline(always)]
 pub fn joined(high: u32, low: u32) -> u64
     ensures { result ≡ joined high low }
@@ -61,7 +61,7 @@ pub fn shape_numbers(shape: Shape) -> ShapeNumbers
     ShapeNumbers { kind, op, a, b, c }
 }
 
-/// A node as two words that hold the whole of it.
+/// A node as two words.
 pub(crate) fn node_words(node: Node) -> (u64, u64)
     ensures { result ≡ node_words node }
 {

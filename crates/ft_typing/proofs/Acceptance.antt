@@ -1,4 +1,4 @@
--- An object is accepted exactly when nothing of it is refused.
+-- An object is accepted exactly when no part of it is refused.
 use Rattle.std.proofs.Common.{◌≡◌, ℕ, zero, suc, ◌+◌, Bool, true, false, List, [], ◌∷◌, Option, Some, None, refl, sym}
 use Rattle.std.proofs.Common.{ap, ◌∙◌, subst, arith, eqb-true, eq-eqb, slice_get}
 use Rattle.std.specs.Prelude.{Decides, ◌↔◌, if◌then◌else◌}
@@ -41,7 +41,7 @@ is_memory_variable_is o n (Some x) f = (
       (is_variable_is x.shape).1 (ap (λ (y : Node). y.shape) (sym same) ∙ h.shape),
 )
 
--- the test of a code type with which a run may begin decides it
+-- `is_entry_type` decides whether a run may begin with a code type
 pub is_entry_type_decides : (o : Object) (t : ℕ) → Decides (is_entry_type o t) (IsEntryType o t)
 unfolding is_entry_type
 is_entry_type_decides o t = (
@@ -61,7 +61,7 @@ is_entry_type_decides o t = (
 
 -- THE WALK OF A BLOCK
 
--- the row and those after it
+-- if the walk refuses neither this row nor those after it, all of them apply
 walked : (o : Object) (c : Context) (k : ℕ) (i : Instr) (is : List Instr) (x : Outcome) → row o c i ≡ x →
     ((d : Context) → walk o d (suc k) is ≡ None → Applies o d is) → after_row x k is (λ d. walk o d (suc k) is) ≡ None →
     Applies o c (i ∷ is)
@@ -78,7 +78,7 @@ unfolding walk
 applies_walked o c k [] w = cc
 applies_walked o c k (i ∷ is) w = walked o c k i is (row o c i) refl (λ d. applies_walked o d (suc k) is) w
 
--- the verdict of the walk after a row that goes on
+-- if a row goes on and the walk of the rest refuses nothing, the walk from this row on refuses nothing
 after_goes : (o : Object) (d : Context) (k : ℕ) (is : List Instr) (x : Outcome) → x ≡ Goes d → Applies o d is →
     walk o d (suc k) is ≡ None → after_row x k is (λ d. walk o d (suc k) is) ≡ None
 unfolding after_row
@@ -94,12 +94,12 @@ walk_applied o c k (i ∷ is) (next_row d e a) = after_goes o d k is (row o c i)
 
 -- FIRST REFUSALS
 
--- neither of two is there
+-- if `option_or` gives nothing, neither option has a value
 pub or_parts : {A : Type 0} (x y : Option A) → option_or x y ≡ None → (x ≡ None) × (y ≡ None)
 or_parts None y e = (refl, e)
 or_parts (Some a) y e = cc
 
--- if nothing is refused, each is not
+-- if there is no first refusal, no element is refused
 first_none : {X : Type 0} (refuse : ℕ → X → Option Refusal) (k : ℕ) (xs : List X) → first_refusal refuse k xs ≡ None →
     (n : ℕ) (x : X) → slice_get xs n ≡ Some x → refuse (k + n) x ≡ None
 unfolding first_refusal
@@ -114,7 +114,7 @@ first_none refuse k (y ∷ ys) e (suc n) x f =
     let here : k + suc n ≡ suc k + n = omega arith in
     rw here (first_none refuse (suc k) ys p.1 n x f)
 
--- if each is not refused, nothing is
+-- if no element is refused, there is no first refusal
 none_first : {X : Type 0} (refuse : ℕ → X → Option Refusal) (k : ℕ) (xs : List X) →
     ((n : ℕ) (x : X) → slice_get xs n ≡ Some x → refuse (k + n) x ≡ None) → first_refusal refuse k xs ≡ None
 unfolding first_refusal
@@ -125,9 +125,9 @@ none_first refuse k (y ∷ ys) h =
     rw first (none_first refuse (suc k) ys (λ n x f. let there : k + suc n ≡ suc k + n = omega arith in
     subst (λ z. refuse z x ≡ None) there (h (suc n) x f)))
 
--- THE WHOLE
+-- THE WHOLE OBJECT
 
--- a cell that is not refused has its type
+-- a cell is not refused exactly when its initial word has its type
 cell_typed : (o : Object) (k : ℕ) (x : Cell) → Decides (has_type o x.init x.basic) (cell_refusal o k x ≡ None)
 cell_typed o k x = (λ e. rw e refl, λ e. by_test (has_type o x.init x.basic) e)
   where
@@ -135,13 +135,13 @@ cell_typed o k x = (λ e. rw e refl, λ e. by_test (has_type o x.init x.basic) e
     by_test true e = refl
     by_test false e = cc
 
--- a block that is not refused has no refusal in its walk
+-- a block is not refused exactly when its walk refuses nothing
 walk_of_block : (o : Object) (b : ℕ) (w : Option (ℕ × Premise)) → option_map (λ r. Refused b r.0 r.1) w ≡ None ↔ w
     ≡ None
 walk_of_block o b None = (λ e. refl, λ e. refl)
 walk_of_block o b (Some r) = (λ e. cc, λ e. cc)
 
--- what is left to refuse once the entry's code type is looked at
+-- if nothing is refused, the entry's code type passes its test and nothing after it is refused
 after_entry : (o : Object) (b : Bool) (r : Option Refusal) → (if b then r else Some EntryType) ≡ None → (b ≡ true)
     × (r ≡ None)
 after_entry o true r e = (refl, e)

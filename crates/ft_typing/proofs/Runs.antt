@@ -1,4 +1,4 @@
--- The type of a run is the one of all its cells.
+-- The type of a run is the one that all its cells have.
 use Rattle.std.proofs.Common.{◌≡◌, ◌↔◌, ⊎_elim, ◌<◌, ◌≤◌, ◌+◌, ◌-◌, ℕ, zero, suc, Bool, true, false, if◌then◌else◌}
 use Rattle.std.proofs.Common.{List, [], ◌∷◌, length, take, drop, slice_get, slice_range, Option, Some, None, refl, sym}
 use Rattle.std.proofs.Common.{ap, ◌∙◌, subst, arith, nat_lt}
@@ -16,7 +16,7 @@ use Rattle.ft_typing.specs.TypedWord.{cell_of, cell_type, same_basic, common_typ
 use Rattle.ft_typing.specs.TypedWord.{run_type, IsRunOf}
 use Rattle.ft_typing.proofs.TypedWords.{same_basic_is, is_same_basic}
 
--- the cell at a cell's address
+-- looking up the address of cell k finds cell k
 pub cell_at_address : (o : Object) (k : ℕ) → cell_of o (cell_address k) ≡ slice_get o.cells k
 unfolding cell_of
 cell_at_address o k =
@@ -24,18 +24,18 @@ cell_at_address o k =
     ap (λ b. if b then slice_get o.cells (cell_address k - cell_address 0)
     else None) (le-leb (cell_address 0) (cell_address k) (omega arith)) ∙ ap (slice_get o.cells) z
 
--- nothing is past them
+-- an index into the first n elements is below n
 taken_within : {X : Type 0} (n : ℕ) (xs : List X) (k : ℕ) (x : X) → slice_get (take n xs) k ≡ Some x → k < n
 taken_within zero xs k x e = cc
 taken_within (suc n) [] k x e = cc
 taken_within (suc n) (y ∷ xs) zero x e = omega arith
 taken_within (suc n) (y ∷ xs) (suc k) x e = let h = taken_within n xs k x e in omega (arith, h)
 
--- a run as the first n after k
+-- a run: the first m elements once `first` elements are dropped
 range_is : {X : Type 0} (xs : List X) (first m : ℕ) → slice_range xs first (first + m) ≡ take m (drop first xs)
 range_is xs first m = let n : first + m - first ≡ m = omega arith in rw n refl
 
--- the type at a place of a run
+-- type k of a run is the type of the cell at its address
 type_there : (o : Object) (first m k : ℕ) → k < m → slice_get (types_of_run o first m) k
     ≡ cell_type o (cell_address (first + k))
 type_there o first m k l =
@@ -43,7 +43,7 @@ type_there o first m k l =
     ∙ ap (option_map basic_of) (ap (λ xs. slice_get xs k) (range_is o.cells first m)
     ∙ get_taken m (drop first o.cells) k l ∙ get_dropped first o.cells k ∙ sym (cell_at_address o (first + k)))
 
--- a place of a run is below its length
+-- an index into a run is below its length
 type_within : (o : Object) (first m k : ℕ) (b : Basic) → slice_get (types_of_run o first m) k ≡ Some b → k < m
 type_within o first m k b e = go (slice_get (slice_range o.cells first (first + m)) k) refl
     (sym (slice_get-map basic_of (slice_range o.cells first (first + m)) k) ∙ e)
@@ -54,14 +54,14 @@ type_within o first m k b e = go (slice_get (slice_range o.cells first (first + 
     go (Some c) f g = taken_within m (drop first o.cells) k c
         (ap (λ xs. slice_get xs k) (sym (range_is o.cells first m)) ∙ f)
 
--- a test that all pass is passed by each
+-- if all elements of a list pass a test, the element at each index does
 all_at : {X : Type 0} (p : X → Bool) (xs : List X) (k : ℕ) (x : X) → list_all p xs ≡ true → slice_get xs k ≡ Some x →
     p x ≡ true
 all_at p [] k x h e = cc
 all_at p (y ∷ xs) zero x h e = let same : y ≡ x = cc in rw (sym same) (and_parts (p y) (list_all p xs) h).0
 all_at p (y ∷ xs) (suc k) x h e = all_at p xs k x (and_parts (p y) (list_all p xs) h).1 e
 
--- each type is the one of all
+-- each type in the list equals the common type
 common_is : (xs : List Basic) (b : Basic) → common_type xs ≡ Some b → (k : ℕ) (x : Basic) → slice_get xs k ≡ Some x → x
     ≡ b
 unfolding common_type
@@ -74,7 +74,7 @@ common_is (y ∷ ys) b e k x f = go (list_all (same_basic y) ys) refl e k f
     go true h e zero f = cc
     go true h e (suc j) f = let same : y ≡ b = cc in sym (same_basic_is y x (all_at (same_basic y) ys j x h f)) ∙ same
 
--- if there is one and each is this type, it is the type of all
+-- if the list is not empty and each type in it is b, the common type is b
 is_common : (xs : List Basic) (b : Basic) → slice_get xs 0 ≡ Some b →
     ((k : ℕ) (x : Basic) → slice_get xs k ≡ Some x → x ≡ b) → common_type xs ≡ Some b
 unfolding common_type
@@ -83,7 +83,7 @@ is_common (y ∷ ys) b e h =
     let same : y ≡ b = cc in
     rw (all_pass (same_basic y) ys (λ k x f. is_same_basic y x (same ∙ sym (h (suc k) x f)))) (ap Some same)
 
--- a type that a `ref` can refer to
+-- `only_referable` keeps only a type to which a `ref` can refer
 referable_is : (x : Option Basic) (b : Basic) → only_referable x ≡ Some b → (x ≡ Some b) × (b.refs < 8)
 referable_is None b e = cc
 referable_is (Some a) b e = go (nat_lt a.refs 8) refl e
@@ -93,7 +93,7 @@ referable_is (Some a) b e = go (nat_lt a.refs 8) refl e
     go false h e = cc
     go true h e = let same : a ≡ b = cc in (e, subst (λ c. c.refs < 8) same (ltb-true a.refs 8 h))
 
--- the type of a run is the one that all its cells have, and a `ref` can refer to it
+-- a run has a type exactly when all its cells have that type and a `ref` can refer to it
 pub run_type_is : (o : Object) (first m : ℕ) (b : Basic) → 1 ≤ m → first + m ≤ length o.cells → run_type o first m
     ≡ Some b ↔ IsRunOf o first m b
 unfolding run_type

@@ -1,5 +1,5 @@
--- Typing looks at an object's tables and at the types of its cells: neither at their initial words nor at its
--- instructions, but the one that it types.
+-- Typing an instruction depends on the object's tables and on the types of its cells, but not on the cells' initial
+-- words or on the object's instructions.
 use Rattle.std.proofs.Common.{◌≡◌, ℕ, zero, suc, ◌+◌, ◌-◌, ◌&&◌, true, false, List, [], ◌∷◌, map, Option, Some, None}
 use Rattle.std.proofs.Common.{is_some, slice_get, take, drop, refl, sym, ap, ◌∙◌}
 use Rattle.std.specs.Prelude.{Bool, nat_le, if◌then◌else◌}

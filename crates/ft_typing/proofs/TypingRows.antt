@@ -1,4 +1,4 @@
--- The typing rows are the table: each word of a row is a test of the table, and what comes after it.
+-- The typing rows agree with the table: each step of a row is a test of the table, followed by the rest of the row.
 use Rattle.std.proofs.Common.{◌≡◌, ℕ, zero, suc, Bool, true, false, ◌&&◌, not, List, [], ◌∷◌, Option, Some, None}
 use Rattle.std.proofs.Common.{is_some, refl, sym, ap, ◌∙◌, if◌then◌else◌, ◌≢◌}
 use Rattle.std.specs.Option.{unwrap_or}
@@ -20,23 +20,23 @@ use Rattle.ft_typing.specs.TypingRow.{row, tests, effect, first_failing, refused
 use Rattle.ft_typing.specs.RowTests.{Test, premise_of, refers, referred, leads_to_code, code_led_to, is_zero, is_code}
 use Rattle.ft_typing.specs.RowTests.{is_conditional, code_of_d, form_of_d, test_of_d, oldest, others, holds}
 
--- what is known of a register, if nothing is
+-- the default for a register of which nothing is known
 abbrev unknown : Typed
 unknown = record { colour = Green; basic = int; form = nought }
 
--- a list of tests as a chain: if the first one holds, the result of the others
+-- a list of tests as a chain: if the first one holds, its result is that of the others
 judged : Object → Context → List Test → Outcome → Outcome
 judged o c [] e = e
 judged o c (t ∷ ts) e = need (premise_of t) (holds o c t) (judged o c ts e)
 
--- a premise that is tested, before what others give
+-- a premise tested before others: its own refusal if it fails, otherwise their result
 need_or : (p : Premise) (b : Bool) (x e : Outcome) (f : Option Premise) → x ≡ refused_or f e → need p b x
     ≡ refused_or (if b then f else Some p) e
 unfolding need
 need_or p true x e f h = h
 need_or p false x e f h = refl
 
--- the chain gives the premise of the first test that fails
+-- the chain gives the premise of the first test that fails, or the effect if none fails
 judged_is : (o : Object) (c : Context) (ts : List Test) (e : Outcome) → judged o c ts e
     ≡ refused_or (first_failing o c ts) e
 unfolding judged
@@ -44,11 +44,11 @@ judged_is o c [] e = refl
 judged_is o c (t ∷ ts) e = need_or (premise_of t) (holds o c t) (judged o c ts e) e (first_failing o c ts)
     (judged_is o c ts e)
 
--- a test, and what comes after it
+-- a test followed by equal results gives equal results
 need_next : (p : Premise) (b : Bool) {x y : Outcome} → x ≡ y → need p b x ≡ need p b y
 need_next p b e = ap (need p b) e
 
--- two tests of one premise
+-- testing two conditions of one premise at once is testing them in turn
 need_both : (p : Premise) (a b : Bool) {x y : Outcome} → x ≡ y → need p (a && b) x ≡ need p a (need p b y)
 unfolding need
 need_both p true b e = ap (need p b) e
@@ -113,7 +113,8 @@ unfolding need for_run
 run_next None f e = refl
 run_next (Some b) f e = e
 
--- the row is the chain of its tests: `Halt` splits by instruction, and `Green` by colour
+-- the row is the chain of its tests; the clause for `Halt` splits the proof by instruction, and the one for `Green` by
+-- colour
 row_is_judged : (o : Object) (c : Context) (i : Instr) → row o c i ≡ judged o c (tests i) (effect o c i)
 unfolding leads judged
 row_is_judged o c Halt = zero_next _ refl
@@ -131,7 +132,7 @@ row_is_judged o c i = search (
   run_next,
 ) depth 9
 
--- the row gives the premise of the first of its tests that fails, and else its effect
+-- the row gives the premise of the first of its tests that fails, or its effect if none fails
 pub row_is : (o : Object) (c : Context) (i : Instr) → IsTheRow o c i
 row_is o c i = row_is_judged o c i ∙ judged_is o c (tests i) (effect o c i)
 

@@ -1,4 +1,4 @@
--- Accepted objects, and why one is refused.
+-- Accepted objects, and why others are refused.
 use Rattle.std.specs.Prelude.{◌≡◌, ℕ, suc, Bool, true, false, ◌&&◌, ◌==◌, if◌then◌else◌, List, [], ◌∷◌, Option, Some, None, slice_get}
 use Rattle.std.specs.Option.{option_map, option_or}
 use Rattle.ft_isa.specs.declared.instr.Instr.{Instr}
@@ -19,13 +19,14 @@ use Rattle.ft_typing.specs.RowWords.{Outcome, Goes, Ends, Fails}
 
 -- ACCEPTED
 
--- each of these instructions has its row, in turn from this context, and the last one, and no other, ends the block
+-- the rows of these instructions apply in turn, starting from this context; the last one ends the block, and no other
+-- does
 pub data Applies (o : Object) : Context → List Instr → Type 0 where
   last_row : {c : Context} {i : Instr} → row o c i ≡ Ends → Applies o c (i ∷ [])
   next_row : {c : Context} {i : Instr} {is : List Instr} (d : Context) → row o c i ≡ Goes d → Applies o d is → Applies o c (i ∷ is)
 
--- a code type with which a run may begin: no integer variable, no register row and no queue row, and its memory is the
--- memory variable
+-- a code type with which a run may begin: it has no integer variables, register rows or queue rows, and its memory is
+-- the memory variable
 pub record IsEntryType (o : Object) (t : ℕ) : Type 0 where
   pub ints : ints_of o t ≡ 0
   pub regs : reg_rows o t ≡ []
@@ -41,8 +42,8 @@ pub record IsAccepted (o : Object) : Type 0 where
 
 -- REFUSED
 
--- why an object is refused: the entry block's code type, a cell's initial word, or an instruction by its block, its
--- index in the block and the first failing premise
+-- why an object is refused: the entry block's code type, a cell's initial word, or an instruction, given by its block,
+-- its index in the block and the first premise that fails
 pub data Refusal : Type 0 where
   EntryType : Refusal
   CellType : ℕ → Refusal
@@ -67,7 +68,8 @@ has_none (x ∷ xs) = false
 unfoldable pub is_entry_type : Object → ℕ → Bool
 is_entry_type o t = (ints_of o t == 0) && has_none (reg_rows o t) && has_none (queue_rows o t) && is_memory_variable (slice_get o.nodes (memory_of o t))
 
--- the verdict after the row of instruction k of a block with these other instructions: the first refusal, or nothing
+-- the verdict once the row of instruction k is known, given the instructions after it in the block: the first refusal,
+-- or nothing
 unfoldable pub after_row : Outcome → ℕ → List Instr → (Context → Option (ℕ × Premise)) → Option (ℕ × Premise)
 after_row (Fails p) k others next = Some (k, p)
 after_row (Goes d) k [] next = Some (k, BlockEnd)
@@ -75,13 +77,13 @@ after_row (Goes d) k (i ∷ is) next = next d
 after_row Ends k [] next = None
 after_row Ends k (i ∷ is) next = Some (k, BlockEnd)
 
--- the first of these instructions, counted from k, whose row doesn't apply in turn from this context, and the premise;
--- a block that bytes spell has instructions
+-- the first of these instructions, numbered from k, whose row does not apply when the rows are applied in turn from
+-- this context, with the premise that fails; a block that bytes spell is never empty
 unfoldable pub walk : Object → Context → ℕ → List Instr → Option (ℕ × Premise)
 walk o c k [] = Some (k, BlockEnd)
 walk o c k (i ∷ is) = after_row (row o c i) k is (λ d. walk o d (suc k) is)
 
--- the first refusal of these, which are counted from k
+-- the first refusal among these elements, which are numbered from k
 unfoldable pub first_refusal : {X : Type 0} → (ℕ → X → Option Refusal) → ℕ → List X → Option Refusal
 first_refusal refuse k [] = None
 first_refusal refuse k (x ∷ xs) = option_or (refuse k x) (first_refusal refuse (suc k) xs)
@@ -94,8 +96,8 @@ cell_refusal o k x = if has_type o x.init x.basic then None else Some (CellType 
 abbrev pub block_refusal : Object → ℕ → Block → Option Refusal
 block_refusal o b x = option_map (λ r. Refused b r.0 r.1) (walk o (start_context o x.code_type) 0 (block_instrs o b))
 
--- why an object is refused, if it is: EntryType, then CellType with the lowest such cell, then Refused with the first
--- block and index
+-- why an object is refused, if it is: EntryType, otherwise CellType with the lowest such cell, otherwise Refused with
+-- the first such block and index
 abbrev pub refusal : Object → Option Refusal
 refusal o =
     if is_entry_type o (block_type o o.entry)

@@ -1,4 +1,4 @@
--- What typing knows at a place of a block, and what it knows where a block of a code type begins.
+-- What typing knows at a place in a block, and at the start of a block of a given code type.
 use Rattle.std.specs.Prelude.{ℕ, List, [], ◌∷◌, map, Option, slice_range}
 use Rattle.std.specs.Ordering.{nat_cmp}
 use Rattle.std.specs.FinMap as finite
@@ -13,20 +13,20 @@ use Rattle.ft_types.specs.declared.object.Object.{Object}
 use Rattle.ft_types.specs.declared.object.RegType.{RegType}
 use Rattle.ft_types.specs.Objects.{reg_rows, queue_rows, ints_of, memory_of}
 
--- what is known of a register: its colour, its basic type, and the form that its word denotes
+-- what is known of a register: its colour, its basic type, and the form of its word
 pub record Typed : Type 0 where
   pub colour : Colour
   pub basic : Basic
   pub form : Polynomial
 
--- what is known of d: it is 0; it is the code address of a code type, of this form; or it is that if the test denotes
--- 0, and 0 otherwise
+-- what is known of d: it is 0; it is a code address of this code type and form; or it is such an address if the test
+-- denotes 0, and 0 otherwise
 pub data StateOfD : Type 0 where
   d_zero : StateOfD
   d_code : ℕ → Polynomial → StateOfD
   d_conditional : Polynomial → ℕ → Polynomial → StateOfD
 
--- a pair of forms: of an address, and of the value that waits for it
+-- a pair of forms: of an address, and of the value to be stored there
 abbrev pub FormPair : Type 0
 FormPair = Polynomial × Polynomial
 
@@ -47,36 +47,36 @@ pub record Context : Type 0 where
 abbrev pub typed : Context → ℕ → Option Typed
 typed c r = finite.get c.registers r
 
--- the context after this was learnt about register r
+-- the context once this is known of register r
 abbrev pub with_type : ℕ → Typed → Context → Context
 with_type r t c = record c { registers = finite.insert c.registers r t }
 
--- the form of the integer for which a node stands, with the variables as they are
+-- the form of the integer that a node represents, with its variables unchanged
 unfoldable pub integer_form_of : Object → ℕ → Polynomial
 integer_form_of o n = norm_integer (integer_at (trees o.nodes) n)
 
--- the form of the memory for which a node stands, with the variables as they are
+-- the form of the memory that a node represents, with its variables unchanged
 unfoldable pub memory_form_of : Object → ℕ → Updates
 memory_form_of o n = norm_memory (memory_at (trees o.nodes) n)
 
--- the substitutes of variables: a form for each integer variable, and one for the memory variable
+-- what replaces the variables: a form for each integer variable, and one for the memory variable
 pub record Replacement : Type 0 where
   pub integers : List Polynomial
   pub memory : Updates
 
--- the form of the integer for which a node stands, after a replacement
+-- the form of the integer that a node represents, after a replacement
 unfoldable pub integer_form_after : Object → Replacement → ℕ → Polynomial
 integer_form_after o x n = norm_under (integer_at (trees o.nodes) n) x.integers x.memory
 
--- the form of the memory for which a node stands, after a replacement
+-- the form of the memory that a node represents, after a replacement
 unfoldable pub memory_form_after : Object → Replacement → ℕ → Updates
 memory_form_after o x n = norm_memory_under (memory_at (trees o.nodes) n) x.integers x.memory
 
--- the rows of a substitution: the nodes substituted for the target's integer variables in turn
+-- the rows of a substitution: the nodes substituted for the target's integer variables, in order
 abbrev pub rows_of : Object → Subst → List ℕ
 rows_of o u = slice_range o.substs u.first u.past
 
--- what a substitution substitutes for the target's variables, in the variables of its own block
+-- what a substitution puts in place of the target's variables, expressed in its own block's variables
 unfoldable pub replacement : Object → Subst → Replacement
 replacement o u = record { integers = map (integer_form_of o) (rows_of o u); memory = memory_form_of o u.memory }
 
@@ -93,8 +93,8 @@ registers_after o m (r ∷ rs) = registers_after o (finite.insert m r.reg.number
 abbrev pub queue_pair : Object → ℕ × ℕ → FormPair
 queue_pair o q = (integer_form_of o q.0, integer_form_of o q.1)
 
--- what is known where a block of code type t begins: the code type's registers, queue and memory, with its variables as
--- they are, and that d is 0
+-- what is known at the start of a block of code type t: the code type's registers, queue and memory, with its variables
+-- unchanged, and that d is 0
 abbrev pub start_context : Object → ℕ → Context
 start_context o t = record {
   ints = ints_of o t;

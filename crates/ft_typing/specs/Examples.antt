@@ -1,4 +1,4 @@
--- Short words for the objects of examples.
+-- Short names for the objects of the examples.
 use Rattle.std.specs.Prelude.{ℕ, zero, suc, ◌+◌, List, [], ◌∷◌, slice_set, codes}
 use Rattle.std.proofs.Common.{lit<}
 use Rattle.ft_isa.specs.declared.colour.Colour.TheVariants.{Green, Blue}
@@ -15,7 +15,7 @@ use Rattle.ft_types.specs.declared.object.Object.{Object}
 use Rattle.ft_types.specs.declared.object.Cell.{Cell}
 use Rattle.ft_types.specs.declared.object.CodeType.{CodeType}
 
--- registers, from r0 of the green computation and from r32 of the blue one
+-- registers: from r0 on for the green computation, from r32 on for the blue one
 abbrev pub r0 : Reg
 r0 = record { number = 0; in_range = lit< tt }
 
@@ -50,7 +50,7 @@ green w = record { colour = Green; word = w }
 abbrev pub blue : ℕ → Coloured
 blue w = record { colour = Blue; word = w }
 
--- the address of the cell `out`, and of one after it
+-- the address of the cell `out`, and of the next cell
 abbrev pub out : ℕ
 out = 1048576
 
@@ -61,11 +61,11 @@ two = 1048577
 abbrev pub int_cell : List ℕ → ℕ → Cell
 int_cell name init = record { name = name; basic = int; init = init }
 
--- a code type that knows nothing but the memory variable
+-- a code type with nothing but the memory variable
 abbrev pub nothing_known : CodeType
 nothing_known = record { ints = 0; regs = []; queue = []; memory = 0 }
 
--- these instructions as one block over the cell `out` with this initial word
+-- an object with these instructions as its one block, and the cell `out` with this initial word
 abbrev pub one_block : ℕ → List Instr → Object
 one_block init instrs = record {
   cells = int_cell (codes "out") init ∷ [];
@@ -77,7 +77,7 @@ one_block init instrs = record {
   entry = 0;
 }
 
--- these instructions as one block over these cells
+-- an object with these instructions as its one block, and these cells
 abbrev pub over_cells : List Cell → List Instr → Object
 over_cells cells instrs = record (one_block 0 instrs) { cells = cells }
 
@@ -86,12 +86,12 @@ abbrev pub run_of_three : Basic → ℕ → List Cell
 run_of_three basic init =
     int_cell (codes "a[0]") 0 ∷ record { name = codes "a[1]"; basic = basic; init = init } ∷ int_cell (codes "a[2]") 0 ∷ []
 
--- n cells from number k on, each holding the address of the one before it; the cell of number i has i refs
+-- n cells, numbered from k, each holding the address of the one before it; the type of cell i has i refs
 abbrev pub refs_upwards : ℕ → ℕ → List Cell
 refs_upwards k zero = []
 refs_upwards k (suc n) = record { name = (97 + k) ∷ []; basic = record { refs = k; base = Int }; init = 1048575 + k } ∷ refs_upwards (suc k) n
 
--- the list with another instruction at a place
+-- the list with instruction k replaced
 abbrev pub with_instr : ℕ → Instr → List Instr → List Instr
 with_instr k i is = slice_set is k i
 
@@ -101,7 +101,7 @@ stores_five =
     Mov r0 (green out) (ref int) ∷ Mov r1 (green 5) int ∷ Mov r32 (blue out) (ref int) ∷ Mov r33 (blue 5) int
     ∷ St Green r0 r1 ∷ St Blue r32 r33 ∷ Halt ∷ []
 
--- five and six are stored; green reads six while both are pending, blue when both are committed; six is stored again
+-- five and six are stored; green reads six while both are pending, blue after both are committed; six is stored again
 abbrev pub reads_pending : List Instr
 reads_pending =
     Mov r0 (green out) (ref int) ∷ Mov r1 (green 5) int ∷ Mov r2 (green 6) int
@@ -109,20 +109,20 @@ reads_pending =
     ∷ St Green r0 r1 ∷ St Green r0 r2 ∷ Ld Green r3 r0 ∷ St Blue r32 r33 ∷ St Blue r32 r34 ∷ Ld Blue r35 r32
     ∷ St Green r0 r3 ∷ St Blue r32 r35 ∷ Halt ∷ []
 
--- `out` is doubled: by green as a product, by blue as a sum
+-- `out` is doubled, by a product in green and by a sum in blue
 abbrev pub doubles : List Instr
 doubles =
     Mov r0 (green out) (ref int) ∷ Ld Green r1 r0 ∷ OpWord Mul r2 r1 (green 2)
     ∷ Mov r32 (blue out) (ref int) ∷ Ld Blue r33 r32 ∷ OpReg Add r34 r33 r33
     ∷ St Green r0 r2 ∷ St Blue r32 r34 ∷ Halt ∷ []
 
--- 9 is stored in the cell that index 4 selects in a run of three, the second one
+-- 9 is stored in the cell that index 4 selects in a run of three: the second
 abbrev pub stores_in_run : List Instr
 stores_in_run =
     Mov r0 (green 4) int ∷ Idx r1 r0 0 3 ∷ Mov r2 (green 9) int ∷ Mov r32 (blue 4) int ∷ Idx r33 r32 0 3 ∷ Mov r34 (blue 9) int
     ∷ St Green r1 r2 ∷ St Blue r33 r34 ∷ Halt ∷ []
 
--- the address of the cell of a run is computed and not used
+-- the address of a cell in a run is computed but not used
 abbrev pub takes_address : ℕ → ℕ → List Instr
 takes_address first length = Mov r0 (green 4) int ∷ Idx r1 r0 first length ∷ Halt ∷ []
 

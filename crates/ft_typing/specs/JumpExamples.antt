@@ -1,4 +1,4 @@
--- Short words for the examples of objects with two blocks.
+-- Short names for the example objects with two blocks.
 use Rattle.std.specs.Prelude.{ℕ, List, [], ◌∷◌, codes}
 use Rattle.ft_isa.specs.declared.colour.Colour.TheVariants.{Green, Blue}
 use Rattle.ft_isa.specs.declared.instr.Instr.{Instr}
@@ -11,7 +11,7 @@ use Rattle.ft_static.specs.declared.node.Shape.TheVariants as shape
 use Rattle.ft_types.specs.declared.object.Object.{Object}
 use Rattle.ft_types.specs.declared.object.CodeType.{CodeType}
 
--- a code type of an integer variable that r0 and r32 hold
+-- a code type with one integer variable, which r0 and r32 hold
 abbrev pub variable_held : CodeType
 variable_held = record { ints = 1; regs = record { reg = r0; colour = Green; basic = int; expr = 1 } ∷ record { reg = r32; colour = Blue; basic = int; expr = 1 } ∷ []; queue = []; memory = 0 }
 
@@ -19,8 +19,8 @@ variable_held = record { ints = 1; regs = record { reg = r0; colour = Green; bas
 abbrev pub three_nodes : List Node
 three_nodes = record { scope = 0; shape = shape.Memory } ∷ record { scope = 1; shape = shape.Var 0 } ∷ record { scope = 0; shape = shape.Word 5 } ∷ []
 
--- these instructions as two blocks, the second of which begins here and has the variable's code type; the node 5 is
--- substituted for the variable
+-- an object with these instructions as two blocks: the second begins at `second` and has the code type `variable_held`,
+-- and the node of the word 5 is substituted for the variable
 abbrev pub two_blocks : ℕ → List Instr → Object
 two_blocks second instrs = record {
   cells = int_cell (codes "out") 0 ∷ [];
@@ -32,7 +32,7 @@ two_blocks second instrs = record {
   entry = 0;
 }
 
--- the substitution of the one row
+-- the substitution with that one row
 abbrev pub five : Subst
 five = record { first = 0; past = 1; memory = 0 }
 

@@ -3,7 +3,7 @@ use Rattle.std.specs.Prelude.{ℕ}
 use Rattle.ft_typing.specs.declared.why.Why.{Why}
 use Rattle.ft_typing.specs.declared.why.Why.TheVariants.{Untyped, Colour, BasicType, NotRef, NotCode, StateOfD, QueueFull, QueueEmpty, Addresses, Values, Conditions, Targets, RegisterUnlike, QueueUnlike, MemoryUnlike, Annotation, BlockEnd, Array}
 
--- a premise: the first one that fails is why a rule does not apply
+-- a premise; the first one that fails is the reason why a rule does not apply
 abbrev pub Premise : Type 0
 Premise = Why
 

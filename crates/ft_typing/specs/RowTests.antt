@@ -1,4 +1,5 @@
--- The tests of the typing rows, as data: for each the premise that fails if it does not hold, and whether it holds.
+-- The tests of the typing rows as data: for each test, the premise that fails if it does not hold, and whether it
+-- holds.
 use Rattle.std.specs.Prelude.{ℕ, zero, suc, Bool, true, false, ◌&&◌, not, ◌==◌, nat_lt, List, [], ◌∷◌, length, is_some}
 use Rattle.std.specs.Option.{unwrap_or}
 use Rattle.ft_isa.specs.declared.basic.Base.{Base}
@@ -24,7 +25,7 @@ pub data Test : Type 0 where
   is_typed : Reg → Test
   -- the register has this colour
   is_coloured : Reg → Colour → Test
-  -- the register has the colour of another
+  -- the register has the same colour as another
   is_coloured_as : Reg → Reg → Test
   -- a word's colour is that of the register
   is_colour_of : Colour → Reg → Test
@@ -36,24 +37,24 @@ pub data Test : Type 0 where
   is_reference : Reg → Test
   -- the register's basic type is `code T`
   is_target : Reg → Test
-  -- d is Zero, Code, Conditional
+  -- d is Zero; d is Code; d is Conditional
   is_d_zero : Test
   is_d_code : Test
   is_d_conditional : Test
   -- the static queue has fewer than 8 pairs
   has_room : Test
-  -- the static queue has an oldest pair
+  -- the static queue is not empty
   has_oldest : Test
-  -- the register's form is the address, the value of the oldest pair
+  -- the register's form is that of the oldest pair's address; it is that of the oldest pair's value
   is_oldest_address : Reg → Test
   is_oldest_value : Reg → Test
-  -- the register's form is the form that d's condition tests
+  -- the register's form is the one that d's condition tests
   is_tested : Reg → Test
   -- the register's T and form are those of d
   is_announced : Reg → Test
-  -- the substitution is one for T, the code type of the register
+  -- the substitution fits this block and T, the register's code type
   is_substitution : Reg → Subst → Test
-  -- the registers, the static queue, the memory are as T requires, under the substitution
+  -- under the substitution, the registers are as T requires; likewise the static queue, and the memory
   has_registers : Reg → Subst → Test
   has_queue : Reg → Subst → Test
   has_memory : Reg → Subst → Test
@@ -88,13 +89,13 @@ premise_of (has_memory r u) = premise.MemoryUnlike
 premise_of has_empty_queue = premise.QueueUnlike
 premise_of (is_array first m) = premise.Array
 
--- WHAT TESTS READ; if it is absent, an earlier test of the row has failed, so the default does not matter
+-- WHAT THE TESTS READ. If it is absent, an earlier test of the row has failed, so the default does not matter.
 
 -- what is known of a register
 abbrev pub known : Context → Reg → Typed
 known c r = unwrap_or (typed c r.number) (record { colour = Green; basic = int; form = nought })
 
--- whether n refs over a base are a `ref`, and the type referred to
+-- whether a type of n refs over a base is a `ref`, and the type to which it refers
 abbrev pub refers : ℕ → Bool
 refers zero = false
 refers (suc k) = true
@@ -103,7 +104,7 @@ abbrev pub referred : ℕ → Base → Basic
 referred zero base = int
 referred (suc k) base = record { refs = k; base = base }
 
--- whether n refs over a base are `code T`, and T
+-- whether a type of n refs over a base is `code T`, and that T
 abbrev pub leads_to_code : ℕ → Base → Bool
 leads_to_code zero Int = false
 leads_to_code zero (Code t) = true
@@ -114,7 +115,7 @@ code_led_to zero Int = 0
 code_led_to zero (Code t) = t
 code_led_to (suc k) base = 0
 
--- the type to which a register's type refers, and its T
+-- the type to which a register's `ref` refers, and the T of a register's `code T`
 abbrev pub type_referred : Context → Reg → Basic
 type_referred c r = referred (known c r).basic.refs (known c r).basic.base
 
@@ -125,7 +126,7 @@ code_of c r = code_led_to (known c r).basic.refs (known c r).basic.base
 abbrev pub array_type : Object → ℕ → ℕ → Basic
 array_type o first m = unwrap_or (run_type o first m) int
 
--- whether d is Zero, Code, Conditional
+-- whether d is Zero, whether it is Code, whether it is Conditional
 abbrev pub is_zero : StateOfD → Bool
 is_zero d_zero = true
 is_zero (d_code t f) = false
@@ -157,7 +158,7 @@ test_of_d d_zero = nought
 test_of_d (d_code t f) = nought
 test_of_d (d_conditional z t f) = z
 
--- the oldest pair of a static queue, and the others
+-- the oldest pair of a static queue, and the other pairs
 abbrev pub oldest : List FormPair → FormPair
 oldest [] = (nought, nought)
 oldest (e ∷ q) = e

@@ -1,4 +1,4 @@
--- The words of the typing rows: the results of a row, and for each premise what comes after it.
+-- The vocabulary of the typing rows: the results of a row, and for each premise a function that tests it and continues.
 use Rattle.std.specs.Prelude.{ℕ, zero, suc, Bool, true, false, ◌&&◌, ◌==◌, nat_le, if◌then◌else◌, List, [], ◌∷◌, length, Option, Some, None}
 use Rattle.std.specs.List.{list_all}
 use Rattle.ft_isa.specs.declared.colour.Colour.{Colour}
@@ -31,16 +31,16 @@ same_colour Green Blue = false
 same_colour Blue Green = false
 same_colour Blue Blue = true
 
--- a premise that is a test: what comes after it, if the test holds
+-- a premise that is a plain test: if it holds, the row continues
 unfoldable pub need : Premise → Bool → Outcome → Outcome
 need p b next = if b then next else Fails p
 
--- premise Untyped: what comes after, by what is known of the register
+-- premise Untyped: the row continues with what is known of the register
 unfoldable pub for_typed : Option Typed → (Typed → Outcome) → Outcome
 for_typed None next = Fails premise.Untyped
 for_typed (Some t) next = next t
 
--- premise NotRef: what comes after, by the basic type referred to
+-- premise NotRef: the row continues with the basic type referred to
 unfoldable pub for_ref_over : ℕ → Base → (Basic → Outcome) → Outcome
 for_ref_over zero base next = Fails premise.NotRef
 for_ref_over (suc k) base next = next (record { refs = k; base = base })
@@ -48,7 +48,7 @@ for_ref_over (suc k) base next = next (record { refs = k; base = base })
 abbrev pub for_ref : Basic → (Basic → Outcome) → Outcome
 for_ref b next = for_ref_over b.refs b.base next
 
--- premise NotCode: what comes after, by the code type
+-- premise NotCode: the row continues with the code type
 unfoldable pub for_code_over : ℕ → Base → (ℕ → Outcome) → Outcome
 for_code_over zero Int next = Fails premise.NotCode
 for_code_over zero (Code t) next = next t
@@ -63,43 +63,43 @@ for_zero d_zero next = next
 for_zero (d_code t f) next = Fails premise.StateOfD
 for_zero (d_conditional z t f) next = Fails premise.StateOfD
 
--- premise StateOfD, which requires Code: what comes after, by the code type and the form
+-- premise StateOfD, which requires Code: the row continues with the code type and the form
 unfoldable pub for_target : StateOfD → (ℕ → Polynomial → Outcome) → Outcome
 for_target d_zero next = Fails premise.StateOfD
 for_target (d_code t f) next = next t f
 for_target (d_conditional z t f) next = Fails premise.StateOfD
 
--- premise StateOfD, which requires Conditional: what comes after, by the test, the code type and the form
+-- premise StateOfD, which requires Conditional: the row continues with the test, the code type and the form
 unfoldable pub for_conditional : StateOfD → (Polynomial → ℕ → Polynomial → Outcome) → Outcome
 for_conditional d_zero next = Fails premise.StateOfD
 for_conditional (d_code t f) next = Fails premise.StateOfD
 for_conditional (d_conditional z t f) next = next z t f
 
--- premise QueueEmpty: what comes after, by the oldest pair and the others
+-- premise QueueEmpty: the row continues with the oldest pair and the others
 unfoldable pub for_oldest : List FormPair → (FormPair → List FormPair → Outcome) → Outcome
 for_oldest [] next = Fails premise.QueueEmpty
 for_oldest (e ∷ q) next = next e q
 
--- premise Array: what comes after, by the type of the cells of a run
+-- premise Array: the row continues with the type of the cells of a run
 unfoldable pub for_run : Option Basic → (Basic → Outcome) → Outcome
 for_run None next = Fails premise.Array
 for_run (Some b) next = next b
 
--- the form of the address of a run's cell, by the form of the word that selects it
+-- the form of the address of a cell in a run, from the form of the word that selects it
 abbrev pub run_form : ℕ → ℕ → Polynomial → Polynomial
 run_form first m p = norm_add (constant (cell_address first)) (norm_rem p m)
 
--- whether nothing waits in the static queue
+-- whether the static queue is empty
 unfoldable pub is_empty : List FormPair → Bool
 is_empty [] = true
 is_empty (e ∷ q) = false
 
--- the pending memory: the memory after the update of each pair of the queue, the oldest first
+-- the pending memory: the memory updated by each pair of the queue, oldest first
 unfoldable pub pending_memory : Updates → List FormPair → Updates
 pending_memory m [] = m
 pending_memory m (e ∷ q) = pending_memory (norm_upd m e.0 e.1) q
 
--- the memory that a load of this colour sees: green the pending one, blue the memory itself
+-- the memory that a load of this colour sees: the pending memory for green, the memory itself for blue
 abbrev pub seen_memory : Colour → Context → Updates
 seen_memory Green c = pending_memory c.memory c.queue
 seen_memory Blue c = c.memory
@@ -120,8 +120,8 @@ is_queue_like o x [] (r ∷ rs) = false
 is_queue_like o x (e ∷ q) [] = false
 is_queue_like o x (e ∷ q) (r ∷ rs) = same_polynomial e.0 (integer_form_after o x r.0) && same_polynomial e.1 (integer_form_after o x r.1) && is_queue_like o x q rs
 
--- whether a substitution has a row for each integer variable of code type t, and its rows and its memory have scopes
--- of at most this block's number of integer variables
+-- whether a substitution has a row for each integer variable of code type t, and the scopes of its rows and of its
+-- memory are at most this block's number of integer variables
 unfoldable pub is_annotated : Object → ℕ → Subst → ℕ → Bool
 is_annotated o ints u t = (length (rows_of o u) == ints_of o t) && list_all (λ n. nat_le (scope_of o n) ints) (rows_of o u) && nat_le (scope_of o u.memory) ints
 

@@ -20,7 +20,8 @@ cell_of o a = if nat_le (cell_address 0) a then slice_get o.cells (a - cell_addr
 abbrev pub cell_type : Object → ℕ → Option Basic
 cell_type o a = option_map basic_of (cell_of o a)
 
--- the block whose first instruction is at a code address; blocks that bytes spell begin at different ones
+-- the block whose first instruction is at a code address; the blocks of an object that bytes spell begin at different
+-- addresses
 unfoldable pub block_at : Object → ℕ → Option Block
 block_at o w = find (λ b. w == code_address b.start) o.blocks
 
@@ -58,7 +59,7 @@ same_basic a b = (a.refs == b.refs) && same_base a.base b.base
 unfoldable pub is_seen_as : Basic → Basic → Bool
 is_seen_as a b = same_basic a b || same_basic b int
 
--- the type of these basic types if all are equal; none if there are none
+-- the common type of a list of basic types, if all are equal; none if the list is empty
 unfoldable pub common_type : List Basic → Option Basic
 common_type [] = None
 common_type (b ∷ bs) = if list_all (same_basic b) bs then Some b else None
@@ -67,16 +68,16 @@ common_type (b ∷ bs) = if list_all (same_basic b) bs then Some b else None
 abbrev pub types_of_run : Object → ℕ → ℕ → List Basic
 types_of_run o first m = map basic_of (slice_range o.cells first (first + m))
 
--- a type to which a `ref` can refer: it has fewer than 8 itself
+-- the type, if a `ref` can refer to it, that is, if it has fewer than 8 refs itself
 abbrev pub only_referable : Option Basic → Option Basic
 only_referable None = None
 only_referable (Some b) = if nat_lt b.refs 8 then Some b else None
 
--- the type of the cells of a run, if they are of one type and a `ref` can refer to it
+-- the type of the cells of a run, if all have the same type and a `ref` can refer to it
 unfoldable pub run_type : Object → ℕ → ℕ → Option Basic
 run_type o first m = only_referable (common_type (types_of_run o first m))
 
--- the cells of a run are all of one basic type, and a `ref` can refer to it
+-- the cells of a run all have this basic type, and a `ref` can refer to it
 pub record IsRunOf (o : Object) (first m : ℕ) (b : Basic) : Type 0 where
   pub each : (k : ℕ) → k < m → cell_type o (cell_address (first + k)) ≡ Some b
   pub referable : b.refs < 8

@@ -1,5 +1,5 @@
--- The typing rows: what each instruction needs of the context before it, in this order, and the context after it; and
--- the same as data, the tests that an instruction makes and its effect.
+-- The typing rows: what each instruction requires of the context before it, in this order, and the context after it.
+-- The same rows follow as data: the tests that an instruction makes, and its effect.
 use Rattle.std.specs.Prelude.{◌&&◌, ◌==◌, nat_lt, if◌then◌else◌, List, [], ◌∷◌, ◌++◌, length, Option, Some, None, ◌≡◌}
 use Rattle.ft_isa.specs.declared.colour.Colour.{Colour}
 use Rattle.ft_isa.specs.declared.colour.Colour.TheVariants.{Green, Blue}
@@ -22,7 +22,8 @@ use Rattle.ft_typing.specs.Context.{d_zero, d_code, d_conditional, Context, type
 -- ld_G rd, rs | 1, 2 (green), 4 | rd: green, the type referred to, sel of the pending memory
 -- ld_B rd, rs | 1, 2 (blue), 4 | rd: blue, the type referred to, sel of the memory
 -- st_G rd, rs | 1 (both), 2 (green), 4 (rd), 3, 7 | the pair of forms becomes the newest of the queue
--- st_B rd, rs | 1 (both), 2 (blue), 4 (rd), 3, 8, 9, 10 | the oldest pair leaves; memory: upd with the forms of rd and rs
+-- st_B rd, rs | 1 (both), 2 (blue), 4 (rd), 3, 8, 9, 10 | the oldest pair leaves; memory: upd with the forms of rd
+-- and rs
 -- jmp_G rd | 1, 2 (green), 5, 6 (Zero) | d: Code with T and rd's form
 -- jmp_B rd | 1, 2 (blue), 5, 6 (Code), 12, 16, 13, 14, 15 | the block ends
 -- bz_G rz, rd | 1 (both), 2 (green), 5 (rd), 6 (Zero) | d: Conditional with rz's form, T and rd's form
@@ -30,8 +31,8 @@ use Rattle.ft_typing.specs.Context.{d_zero, d_code, d_conditional, Context, type
 -- halt | 6 (Zero), 14 | the block ends
 -- idx rd, rs, first, length | 1 (rs), 18 | rd: colour of rs, `ref b` for the cells' type b, add of the word
 -- 1048576 + first and rem of rs's form by length
--- Anything that a row does not name is unchanged. BlockEnd, 17, comes after these: it needs the instruction's place in
--- its block.
+-- Whatever a row does not name is unchanged. BlockEnd, 17, is tested after these, since it needs the instruction's
+-- place in its block.
 abbrev pub row : Object → Context → Instr → Outcome
 row o c (OpReg op rd rs rt) =
     for_typed (typed c rs.number) (λ s.
@@ -107,7 +108,7 @@ row o c (Idx rd rs first m) =
     for_run (run_type o first m) (λ b.
     Goes (with_type rd.number (record { colour = s.colour; basic = ref b; form = run_form first m s.form }) c)))
 
--- THE SAME AS DATA
+-- THE ROWS AS DATA
 
 -- the tests of an instruction's row, in their order
 abbrev pub tests : Instr → List Test
@@ -155,11 +156,11 @@ abbrev pub first_failing : Object → Context → List Test → Option Premise
 first_failing o c [] = None
 first_failing o c (t ∷ ts) = if holds o c t then first_failing o c ts else Some (premise_of t)
 
--- the refusal, if a premise fails, else the effect
+-- the refusal if a premise fails, otherwise the effect
 abbrev pub refused_or : Option Premise → Outcome → Outcome
 refused_or None e = e
 refused_or (Some p) e = Fails p
 
--- the row of an instruction gives the premise of the first of its tests that fails, and if none fails its effect
+-- the row of an instruction gives the premise of the first of its tests that fails, or its effect if none fails
 abbrev pub IsTheRow : Object → Context → Instr → Type 0
 IsTheRow o c i = row o c i ≡ refused_or (first_failing o c (tests i)) (effect o c i)

@@ -1,5 +1,5 @@
-//! Examples of objects that are accepted, and of others that are refused: one for each reason and each
-//! premise. Each function does nothing: its clauses are computed from the definitions.
+//! Examples of accepted objects, and of refused ones: at least one for each reason and each premise. Each function does
+//! nothing: its clauses are computed from the definitions.
 ghost use Rattle.std.specs.Prelude.{◌≡◌, None, Some, [], ◌∷◌, codes, take};
 ghost use Rattle.ft_isa.specs.declared.colour.Colour.TheVariants.{Green, Blue};
 ghost use Rattle.ft_isa.specs.declared.instr.Instr.TheVariants.{Idx, JmpB, JmpG, Mov, OpReg, OpWord, St};
@@ -22,7 +22,7 @@ pub fn examples_of_acceptance()
     ensures part_of_a_run { refusal (over_cells (run_of_three (ref int) out) (takes_address 2 1)) ≡ None }
 {}
 
-/// Refused objects: the entry's code type, a cell, and an instruction by each premise in turn.
+/// Refused objects: for the entry's code type, for a cell, and for an instruction by each premise in turn.
 pub fn examples_of_refusal()
     ensures entry_type { refusal (record (one_block 0 stores_five) { types = record nothing_known { ints = 1 } ∷ [] }) ≡ Some EntryType }
     ensures cell_type { refusal (record (one_block 0 stores_five) { cells = record (int_cell (codes "out") 0) { basic = code 0 } ∷ [] }) ≡ Some (CellType 0) }

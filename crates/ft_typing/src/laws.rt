@@ -8,14 +8,14 @@ ghost use Rattle.ft_typing.specs.TypingRow.{IsTheRow};
 ghost use Rattle.ft_typing.specs.TypedWord.{HasType, IsRunOf, IsSeenAs, has_type, is_seen_as, run_type};
 ghost use Rattle.ft_typing.specs.Accepted.{IsAccepted, refusal};
 
-/// The typing rows are the table of typing rows: whatever the object and the context, the row of an instruction gives
-/// the premise of the first of its tests that fails, and if none fails its effect.
+/// The typing rows agree with the table of typing rows: for every object and context, the row of an instruction gives
+/// the premise of the first of its tests that fails, or its effect if none fails.
 pub fn rows_are_the_table()
     ensures { (o : Object) (c : Context) (i : Instr) → IsTheRow o c i }
 {}
 
-/// The tests that the typing rows make of words and of basic types decide whether a word has a type and whether a type
-/// is accepted as another. The type of a run of cells is the one that all of them have, if a `ref` can refer to it.
+/// The typing rows' tests of words and of basic types decide whether a word has a type and whether a type is accepted
+/// as another. The type of a run of cells is the one that all of them have, if a `ref` can refer to it.
 pub fn types_are_tested()
     ensures words { (o : Object) (w : ℕ) (b : Basic) → Decides (has_type o w b) (HasType o w b) }
     ensures seen { (a b : Basic) → Decides (is_seen_as a b) (IsSeenAs a b) }

@@ -1,10 +1,10 @@
 //! The typing of objects, as definitions: typed words, contexts, the typing rules, and acceptance.
 //!
-//! The crate promises that the typing rule of an instruction is its row in the table of premises and
-//! effects, that its tests decide what their names say, and that an object is accepted exactly when it has
-//! no refusal. Its definitions: `specs/TypedWord.antt`, `specs/Premise.antt`, `specs/Context.antt`, the
-//! rules and the same as data (`specs/TypingRow.antt`), and `specs/Accepted.antt`.
-//! Objects that are accepted or refused are in `specs/Examples.antt`.
+//! The crate promises that the typing rule of an instruction is its row in the table of premises and effects, that the
+//! tests of words and of basic types decide whether a word has a type and whether a type is accepted as another, and
+//! that an object is accepted exactly when it has no refusal. Its definitions: `specs/TypedWord.antt`,
+//! `specs/Premise.antt`, `specs/Context.antt`, the rules, also as data (`specs/TypingRow.antt`), and
+//! `specs/Accepted.antt`. Examples of accepted and refused objects are in `specs/Examples.antt`.
 #![tactic(auto)]
 
 mod basic_types;

@@ -3,14 +3,13 @@ ghost use Rattle.std.specs.Prelude.{◌≡◌};
 
 use thiserror::Error;
 
-/// The first failing premise of a typing rule. They are numbered from 1 in this order
-/// (`specs/Premise.antt`).
+/// The first failing premise of a typing rule. Premises are numbered from 1 in this order (`specs/Premise.antt`).
 #[derive(Clone, Copy, Debug, PartialEq, Eq, Error)]
 pub enum Why {
     /// A register that the rule reads has no type.
     #[error("a register that is read has no type")]
     Untyped,
-    /// A register that the rule reads, or the word of an operation, has another colour than it requires.
+    /// A register that the rule reads, or the word of an operation, does not have the colour that the rule requires.
     #[error("a register or a word has another colour")]
     Colour,
     /// The stored value's type is not accepted as the cell's type, or the word of a `mov` does not have the claimed
@@ -59,11 +58,10 @@ pub enum Why {
     /// memory has a scope above this block's number of integer variables.
     #[error("the substitution does not fit the target or this block")]
     Annotation,
-    /// A blue jump or `halt` is not the last instruction of its block, or the last instruction is another
-    /// one.
+    /// A blue jump or `halt` is not the last instruction of its block, or the last instruction is neither.
     #[error("the block does not end here")]
     BlockEnd,
-    /// The cells of a run are not all of one basic type, or that type has 8 `ref`.
+    /// The cells of a run are not all of one basic type, or that type has 8 refs.
     #[error("the cells of a run are not of one type to which a ref can refer")]
     Array,
 }

@@ -1,4 +1,4 @@
--- Parts of lists at a place: rows, cells, types and their rows.
+-- List elements at a position: rows, cells, types and their rows.
 use Rattle.std.proofs.Common.{◌≡◌, ℕ, zero, suc, ◌+◌, ◌-◌, ◌<◌, ◌≤◌, List, [], ◌∷◌, length, map, take, drop, Some, refl}
 use Rattle.std.proofs.Common.{sym, ap, ◌∙◌, subst, arith}
 use Rattle.std.specs.Prelude.{slice_get}
@@ -14,12 +14,12 @@ use Rattle.ft_view.specs.Ends.{AreEnds}
 use Rattle.ft_view.specs.Viewed.{last_end}
 use Rattle.ft_view.proofs.EndsRise.{types_more}
 
--- a value of a record
+-- the value of the record at a position
 pub mapped : {X : Type 0} (v : List ℕ → X) (rs : List (List ℕ)) (i : ℕ) (row : List ℕ) (x : X) → slice_get rs i
     ≡ Some row → x ≡ v row → slice_get (map v rs) i ≡ Some x
 mapped v rs i row x there is = slice_get-map v rs i ∙ ap (option_map v) there ∙ ap Some (sym is)
 
--- where the rows of the record before a place end
+-- where the rows of the record before a position end
 pub last_at : (end_of : List ℕ → ℕ) (start : ℕ) (rs : List (List ℕ)) (k : ℕ) (row : List ℕ) → slice_get rs k
     ≡ Some row → last_end end_of start (take (suc k) rs) ≡ end_of row
 last_at end_of start [] k row e = absurd (cc)
@@ -42,7 +42,7 @@ cell_at names start [] k row e = absurd (cc)
 cell_at names start (r ∷ rs) zero row e = let same : r ≡ row = cc in ap (λ x. Some (cell_of names start x)) same
 cell_at names start (r ∷ rs) (suc k) row e = cell_at names (past_of r) rs k row e
 
--- the type of a record, if the rows before end at these places
+-- the type that a record encodes, if the rows before it end at these places
 abbrev pub type_taken : ℕ → ℕ → List ℕ → List RegType → List (ℕ × ℕ) → CodeType
 type_taken from queue_from row regs queue = record {
   ints = type_ints_of row;

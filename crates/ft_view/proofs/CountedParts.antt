@@ -1,4 +1,4 @@
--- The parts of the object that a view's bytes spell, by the view's records.
+-- The parts of the object that a view's bytes spell, from the view's records.
 use Rattle.std.proofs.Common.{◌≡◌, ℕ, ◌+◌, ◌-◌, ◌*◌, ◌<◌, ◌≤◌, List, [], ◌∷◌, length, take, drop, None, Some, refl, sym}
 use Rattle.std.proofs.Common.{ap, ◌∙◌, subst, arith}
 use Rattle.std.specs.Prelude.{slice_get, unwrap_or}
@@ -32,7 +32,7 @@ use Rattle.ft_view.proofs.At.{mapped, ends_at, cell_at, type_taken, type_at, tak
 use Rattle.ft_view.proofs.EndsRise.{ends_of_cells, ends_of_types}
 use Rattle.ft_view.proofs.Whole.{unbroken}
 
--- how many there are
+-- how many parts of each kind there are
 pub cell_count : (bytes : List ℕ) → length (object_of bytes).cells ≡ (header_at bytes).cells
 unfolding tables_read
 cell_count bytes = length_cells_of (names_part (header_at bytes) bytes) 0 (cell_records bytes)
@@ -71,7 +71,7 @@ pub entry_is : (bytes : List ℕ) → (object_of bytes).entry ≡ (header_at byt
 unfolding tables_read
 entry_is bytes = refl
 
--- parts that only their records determine
+-- parts that their records alone determine
 pub node_is : (bytes row : List ℕ) (i : ℕ) (x : Node) → slice_get (node_records bytes) i ≡ Some row → x ≡ node_of row →
     slice_get (object_of bytes).nodes i ≡ Some x
 unfolding tables_read
@@ -112,7 +112,7 @@ name_is bytes name k start past refs base code_type init there last is =
     ap (option_map name_of) (cell_at (names_part (header_at bytes) bytes) 0 (cell_records bytes) k _ there)
     ∙ sym (ap Some (is ∙ ap (λ s. take (past - s) (drop s (names_part (header_at bytes) bytes))) last))
 
--- ends if no rule is broken
+-- the ends of names and rows, if no rule is broken
 pub cell_ends : (h : Header) (p : Places) (bytes seen : List ℕ) → IsView h p bytes → bytes ≡ seen →
     AreEnds past_of (header_at seen).names 0 (cell_records seen)
 cell_ends h p bytes seen v e =
@@ -188,7 +188,7 @@ pub queue_are : (bytes row : List ℕ) (t from queue_from : ℕ) →
 queue_are bytes row t from queue_from h q there e f =
     ap (λ o. unwrap_or (option_map queue_of o) []) (type_is bytes row t from queue_from h q there e f)
 
--- the record of a type that is there
+-- the record of an existing type
 abbrev type_row : List ℕ → ℕ → List ℕ
 type_row bytes t = numbers type_layout (take 16 (drop (16 * t) (types_part (header_at bytes) bytes)))
 

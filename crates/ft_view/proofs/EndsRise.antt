@@ -46,7 +46,7 @@ types_more from queue_from row rest regs queue own_regs own_queue le queue_le p 
     drop-drop (queue_end_of row - queue_from) queue_from queue ∙ ap (λ n. drop n queue) b in
     rw (k, l, p, q) refl
 
--- the ends of a type that breaks no rule
+-- the ends of a type's rows, if it breaks no rule
 type_ends : (h : Header) (nodes : List Node) (regs queue at : ℕ) (row : List ℕ) → length row ≡ 7 →
     type_broken h nodes regs queue at row ≡ None
     → (regs ≤ regs_end_of row) × (regs_end_of row ≤ h.regs) × (queue ≤ queue_end_of row) × (queue_end_of row ≤ h.queue)
@@ -60,7 +60,7 @@ type_ends h nodes regs queue at row seven =
       grind (arith, nat_tests),
     )) row seven
 
--- the ends of types that break no rule
+-- the ends of the rows of types that break no rule
 pub ends_of_types : (h : Header) (nodes : List Node) (n : ℕ) (bs : List ℕ) (regs queue at : ℕ) →
     types_broken h nodes regs queue at (rows type_layout n bs) ≡ None
     → AreEnds regs_end_of h.regs regs (rows type_layout n bs)

@@ -16,12 +16,12 @@ use Rattle.ft_view.specs.Ends.{AreEnds}
 use Rattle.ft_view.specs.Viewed.{last_end}
 use Rattle.ft_view.proofs.RowsAfter.{rows_snoc}
 
--- the rows from here, by the first of them
+-- splitting the first row off the remaining rows
 first_row : (m n : ℕ) (bs row : List ℕ) → m ≡ suc n → row ≡ numbers cell_layout (take 16 bs) → rows cell_layout m bs
     ≡ row ∷ rows cell_layout n (drop 16 bs)
 first_row m n bs row e is = rows_more cell_layout m n bs e ∙ ap (λ r. r ∷ rows cell_layout n (drop 16 bs)) (sym is)
 
--- another name
+-- the first name is another one
 pub any_more : (f : Cell → Bool) (names : List ℕ) (start m n : ℕ) (bs row : List ℕ) (all : Bool) → m ≡ suc n → row
     ≡ numbers cell_layout (take 16 bs) → f (cell_of names start row) ≡ false
     → list_any f (cells_of names start (rows cell_layout m bs)) ≡ all →
@@ -30,7 +30,7 @@ any_more f names start m n bs row all e is other h =
     let rest = list_any f (cells_of names (past_of row) (rows cell_layout n (drop 16 bs))) in
     sym (ap (λ rs. list_any f (cells_of names start rs)) (first_row m n bs row e is) ∙ ap (λ b. b || rest) other) ∙ h
 
--- this name
+-- the first name is this one
 pub any_here : (f : Cell → Bool) (names : List ℕ) (start m n : ℕ) (bs row : List ℕ) (all : Bool) → m ≡ suc n → row
     ≡ numbers cell_layout (take 16 bs) → f (cell_of names start row) ≡ true
     → list_any f (cells_of names start (rows cell_layout m bs)) ≡ all → true ≡ all
@@ -53,7 +53,7 @@ ends_first end_of all start zero (suc i) bs le h = absurd (omega arith)
 ends_first end_of all start (suc n) (suc i) bs le h =
     (h.0, h.1, ends_first end_of all (end_of (numbers cell_layout (take 16 bs))) n i (drop 16 bs) (omega arith) h.2)
 
--- the cells of some records and one more
+-- the cells of some records and of one more
 cells_snoc : (names : List ℕ) (start : ℕ) (rs : List (List ℕ)) (r : List ℕ) → cells_of names start (rs ++ r ∷ [])
     ≡ cells_of names start rs ++ cell_of names (last_end past_of start rs) r ∷ []
 cells_snoc names start [] r = refl
@@ -126,7 +126,7 @@ pub names_end : (v : Version) (end place start m : ℕ) (names rest : List ℕ) 
 names_end v end place start m names rest earlier broken e h = sym h
     ∙ ap (λ rs. names_broken v end earlier place (cells_of names start rs)) (rows_none cell_layout m rest e)
 
--- none
+-- no records encode no cells
 pub no_cells : (names records : List ℕ) → cells_of names 0 (rows cell_layout 0 records) ≡ []
 unfolding rows
 no_cells names records = refl

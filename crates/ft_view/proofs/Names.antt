@@ -1,4 +1,4 @@
--- A loop over the bytes of a name, and one over names.
+-- A loop over the bytes of a name.
 use Rattle.std.proofs.Common.{◌≡◌, ℕ, ◌+◌, ◌<◌, ◌≤◌, List, length, drop, get_or, Option, None, Some, sym, ap, ◌∙◌}
 use Rattle.std.proofs.lemmas.List.{at_drop_more, at_drop_all}
 use Rattle.ft_format.specs.declared.object_error.ObjectError.{ObjectError}
@@ -17,7 +17,7 @@ byte_goes v bytes i at broken lt none h =
     sym (at_drop_more (name_rest_broken v at) bytes i 0 lt
     ∙ ap (λ r. r next name_rest_broken v (at + 1) (drop (i + 1) bytes)) none) ∙ h
 
--- a byte that may not
+-- a byte that is not allowed there
 pub byte_halts : (v : Version) (bytes : List ℕ) (i at : ℕ) (broken : Option ObjectError) (why : ObjectError) →
     i < length bytes → must (may_follow v (get_or bytes i 0)) (errors.Name at) ≡ Some why
     → name_rest_broken v at (drop i bytes) ≡ broken → broken ≡ Some why

@@ -1,4 +1,4 @@
--- A node's record that breaks no rule: what it is written of, and the number of a variable.
+-- What is known of a valid node record: the number of a variable is below 256.
 use Rattle.std.proofs.Common.{◌≡◌, ◌<◌, ℕ, zero, suc, ◌+◌, List, [], ◌∷◌, ◌++◌, None, Some, subst, arith}
 use Rattle.std.specs.Prelude.{nat_le, nat_lt, slice_get}
 use Rattle.ft_static.specs.declared.node.Node.{Node}
@@ -11,14 +11,14 @@ use Rattle.ft_format.specs.Broken.{nodes_broken}
 use Rattle.ft_format.proofs.Unbroken.{both}
 use Rattle.ft_format.proofs.Codes.{le_held, lt_held}
 
--- a record breaks no rule of a version, at some place after some nodes
+-- the record breaks no rule, in some version, at some place and after some nodes
 pub record IsPlain (row : List ℕ) : Type 0 where
   pub version : Version
   pub earlier : List Node
   pub at : ℕ
   pub unbroken : node_broken version earlier at row ≡ None
 
--- one of the records of nodes that break no rule
+-- one of the valid records of nodes
 pub node_at : (v : Version) (earlier : List Node) (at : ℕ) (rs : List (List ℕ)) (i : ℕ) (row : List ℕ) →
     nodes_broken v earlier at rs ≡ None → slice_get rs i ≡ Some row → IsPlain row
 unfolding nodes_broken

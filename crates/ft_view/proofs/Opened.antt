@@ -1,4 +1,4 @@
--- What a view's bytes show at a place.
+-- What a view's bytes hold at a place.
 use Rattle.std.proofs.Common.{◌≡◌, ℕ, ◌+◌, ◌-◌, ◌*◌, ◌<◌, ◌≤◌, List, [], ◌∷◌, length, take, drop, None, Some, refl, sym}
 use Rattle.std.proofs.Common.{ap, ◌∙◌, subst, arith}
 use Rattle.std.specs.Prelude.{slice_get}
@@ -29,7 +29,7 @@ use Rattle.ft_view.specs.Known.{IsKnown}
 pub sections : (h : Header) (p : Places) (bytes : List ℕ) → IsView h p bytes → AreUnbroken h bytes
 sections h p bytes v = subst (λ k. AreUnbroken k bytes) (sym v.header) (unbroken bytes v.unbroken)
 
--- a count under the header that the bytes have
+-- an index below a count of the bytes' header is below that of the view's header
 pub below : (h : Header) (p : Places) (bytes seen : List ℕ) (count : Header → ℕ) (i : ℕ) → IsView h p bytes → seen
     ≡ bytes → i < count (header_at seen) → i < count h
 below h p bytes seen count i v e lt = subst (λ k. i < count k) (ap header_at e ∙ sym v.header) lt
@@ -87,7 +87,7 @@ code_there h p bytes seen code part row i v e code_is lt is numbers_are =
     let there = row_at code_layout k.instrs i bs lt in
     rw (numbers_are, is, code_is, same) there
 
--- a record's numbers, each by its place
+-- a record's numbers, each read at its place
 pub numbers_in : (bs : List ℕ) → numbers code_layout bs
     ≡ kind_in bs ∷ a_in bs ∷ b_in bs ∷ c_in bs ∷ x_in bs ∷ high_in bs ∷ low_in bs ∷ []
 unfolding numbers
@@ -95,7 +95,7 @@ numbers_in bs =
     let two = drop-drop 1 1 bs in
     rw (two, drop-drop 1 2 bs, drop-drop 1 3 bs, drop-drop 4 4 bs, drop-drop 4 8 bs) refl
 
--- what is known of the record of an instruction, which is written of one
+-- what is known of a valid instruction record
 pub instr_known : (bytes part : List ℕ) (i : ℕ) → AreBytes bytes → broken bytes ≡ None
     → slice_get (instr_rows_of (header_at bytes) bytes) i ≡ Some (numbers code_layout part) → IsKnown part
 instr_known bytes part i b n there =

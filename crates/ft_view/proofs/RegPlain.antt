@@ -1,4 +1,4 @@
--- The register of a register row that breaks no rule.
+-- The register of a valid register row exists.
 use Rattle.std.proofs.Common.{◌≡◌, ◌<◌, ℕ, zero, suc, ◌+◌, ◌-◌, ◌*◌, List, [], ◌∷◌, ◌++◌, drop, None, Some, ap, ◌∙◌}
 use Rattle.std.proofs.Common.{subst, arith, inl, inr, ◌⊎◌}
 use Rattle.std.specs.Prelude.{slice_get}
@@ -14,13 +14,13 @@ use Rattle.ft_format.proofs.Unbroken.{both}
 use Rattle.ft_format.proofs.Codes.{lt_held, eq_held}
 use Rattle.ft_view.specs.Ends.{AreEnds}
 
--- of one row
+-- in one row
 plain_reg : (types : ℕ) (nodes : List Node) (ints least at reg colour pad refs base code_type expr : ℕ) →
     reg_broken types nodes ints least at (reg ∷ colour ∷ pad ∷ refs ∷ base ∷ code_type ∷ expr ∷ []) ≡ None → reg < 64
 plain_reg types nodes ints least at reg colour pad refs base code_type expr n =
     lt_held reg 64 (errors.Index at) (both (register_broken at reg) _ n).0
 
--- of the rows of one type
+-- in the rows of one type
 type_reg_at : (types : ℕ) (nodes : List Node) (ints least at : ℕ) (rs : List (List ℕ))
     (i reg colour pad refs base code_type expr : ℕ) → type_regs_broken types nodes ints least at rs ≡ None
     → slice_get rs i ≡ Some (reg ∷ colour ∷ pad ∷ refs ∷ base ∷ code_type ∷ expr ∷ []) → reg < 64
@@ -37,21 +37,21 @@ type_reg_at types nodes ints least at (r ∷ rs) (suc i) reg colour pad refs bas
     (type_regs_broken types nodes ints (first_of_row r + 1) (at + 12) rs) n in
     type_reg_at types nodes ints (first_of_row r + 1) (at + 12) rs i reg colour pad refs base code_type expr p.1 e
 
--- what is in two lists is in one of them
+-- an element of a concatenation is in one of the two lists
 in_either : {X : Type 0} (xs ys : List X) (k : ℕ) (x : X) → slice_get (xs ++ ys) k ≡ Some x →
     (slice_get xs k ≡ Some x) ⊎ ((j : ℕ) × (slice_get ys j ≡ Some x))
 in_either [] ys k x h = inr (k, h)
 in_either (y ∷ xs) ys zero x h = inl h
 in_either (y ∷ xs) ys (suc k) x h = in_either xs ys k x h
 
--- there is no row among none
+-- there is no row among zero rows
 nothing : (n k : ℕ) (bs : List ℕ) (row : List ℕ) (P : Type 0) → n ≡ 0 → slice_get (rows reg_layout n bs) k ≡ Some row →
     P
 nothing n k bs row P e h =
     let none : slice_get [] k ≡ Some row = subst (λ l. slice_get l k ≡ Some row) (rows_none reg_layout n bs e) h in
     absurd (cc)
 
--- of the rows of all types
+-- in the rows of all types
 pub reg_at : (h : Header) (nodes : List Node) (start at : ℕ) (trs : List (List ℕ)) (bytes : List ℕ)
     (k reg colour pad refs base code_type expr : ℕ) → AreEnds regs_end_of h.regs start trs →
     regs_broken h nodes start at trs bytes ≡ None

@@ -28,7 +28,7 @@ pub record AreUnbroken (h : Header) (bytes : List ℕ) : Type 0 where
   pub blocks : blocks_broken h None (blocks_at h) (rows pair_layout h.blocks (blocks_part h bytes)) ≡ None
   pub instrs : instrs_broken h (nodes_read h bytes) 0 (instrs_at h) (instr_rows_of h bytes) ≡ None
 
--- bytes that break no rule are such
+-- this holds of bytes that break no rule
 pub unbroken : (bytes : List ℕ) → broken bytes ≡ None → AreUnbroken (header_at bytes) bytes
 unfolding broken tables_broken code_types_broken
 unbroken bytes n =

@@ -1,4 +1,4 @@
--- The numbers of an instruction's record, each by its place in the record's bytes.
+-- The numbers of an instruction's record, each read at its place in the record's bytes.
 use Rattle.std.specs.Prelude.{ℕ, List, drop}
 use Rattle.std.specs.Int.{w8, w32}
 use Rattle.ft_isa.specs.declared.instr.Instr.{Instr}
@@ -27,6 +27,6 @@ high_in bytes = number_of w32 (drop 8 bytes)
 abbrev pub low_in : List ℕ → ℕ
 low_in bytes = number_of w32 (drop 12 bytes)
 
--- the instruction of a record
+-- the instruction that a record encodes
 abbrev pub instr_in : List ℕ → Instr
 instr_in bytes = instr_by (kind_in bytes) (a_in bytes) (b_in bytes) (c_in bytes) (x_in bytes) (high_in bytes) (low_in bytes)

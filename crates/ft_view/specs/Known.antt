@@ -1,4 +1,4 @@
--- What is known of an instruction's record that breaks no rule: its kind, operation and registers exist.
+-- What is known of a valid instruction record: its kind, operation and registers exist.
 use Rattle.std.specs.Prelude.{◌<◌, ◌≤◌, ℕ, List}
 use Rattle.ft_isa.specs.Operations.{last_op_code}
 use Rattle.ft_format.specs.Versions.{last_instr_kind}

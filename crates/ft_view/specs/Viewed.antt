@@ -1,4 +1,4 @@
--- Bytes that a view looks at, and what is known of their records.
+-- The bytes of a view, and what is known of their records.
 use Rattle.std.specs.Prelude.{◌≡◌, ℕ, List, [], ◌∷◌, None}
 use Rattle.ft_format.specs.declared.header.Header.{Header}
 use Rattle.ft_format.specs.declared.places.Places.{Places}
@@ -7,14 +7,14 @@ use Rattle.ft_format.specs.Format.{AreBytes}
 use Rattle.ft_format.specs.Layout.{rows, cell_layout, code_layout, type_layout, reg_layout, pair_layout, subst_layout}
 use Rattle.ft_format.specs.Broken.{cells_part, nodes_part, types_part, regs_part, queue_part, blocks_part, substs_part, header_at, broken}
 
--- these are bytes that break no rule, this is their header, and these are the places that it gives
+-- these are valid bytes, this is their header, and these are the places that it gives
 pub record IsView (h : Header) (p : Places) (bytes : List ℕ) : Type 0 where
   pub are_bytes : AreBytes bytes
   pub header : h ≡ header_at bytes
   pub places : ArePlaces h p
   pub unbroken : broken bytes ≡ None
 
--- where the rows of the last of some records end, if those of the first begin at `start`
+-- where the rows of the last of these records end; `start` if there are no records
 abbrev pub last_end : (List ℕ → ℕ) → ℕ → List (List ℕ) → ℕ
 last_end end_of start [] = start
 last_end end_of start (row ∷ rest) = last_end end_of (end_of row) rest

@@ -1,4 +1,4 @@
-//! Blocks, which begin one after the other.
+//! Blocks, each of which begins after the previous one.
 ghost use Rattle.std.specs.Prelude.{◌≡◌, ◌≤◌, ◌^◌};
 ghost use Rattle.ft_view.specs.Found.{Finds};
 ghost use Rattle.ft_format.specs.Fields.{pair_numbers};
@@ -9,7 +9,7 @@ use crate::rules::check;
 use ft_format::{Header, ObjectError, PairRow};
 use ft_types::Block;
 
-/// Whether a block may begin here, after a block that begins at the previous place: at 0 if there is none.
+/// Whether a block may begin at `start`, given where the previous block begins. The first block begins at 0.
 fn may_begin(previous: Option<u32>, start: u32) -> bool
     ensures { result ≡ may_begin previous start }
 {
@@ -19,9 +19,9 @@ fn may_begin(previous: Option<u32>, start: u32) -> bool
     }
 }
 
-/// The rules of the record of a block, after a block that begins at the previous instruction; `previous` is `None` for
-/// block 0, which begins at 0. `Order` if it begins elsewhere, not after the previous one or not within the
-/// instructions, `Index` for a type that does not exist.
+/// Checks the record of a block; `previous` is where the previous block begins, `None` for block 0. `Order` if block 0
+/// does not begin at 0, if another block does not begin after the previous one, or if a block begins beyond the
+/// instructions; `Index` for a type that does not exist.
 pub fn check_block(
     header: Header,
     previous: Option<u32>,
@@ -36,7 +36,7 @@ pub fn check_block(
     check(row.second < header.types, ObjectError::Index { at: at + 4 })
 }
 
-/// The block of a record.
+/// The block that a record encodes.
 pub fn read_block(row: PairRow) -> Block
     ensures { result ≡ block_of (pair_numbers row) }
 {

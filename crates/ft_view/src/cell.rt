@@ -10,9 +10,9 @@ use crate::rules::{check, check_basic};
 use ft_format::{CellRow, Header, ObjectError};
 use ft_types::CellHead;
 
-/// The rules of the record of a cell, whose name begins at `start` in the name bytes: `Order` for a name whose end is
-/// not above `start` or is beyond them, `Name` for one of more bytes than the version allows, and what is wrong with
-/// the basic type.
+/// Checks the record of a cell whose name begins at `start` in the name bytes: `Order` if the name's end is not above
+/// `start` or is beyond the name bytes, `Name` if the name is longer than the version allows, and the errors of the
+/// basic type.
 pub fn check_cell(header: Header, start: u32, at: usize, row: CellRow) -> Result<(), ObjectError>
     requires places { at ≤ 2 ^ 27 }
     requires start { start ≤ 2 ^ 27 }
@@ -27,7 +27,7 @@ pub fn check_cell(header: Header, start: u32, at: usize, row: CellRow) -> Result
     check_basic(header.types, at + 4, row.refs, row.base, row.code_type)
 }
 
-/// The cell of a record that breaks no rule, without its name.
+/// The cell that a valid record encodes, without its name.
 pub fn read_cell(row: CellRow) -> CellHead
     ensures basic { result.basic ≡ basic_type_of row.refs row.base row.code_type }
     ensures init { result.init ≡ row.init }

@@ -10,7 +10,7 @@ use crate::node_records::NodeRecords;
 use crate::rules::{check, check_count, check_named, check_zero};
 use ft_format::{Header, ObjectError, TypeRow};
 
-/// The rules of a type's record, if the rows of the types before end at `regs` and `queue`.
+/// Checks a type's record; the rows of the types before it end at `regs` and `queue`.
 fn check_type(
     header: Header,
     nodes: &NodeRecords,
@@ -36,8 +36,8 @@ fn check_type(
     check_zero(at + 13, u32::from(row.pad2))
 }
 
-/// The rules of the records of all types, the first of which is at a place: `Order` and `Count` for the ends of
-/// their rows, `Index` and `Kind` for the memory, `Count` for the variables, `Pad`.
+/// Checks the records of all types, the first of which is at a place: `Order` and `Count` for the ends of their rows,
+/// `Index` and `Kind` for the memory, `Count` for the number of variables, `Pad` for the padding.
 pub fn check_types(
     header: Header,
     nodes: &NodeRecords,

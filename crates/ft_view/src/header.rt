@@ -1,4 +1,4 @@
-//! The header.
+//! The rules of the header.
 ghost use Rattle.std.specs.Prelude.{◌≡◌};
 ghost use Rattle.ft_format.specs.Rules.{header_broken};
 ghost use Rattle.ft_format.specs.Versions.{is_magic};
@@ -14,7 +14,7 @@ fn is_magic(magic: u64) -> bool
     magic == Version::First.magic() || magic == Version::Second.magic()
 }
 
-/// The rules of the header: `Magic`, `Count` for each of the counts in turn, `Entry`.
+/// Checks the header: `Magic`, then `Count` for each count in order, then `Entry`.
 pub fn check_header(header: Header) -> Result<(), ObjectError>
     ensures { Finds result (header_broken header) }
 {

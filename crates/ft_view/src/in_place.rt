@@ -1,4 +1,4 @@
-//! The fields of an instruction's record, each read where it is.
+//! The fields of an instruction's record, each read in place.
 ghost use Rattle.std.specs.Prelude.{◌≡◌, ◌<◌, ◌≤◌, ◌+◌, length, drop};
 ghost use Rattle.std.specs.Int.{w8, w32};
 ghost use Rattle.ft_format.specs.Layout.{number_of};
@@ -22,7 +22,7 @@ fn byte_at(bytes: &[u8], at: usize) -> u8
     front[0]
 }
 
-/// The number of four bytes at a place.
+/// The four-byte number at a place.
 #[inline(always)]
 #[tactic(auto, unfolding(ft_format::specs::Layout::number_of))]
 pub(crate) fn number_at(bytes: &[u8], at: usize) -> u32
@@ -82,7 +82,7 @@ pub(crate) fn field_c(bytes: &[u8]) -> u8
     byte_at(bytes, 3)
 }
 
-/// The number x.
+/// Field x of a record.
 #[inline(always)]
 pub(crate) fn field_x(bytes: &[u8]) -> u32
     requires { 16 ≤ length bytes.now }
@@ -91,7 +91,7 @@ pub(crate) fn field_x(bytes: &[u8]) -> u32
     number_at(bytes, 4)
 }
 
-/// The operation of an existing code, by its last byte.
+/// The operation with this code. The code must exist, so its lowest byte identifies it.
 #[inline(always)]
 pub(crate) fn known_op(code: u32) -> Op
     requires { code ≤ last_op_code }

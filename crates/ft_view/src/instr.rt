@@ -1,4 +1,4 @@
-//! Instructions: their rules, and reading them where their records are. Each kind reads its own fields and no others.
+//! Instructions: checks their records, and reads them in place. Each kind reads only its own fields.
 ghost use Rattle.std.specs.Prelude.{◌≡◌, ◌<◌, ◌≤◌, ◌^◌, length};
 ghost use Rattle.ft_isa.specs.Operations.{last_op_code};
 ghost use Rattle.ft_view.specs.Found.{Finds};
@@ -18,7 +18,7 @@ use crate::rules::{
 use ft_format::{CodeRow, Header, ObjectError, Version};
 use ft_isa::Instr;
 
-/// The word of a record, which is zero.
+/// Checks that the word of a record is zero.
 fn check_no_word(at: usize, row: CodeRow) -> Result<(), ObjectError>
     ensures { Finds result (no_word_broken at row.high row.low) }
 {
@@ -26,7 +26,7 @@ fn check_no_word(at: usize, row: CodeRow) -> Result<(), ObjectError>
     check_zero(at, row.low)
 }
 
-/// An operation on two registers.
+/// Checks an operation on two registers.
 fn check_op_reg(version: Version, at: usize, row: CodeRow) -> Result<(), ObjectError>
     requires { at ≤ 2 ^ 27 }
     ensures { Finds result (op_reg_broken version at row.a row.b row.c row.x row.high row.low) }
@@ -38,7 +38,7 @@ fn check_op_reg(version: Version, at: usize, row: CodeRow) -> Result<(), ObjectE
     check_no_word(at + 8, row)
 }
 
-/// An operation on a register and a word.
+/// Checks an operation on a register and a word.
 fn check_op_word(version: Version, at: usize, row: CodeRow) -> Result<(), ObjectError>
     requires { at ≤ 2 ^ 27 }
     ensures { Finds result (op_word_broken version at row.a row.b row.c row.x) }
@@ -49,7 +49,7 @@ fn check_op_word(version: Version, at: usize, row: CodeRow) -> Result<(), Object
     check_op(version, at + 4, row.x)
 }
 
-/// The basic type that x spells.
+/// Checks the basic type that x spells.
 fn check_basic_number(types: u32, at: usize, x: u32) -> Result<(), ObjectError>
     requires { at ≤ 2 ^ 28 }
     ensures { Finds result (basic_number_broken types at x) }
@@ -58,7 +58,7 @@ fn check_basic_number(types: u32, at: usize, x: u32) -> Result<(), ObjectError>
     check_basic(types, at, refs, base, code_type)
 }
 
-/// A `mov`, which claims a type.
+/// Checks a `mov`, which claims a type.
 fn check_mov(types: u32, at: usize, row: CodeRow) -> Result<(), ObjectError>
     requires { at ≤ 2 ^ 27 }
     ensures { Finds result (mov_broken types at row.a row.b row.c row.x) }
@@ -69,7 +69,7 @@ fn check_mov(types: u32, at: usize, row: CodeRow) -> Result<(), ObjectError>
     check_basic_number(types, at + 4, row.x)
 }
 
-/// A load or a store: two registers and a colour.
+/// Checks a load or a store: two registers and a colour.
 fn check_access(at: usize, row: CodeRow) -> Result<(), ObjectError>
     requires { at ≤ 2 ^ 27 }
     ensures { Finds result (access_broken at row.a row.b row.c row.x row.high row.low) }
@@ -81,7 +81,7 @@ fn check_access(at: usize, row: CodeRow) -> Result<(), ObjectError>
     check_no_word(at + 8, row)
 }
 
-/// The substitution of a blue jump or branch, at its first field.
+/// Checks the substitution of a blue jump or branch, whose first field is at `at`.
 fn check_substitution(
     header: Header,
     nodes: &NodeRecords,
@@ -100,7 +100,7 @@ fn check_substitution(
     check_node_number(nodes, true, at + 8, row.low)
 }
 
-/// What a jump or branch has from field x on: zeros in a green one, a substitution in a blue one.
+/// Checks a jump or branch from field x on: zeros if it is green, a substitution if it is blue.
 fn check_transfer(
     header: Header,
     nodes: &NodeRecords,
@@ -120,7 +120,7 @@ fn check_transfer(
     }
 }
 
-/// A jump in the colour of its field c.
+/// Checks a jump, whose colour is in field c.
 fn check_jump(
     header: Header,
     nodes: &NodeRecords,
@@ -138,7 +138,7 @@ fn check_jump(
     check_transfer(header, nodes, first, at + 4, row)
 }
 
-/// A branch in the colour of its field c.
+/// Checks a branch, whose colour is in field c.
 fn check_branch(
     header: Header,
     nodes: &NodeRecords,
@@ -156,7 +156,7 @@ fn check_branch(
     check_transfer(header, nodes, first, at + 4, row)
 }
 
-/// A `halt`, all of whose fields are zero.
+/// Checks a `halt`, all of whose fields are zero.
 fn check_halt(at: usize, row: CodeRow) -> Result<(), ObjectError>
     requires { at ≤ 2 ^ 27 }
     ensures { Finds result (halt_broken at row.a row.b row.c row.x row.high row.low) }
@@ -168,7 +168,7 @@ fn check_halt(at: usize, row: CodeRow) -> Result<(), ObjectError>
     check_no_word(at + 8, row)
 }
 
-/// The word of a record, which is the length of a run from cell x.
+/// Checks that the word of a record is the length of a run from cell x.
 fn check_run(cells: u32, at: usize, row: CodeRow) -> Result<(), ObjectError>
     ensures { Finds result (run_broken cells at row.x row.high row.low) }
 {
@@ -178,7 +178,7 @@ fn check_run(cells: u32, at: usize, row: CodeRow) -> Result<(), ObjectError>
     check(past <= u64::from(cells), ObjectError::Index { at })
 }
 
-/// An `idx`: two registers, and a run of cells.
+/// Checks an `idx`: two registers, and a run of cells.
 fn check_index(cells: u32, at: usize, row: CodeRow) -> Result<(), ObjectError>
     requires { at ≤ 2 ^ 27 }
     ensures { Finds result (index_broken cells at row.a row.b row.c row.x row.high row.low) }
@@ -190,10 +190,10 @@ fn check_index(cells: u32, at: usize, row: CodeRow) -> Result<(), ObjectError>
     check_run(cells, at + 8, row)
 }
 
-/// The rules of the record of an instruction, where earlier substitutions took the rows up to `first`: `Kind` for a
-/// code without a meaning or a substitution's memory that is an integer, `Index` for a register, type, node or cell
-/// that does not exist, `Pad`, `Order` and `Count` for the rows of its substitution, and `Count` for the length of a
-/// run.
+/// Checks the record of an instruction, where earlier substitutions took the rows up to `first`: `Kind` for a code
+/// without a meaning, too many refs or a substitution's memory that is an integer, `Index` for a register, type, node
+/// or cell that does not exist, `Pad` for an unused field that is not zero, `Order` and `Count` for the rows of its
+/// substitution, and `Count` for the length of a run.
 pub fn check_instr(
     header: Header,
     nodes: &NodeRecords,
@@ -222,7 +222,7 @@ pub fn check_instr(
     }
 }
 
-/// The row after those that the substitutions up to the instruction of this record take, where earlier ones took the
+/// The row after the last one that the substitutions up to this record's instruction take, where earlier ones took the
 /// rows up to `first`.
 pub fn rows_past(first: u32, row: CodeRow) -> u32
     ensures { result ≡ rows_past first (code_numbers row) }
@@ -233,8 +233,8 @@ pub fn rows_past(first: u32, row: CodeRow) -> u32
     }
 }
 
-/// The instruction of the record in the first 16 bytes, which breaks no rule. If the colour distinguishes two
-/// instructions of a kind, each has an arm of its own, so that the machine's loop makes this choice and no other.
+/// The instruction that the valid record in the first 16 bytes encodes. Where the colour distinguishes two instructions
+/// of a kind, each has its own arm, so that the machine's loop makes only this one choice.
 #[inline(always)]
 pub fn instr_in(bytes: &[u8]) -> Instr
     requires there { 16 ≤ length bytes.now }

@@ -1,10 +1,9 @@
 //! Objects read in place.
 //!
-//! A `View` is bytes that spell an object, with nothing copied. The crate promises that the bytes are
-//! accepted and refused as the format says (`ft_format`), with the first broken rule and its place
-//! (`specs/Found.antt`), and that each call returns that part of the object that the bytes spell. Each kind
-//! of record has its own module, which checks and reads it. A place is an offset in bytes from the start of
-//! the object.
+//! A `View` is a slice of bytes that spell an object; nothing is copied. The crate promises that bytes are accepted or
+//! refused as the format says (`ft_format`), with the first broken rule and its place (`specs/Found.antt`), and that
+//! each call returns the corresponding part of the object that the bytes spell. Each kind of record has its own module,
+//! which checks and reads it. A place is an offset in bytes from the start of the object.
 #![tactic(auto)]
 
 mod block;

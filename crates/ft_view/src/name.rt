@@ -42,7 +42,7 @@ fn may_follow(version: Version, b: u8) -> bool
     }
 }
 
-/// The rules of the bytes after a name's first.
+/// Checks the bytes of a name after its first.
 fn check_name_rest(version: Version, at: usize, bytes: &[u8]) -> Result<(), ObjectError>
     requires { at + length bytes.now ≤ 2 ^ 27 }
     ensures { Finds result (name_rest_broken version at bytes.now) }
@@ -55,7 +55,7 @@ fn check_name_rest(version: Version, at: usize, bytes: &[u8]) -> Result<(), Obje
     Ok(())
 }
 
-/// The rules of the bytes of a name that begins at a place: `Name` for one that is not allowed there.
+/// Checks the bytes of a name that begins at a place: `Name` for a byte that is not allowed there.
 #[tactic(auto, unfolding(ft_format::specs::Broken::name_bytes_broken))]
 pub fn check_name_bytes(version: Version, at: usize, name: &[u8]) -> Result<(), ObjectError>
     requires { at + length name.now ≤ 2 ^ 27 }

@@ -1,7 +1,7 @@
-//! Nodes, each after those to which it refers.
+//! Nodes, each after the nodes that it refers to.
 //!
-//! A large object is mostly nodes, so their rules are inlined. The last check of a record is left by `?` like those
-//! before it: then each check is one comparison and one branch.
+//! A large object is mostly nodes, so their checks are inlined. The last check of a record also ends in `?`, like those
+//! before it, so that each check is one comparison and one branch.
 ghost use Rattle.std.specs.Prelude.{◌≡◌, ◌+◌, ◌<◌, ◌≤◌, ◌^◌};
 ghost use Rattle.ft_view.specs.Found.{Finds};
 ghost use Rattle.ft_format.specs.Fields.{node_numbers};
@@ -15,7 +15,7 @@ use ft_isa::Op;
 use ft_static::{Node, Shape};
 use ft_types::joined;
 
-/// A variable, whose number is below the scope.
+/// Checks a variable, whose number is below the scope.
 fn check_variable(at: usize, row: NodeRow) -> Result<(), ObjectError>
     requires { at ≤ 2 ^ 27 }
     ensures { Finds result (variable_broken at row.scope row.a row.b row.c) }
@@ -29,7 +29,7 @@ fn check_variable(at: usize, row: NodeRow) -> Result<(), ObjectError>
     Ok(())
 }
 
-/// An operation on two integers, or the word of a memory at an address.
+/// Checks an operation on two integers, or the word of a memory at an address.
 #[inline(always)]
 fn check_pair(
     earlier: &NodeRecords,
@@ -46,7 +46,7 @@ fn check_pair(
     Ok(())
 }
 
-/// The memory variable.
+/// Checks the memory variable.
 fn check_memory(at: usize, row: NodeRow) -> Result<(), ObjectError>
     requires { at ≤ 2 ^ 27 }
     ensures { Finds result (memory_broken at row.a row.b row.c) }
@@ -57,7 +57,7 @@ fn check_memory(at: usize, row: NodeRow) -> Result<(), ObjectError>
     Ok(())
 }
 
-/// A memory with another value at an address.
+/// Checks a memory with another value at one address.
 fn check_upd(earlier: &NodeRecords, at: usize, row: NodeRow) -> Result<(), ObjectError>
     requires { at ≤ 2 ^ 27 }
     ensures { Finds result (upd_broken earlier.now at row.scope row.a row.b row.c) }
@@ -68,7 +68,7 @@ fn check_upd(earlier: &NodeRecords, at: usize, row: NodeRow) -> Result<(), Objec
     Ok(())
 }
 
-/// The remainder of an integer by a length.
+/// Checks the remainder of an integer divided by a length.
 fn check_rem(earlier: &NodeRecords, at: usize, row: NodeRow) -> Result<(), ObjectError>
     requires { at ≤ 2 ^ 27 }
     ensures { Finds result (rem_broken earlier.now at row.scope row.a row.b row.c) }
@@ -79,7 +79,7 @@ fn check_rem(earlier: &NodeRecords, at: usize, row: NodeRow) -> Result<(), Objec
     Ok(())
 }
 
-/// The parts a, b and c of a node, by its kind; any kind above 5 is that of a remainder.
+/// Checks the parts a, b and c of a node, by its kind; any kind above 5 is taken as a remainder.
 #[inline(always)]
 fn check_parts(earlier: &NodeRecords, at: usize, row: NodeRow) -> Result<(), ObjectError>
     requires { at ≤ 2 ^ 27 }
@@ -99,7 +99,7 @@ fn check_parts(earlier: &NodeRecords, at: usize, row: NodeRow) -> Result<(), Obj
     }
 }
 
-/// The rules of a node's record after its scope.
+/// Checks a node's record from its scope on.
 #[inline(always)]
 fn check_rest(earlier: &NodeRecords, at: usize, row: NodeRow) -> Result<(), ObjectError>
     requires { at ≤ 2 ^ 27 }
@@ -110,8 +110,9 @@ fn check_rest(earlier: &NodeRecords, at: usize, row: NodeRow) -> Result<(), Obje
     check_parts(earlier, at, row)
 }
 
-/// The rules of the record of a node, after the earlier ones: `Kind` for a code without a meaning or a node of the
-/// wrong sort, `Pad`, `Count` for the scope or a length, `Index` for a node or variable that may not be used.
+/// Checks the record of a node, given the earlier ones: `Kind` for a code without a meaning or a node of the wrong
+/// sort, `Pad` for an unused field that is not zero, `Count` for the scope or a length, `Index` for a node or variable
+/// that may not be used.
 #[inline(always)]
 pub fn check_node(
     version: Version,
@@ -135,7 +136,7 @@ pub fn check_node(
     }
 }
 
-/// The shape of a record, by its kind; any kind above 5 is that of a remainder.
+/// The shape that a record encodes, by its kind; any kind above 5 is taken as a remainder.
 fn shape(row: NodeRow) -> Shape
     requires { row.kind ≡ 1 → row.a < 256 }
     ensures { result ≡ shape_of row.kind row.op row.a row.b row.c }
@@ -165,7 +166,7 @@ fn shape(row: NodeRow) -> Shape
     }
 }
 
-/// The node of a record that breaks no rule.
+/// The node that a valid record encodes.
 pub fn read_node(row: NodeRow) -> Node
     requires { row.kind ≡ 1 → row.a < 256 }
     ensures { result ≡ node_of (node_numbers row) }

@@ -1,4 +1,4 @@
-//! Nodes as their records.
+//! Nodes, kept as their records.
 ghost use Rattle.std.specs.Prelude.{◌≡◌, ◌<◌, ◌≤◌, ◌*◌, Some, length, map, nat_lt, slice_get};
 ghost use Rattle.ft_format.specs.Fields.{node_numbers};
 ghost use Rattle.ft_format.specs.Layout.{rows, code_layout};
@@ -9,7 +9,7 @@ use crate::byte_part::stretch;
 use ft_format::NodeRow;
 use std::marker::Model;
 
-/// Records of nodes, one after the other. Their model is the nodes that they stand for.
+/// Records of nodes, one after the other. Their model is the list of nodes that they encode.
 #[derive(Drop)]
 pub struct NodeRecords<'a> {
     count: u32,
@@ -30,7 +30,7 @@ impl<'a> Model for NodeRecords<'a> {
 }
 
 impl<'a> NodeRecords<'a> {
-    /// The nodes of `count` records, which come first in the bytes.
+    /// The nodes of the first `count` records in the bytes.
     pub fn new(count: u32, bytes: &'a [u8]) -> NodeRecords<'a>
         requires { 16 * count ≤ length bytes.now }
         ensures { result ≡ map node_of (rows code_layout count bytes.now) }
@@ -38,7 +38,7 @@ impl<'a> NodeRecords<'a> {
         NodeRecords { count, bytes }
     }
 
-    /// Whether there is a node of this number.
+    /// Whether there is a node with this number.
     pub(crate) fn has(&self, n: u32) -> bool
         ensures { result ≡ nat_lt n (length self.now) }
     {
@@ -53,7 +53,7 @@ impl<'a> NodeRecords<'a> {
         NodeRow::read(stretch(self.bytes, 16 * n as usize, 16))
     }
 
-    /// Whether node `n` is of the sort: an integer, or a memory.
+    /// Whether node `n` has the required sort, memory or integer.
     #[tactic(auto, using(crate::proofs::NodeRows::memory_sort, crate::proofs::NodeRows::integer_sort))]
     pub(crate) fn is_of_sort(&self, memory: bool, n: u32) -> bool
         requires { n < length self.now }
@@ -64,7 +64,7 @@ impl<'a> NodeRecords<'a> {
         if memory { is_memory } else { !is_memory }
     }
 
-    /// Whether node `n` is of at most the scope.
+    /// Whether the scope of node `n` is at most `scope`.
     #[tactic(auto, using(crate::proofs::NodeRows::scope_is))]
     pub(crate) fn is_within(&self, scope: u8, n: u32) -> bool
         requires { n < length self.now }

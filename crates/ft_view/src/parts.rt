@@ -1,10 +1,10 @@
-//! Parts that the numbers of several records stand for.
+//! Decodes the fields that several kinds of records share.
 ghost use Rattle.std.specs.Prelude.{◌≡◌, ◌<◌, ◌/◌, ◌%◌, ◌^◌};
 ghost use Rattle.ft_format.specs.Codes.{register_of, colour_of, base_of, basic_type_of};
 
 use ft_isa::{Base, Basic, Colour, Reg};
 
-/// The register of a number.
+/// The register with this number.
 pub(crate) fn register(number: u8) -> Reg
     requires { number < 64 }
     ensures { result ≡ register_of number }
@@ -12,7 +12,7 @@ pub(crate) fn register(number: u8) -> Reg
     Reg::below(number)
 }
 
-/// The colour of a code; any code but 0 is blue.
+/// The colour with this code; any code except 0 is blue.
 pub(crate) fn colour(code: u8) -> Colour
     ensures { result ≡ colour_of code }
 {
@@ -22,7 +22,7 @@ pub(crate) fn colour(code: u8) -> Colour
     }
 }
 
-/// The base of a code; any code but 0 is that of code.
+/// The base with this code; any code except 0 means `code`.
 fn base(code: u8, code_type: u16) -> Base
     ensures { result ≡ base_of code code_type }
 {
@@ -33,7 +33,7 @@ fn base(code: u8, code_type: u16) -> Base
     }
 }
 
-/// The basic type of these numbers.
+/// The basic type that these numbers encode.
 pub(crate) fn basic(refs: u8, code: u8, code_type: u16) -> Basic
     ensures { result ≡ basic_type_of refs code code_type }
 {

@@ -1,4 +1,4 @@
-//! Queue rows: what each type says about the stores that wait.
+//! Queue rows: what each type says about pending stores.
 ghost use Rattle.std.specs.Prelude.{◌≤◌, ◌^◌};
 ghost use Rattle.ft_view.specs.Found.{Finds};
 ghost use Rattle.ft_format.specs.Fields.{pair_numbers};
@@ -8,7 +8,7 @@ use crate::node_records::NodeRecords;
 use crate::rules::check_named;
 use ft_format::{ObjectError, PairRow};
 
-/// The rules of the record of a queue row, in a type with this many variables: `Index` and `Kind` for its nodes.
+/// Checks the record of a queue row of a type with this many variables: `Index` and `Kind` for its nodes.
 pub fn check_queue_row(
     nodes: &NodeRecords,
     ints: u8,

@@ -11,9 +11,9 @@ use crate::rules::{check, check_basic, check_colour, check_named, check_register
 use ft_format::{ObjectError, RegRow};
 use ft_types::RegType;
 
-/// The rules of the record of a register row, in a type with this many variables whose earlier rows leave the registers
-/// from `least`: `Index` for no register, `Order` for one below `least`, `Kind` for the colour, `Pad`, what is wrong
-/// with the basic type, `Index` and `Kind` for the expression.
+/// Checks the record of a register row of a type with this many variables: `Index` if there is no such register,
+/// `Order` if the register is below `least`, `Kind` for the colour, `Pad` for the padding, the errors of the basic
+/// type, and `Index` and `Kind` for the expression.
 pub fn check_reg(
     types: u32,
     nodes: &NodeRecords,
@@ -34,7 +34,7 @@ pub fn check_reg(
     check_named(nodes, ints, false, at + 8, row.expr)
 }
 
-/// The register row of a record that breaks no rule.
+/// The register row that a valid record encodes.
 pub fn read_reg(row: RegRow) -> RegType
     requires { row.reg < 64 }
     ensures { result ≡ reg_type_of (reg_numbers row) }

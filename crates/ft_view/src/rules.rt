@@ -1,4 +1,4 @@
-//! Rules that several records share. Each returns the error with its place if its rule is broken.
+//! The checks that several kinds of records share. Each returns the error with its place if its rule is broken.
 ghost use Rattle.std.specs.Prelude.{◌≤◌, ◌^◌};
 ghost use Rattle.ft_view.specs.Found.{Finds};
 ghost use Rattle.ft_format.specs.Rules.{must, zero_broken, count_broken, some_broken, colour_broken, op_broken, register_broken, code_type_broken, basic_broken, node_number_broken, named_broken};
@@ -13,21 +13,21 @@ pub fn check(holds: bool, error: ObjectError) -> Result<(), ObjectError>
     if holds { Ok(()) } else { Err(error) }
 }
 
-/// The field at this place is 0.
+/// Checks that the field at this place is 0.
 pub(crate) fn check_zero(at: usize, n: u32) -> Result<(), ObjectError>
     ensures { Finds result (zero_broken at n) }
 {
     check(n == 0, ObjectError::Pad { at })
 }
 
-/// The count at this place is at most `most`.
+/// Checks that the count at this place is at most `most`.
 pub(crate) fn check_count(most: u32, at: usize, n: u32) -> Result<(), ObjectError>
     ensures { Finds result (count_broken most at n) }
 {
     check(n <= most, ObjectError::Count { at })
 }
 
-/// The count at this place is at least 1 and at most `most`.
+/// Checks that the count at this place is at least 1 and at most `most`.
 pub(crate) fn check_some(most: u32, at: usize, n: u32) -> Result<(), ObjectError>
     ensures { Finds result (some_broken most at n) }
 {
@@ -35,28 +35,28 @@ pub(crate) fn check_some(most: u32, at: usize, n: u32) -> Result<(), ObjectError
     check_count(most, at, n)
 }
 
-/// The colour whose code is at this place.
+/// Checks the code of a colour at this place.
 pub(crate) fn check_colour(at: usize, code: u8) -> Result<(), ObjectError>
     ensures { Finds result (colour_broken at code) }
 {
     check(code <= 1, ObjectError::Kind { at })
 }
 
-/// The operation whose code is at this place.
+/// Checks the code of an operation at this place.
 pub(crate) fn check_op(version: Version, at: usize, code: u32) -> Result<(), ObjectError>
     ensures { Finds result (op_broken version at code) }
 {
     check(code <= version.last_op(), ObjectError::Kind { at })
 }
 
-/// The register whose number is at this place.
+/// Checks the number of a register at this place.
 pub(crate) fn check_register(at: usize, number: u8) -> Result<(), ObjectError>
     ensures { Finds result (register_broken at number) }
 {
     check(number < 64, ObjectError::Index { at })
 }
 
-/// The code type at this place: zero for `int`, an existing one for `code`.
+/// Checks the code type at this place: zero for `int`, an existing one for `code`.
 fn check_code_type(types: u32, at: usize, base: u8, code_type: u16) -> Result<(), ObjectError>
     ensures { Finds result (code_type_broken types at base code_type) }
 {
@@ -67,7 +67,7 @@ fn check_code_type(types: u32, at: usize, base: u8, code_type: u16) -> Result<()
     }
 }
 
-/// The basic type at this place, if there are this many code types.
+/// Checks the basic type at this place, given the number of code types.
 pub(crate) fn check_basic(
     types: u32,
     at: usize,
@@ -83,7 +83,8 @@ pub(crate) fn check_basic(
     check_code_type(types, at + 2, base, code_type)
 }
 
-/// The number at this place is that of a node, else `Index`, and of a memory or an integer as required, else `Kind`.
+/// Checks that the number at this place is that of a node, else `Index`, and that the node is a memory or an integer,
+/// as required, else `Kind`.
 #[inline(always)]
 pub fn check_node_number(
     nodes: &NodeRecords,
@@ -97,7 +98,7 @@ pub fn check_node_number(
     check(nodes.is_of_sort(memory, n), ObjectError::Kind { at })
 }
 
-/// The number at this place is that of a node of the sort and of at most the scope.
+/// Checks that the number at this place is that of a node with the required sort and at most this scope.
 #[inline(always)]
 pub(crate) fn check_named(
     nodes: &NodeRecords,

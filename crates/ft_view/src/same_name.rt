@@ -1,4 +1,5 @@
-//! Whether two names are the same; quick if they are not, since each name of an object is compared with all before it.
+//! Whether two names are the same. Fast if they differ, since each name of an object is compared with all
+//! earlier ones.
 ghost use Rattle.std.specs.Prelude.{◌≡◌, ◌+◌, ◌≤◌, true, length, take, drop};
 ghost use Rattle.std.specs.Int.{w64};
 ghost use Rattle.std.specs.Str.{bytes_eq};
@@ -6,7 +7,7 @@ ghost use Rattle.ft_format.specs.Layout.{number_of};
 
 use crate::byte_part::stretch;
 
-/// Eight bytes from a place, as a number.
+/// The eight bytes from a place on, as a number.
 #[inline(always)]
 #[tactic(auto, unfolding(ft_format::specs::Layout::number_of))]
 fn word(bytes: &[u8], at: usize) -> u64
@@ -19,7 +20,7 @@ fn word(bytes: &[u8], at: usize) -> u64
     ])
 }
 
-/// Whether the eight bytes from a place are the same in both names.
+/// Whether the eight bytes from a place on are the same in both names.
 #[inline(always)]
 fn has_word_of(name: &[u8], other: &[u8], at: usize) -> bool
     requires here { at + 8 ≤ length name.now }
@@ -29,8 +30,8 @@ fn has_word_of(name: &[u8], other: &[u8], at: usize) -> bool
     word(name, at) == word(other, at)
 }
 
-/// Whether two names of one length may be the same: `false` only if they differ. It compares eight bytes at a
-/// time, and is seldom `true` for different names.
+/// Whether two names of the same length may be equal: `false` only if they differ. Names of eight bytes or more are
+/// compared eight bytes at a time, and the result is rarely `true` if they differ.
 #[inline(always)]
 fn may_be_same(name: &[u8], other: &[u8]) -> bool
     requires { length name.now ≡ length other.now }

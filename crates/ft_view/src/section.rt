@@ -1,6 +1,6 @@
 //! The sections of an object.
 
-/// One of the nine sections of an object, in their order.
+/// One of the nine sections of an object, in order.
 #[derive(Clone, Copy, Debug, PartialEq, Eq)]
 pub enum Section {
     /// Cells: where their names end, their basic types and initial words.

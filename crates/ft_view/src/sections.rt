@@ -1,4 +1,4 @@
-//! The rules of each section, in one pass and with no table.
+//! Checks each section in one pass, without building tables.
 
 pub(crate) mod blocks;
 pub(crate) mod cells;

@@ -1,4 +1,4 @@
-//! The rules of all bytes, in their order.
+//! Checks the bytes of an object, rule by rule in order.
 ghost use Rattle.std.specs.Prelude.{◌≡◌, ◌≤◌, ◌*◌, None, [], length, IfOk, OnOk};
 ghost use Rattle.ft_format.specs.Layout.{rows, cell_layout, code_layout, pair_layout};
 ghost use Rattle.ft_format.specs.Places.{IsWhole};
@@ -23,10 +23,10 @@ use crate::sections::regs::check_regs;
 use crate::sections::substs::check_substs;
 use ft_format::{Header, ObjectError, Places};
 
-/// The maximum number of bytes of an object file.
+/// The maximum size of an object file in bytes.
 const LIMIT: usize = 67108864;
 
-/// The rules of the cells, whose names end within the name bytes.
+/// Checks the cells. If no rule is broken, their names end within the name bytes.
 fn judge_cells(header: Header, bytes: &[u8]) -> Result<(), ObjectError>
     requires { IsWhole header bytes.now }
     ensures judged { Finds result (cells_broken header 0 48 (rows cell_layout header.cells (cells_part bytes.now))) }
@@ -35,7 +35,7 @@ fn judge_cells(header: Header, bytes: &[u8]) -> Result<(), ObjectError>
     check_cells(header, part(bytes, 48))
 }
 
-/// The rules of the nodes.
+/// Checks the nodes.
 fn judge_nodes(header: Header, bytes: &[u8]) -> Result<(), ObjectError>
     requires { IsWhole header bytes.now }
     ensures { Finds result (nodes_broken (version_of header) [] (nodes_at header) (rows code_layout header.nodes (nodes_part header bytes.now))) }
@@ -44,7 +44,7 @@ fn judge_nodes(header: Header, bytes: &[u8]) -> Result<(), ObjectError>
     check_nodes(header.version(), header.nodes, at, part(bytes, at))
 }
 
-/// The nodes as their records.
+/// The nodes, kept as their records.
 fn nodes_of(header: Header, bytes: &[u8]) -> NodeRecords
     requires { IsWhole header bytes.now }
     ensures { result ≡ nodes_read header bytes.now }
@@ -53,7 +53,7 @@ fn nodes_of(header: Header, bytes: &[u8]) -> NodeRecords
     NodeRecords::new(header.nodes, part(bytes, at))
 }
 
-/// The rules of the types with their rows.
+/// Checks the types with their rows.
 #[tactic(auto, unfolding(ft_format::specs::Broken::code_types_broken))]
 fn judge_types(header: Header, nodes: &NodeRecords, bytes: &[u8]) -> Result<(), ObjectError>
     requires { IsWhole header bytes.now }
@@ -66,7 +66,7 @@ fn judge_types(header: Header, nodes: &NodeRecords, bytes: &[u8]) -> Result<(), 
     check_queue(header, nodes, at.queue, heads, part(bytes, at.queue))
 }
 
-/// The rules of the blocks.
+/// Checks the blocks.
 fn judge_blocks(header: Header, bytes: &[u8]) -> Result<(), ObjectError>
     requires { IsWhole header bytes.now }
     ensures { Finds result (blocks_broken header None (blocks_at header) (rows pair_layout header.blocks (blocks_part header bytes.now))) }
@@ -75,7 +75,7 @@ fn judge_blocks(header: Header, bytes: &[u8]) -> Result<(), ObjectError>
     check_blocks(header, at, part(bytes, at))
 }
 
-/// The rules of the instructions, and how many substitution rows they take.
+/// Checks the instructions, and returns how many substitution rows they take.
 fn judge_instrs(header: Header, nodes: &NodeRecords, bytes: &[u8]) -> Result<u32, ObjectError>
     requires { IsWhole header bytes.now }
     ensures judged { Finds result (instrs_broken header nodes.now 0 (instrs_at header) (instr_rows_of header bytes.now)) }
@@ -86,7 +86,7 @@ fn judge_instrs(header: Header, nodes: &NodeRecords, bytes: &[u8]) -> Result<u32
     check_instrs(header, nodes, at, part(bytes, at))
 }
 
-/// The rules of the substitution rows, as many as the instructions take.
+/// Checks the substitution rows, as many as the instructions take.
 fn judge_substs(
     header: Header,
     nodes: &NodeRecords,
@@ -101,7 +101,7 @@ fn judge_substs(
     check_substs(header, nodes, taken, at, part(bytes, at))
 }
 
-/// The rules of the names.
+/// Checks the names.
 fn judge_names(header: Header, bytes: &[u8]) -> Result<(), ObjectError>
     requires whole { IsWhole header bytes.now }
     requires ends { AreEnds past_of header.names 0 (rows cell_layout header.cells (cells_part bytes.now)) }
@@ -120,7 +120,7 @@ fn judge_names(header: Header, bytes: &[u8]) -> Result<(), ObjectError>
     )
 }
 
-/// The rules of the nine sections.
+/// Checks the nine sections.
 #[tactic(auto, unfolding(ft_format::specs::Broken::tables_broken))]
 fn judge_tables(header: Header, bytes: &[u8]) -> Result<(), ObjectError>
     requires { IsWhole header bytes.now }
@@ -136,7 +136,7 @@ fn judge_tables(header: Header, bytes: &[u8]) -> Result<(), ObjectError>
     judge_names(header, bytes)
 }
 
-/// The header of bytes whose length, header and total break no rule.
+/// Checks the length, the header and the total of the bytes, and returns the header.
 fn read_front(bytes: &[u8]) -> Result<Header, ObjectError>
     ensures judged { Finds result (front_broken bytes.now) }
     ensures header { IfOk result (λ h. h ≡ header_at bytes.now) }
@@ -152,7 +152,7 @@ fn read_front(bytes: &[u8]) -> Result<Header, ObjectError>
     Ok(header)
 }
 
-/// The header of bytes that break no rule, or the first rule that they break.
+/// Checks the bytes, and returns their header or the first rule that they break.
 #[tactic(auto, unfolding(ft_format::specs::Broken::broken))]
 pub(crate) fn judge(bytes: &[u8]) -> Result<Header, ObjectError>
     ensures judged { Finds result (broken bytes.now) }

@@ -1,4 +1,4 @@
-//! Objects in place.
+//! Objects, viewed in place.
 ghost use Rattle.std.specs.Prelude.{◌≡◌, ◌<◌, ◌≤◌, ◌^◌, ◌↔◌, ◌+◌, ◌*◌, ◌/◌, None, Some, length, slice_get, IfOk};
 
 use crate::block::read_block;
@@ -17,7 +17,7 @@ use ft_static::{Node, Nodes};
 use ft_types::{Block, CellHead, Counts, INSTR_BYTES, Program, RegType, TypeHead};
 use std::marker::Model;
 
-/// Bytes that spell an object. A view's model is its bytes, and the object that they spell is one (`object_of`).
+/// Bytes that spell an object. A view's model is its bytes, which spell exactly one object (`object_of`).
 #[derive(Drop)]
 pub struct View<'a> {
     header: Header,
@@ -54,16 +54,16 @@ impl<'a> View<'a> {
     ghost use Rattle.ft_view.specs.Known.{IsKnown};
     ghost use Rattle.ft_view.specs.Viewed.{last_end, cell_records, node_records, type_records, reg_records, queue_records, block_records, subst_records};
 
-    /// The object that the bytes spell, in place; or the first rule of the format that they break, with its place.
+    /// A view of the object that the bytes spell, or the first rule of the format that the bytes break, with its place.
     pub fn over(bytes: &'a [u8]) -> Result<View<'a>, ObjectError>
         // An error is the first rule broken, and none is broken if a view is returned.
         ensures judged { Finds result (broken bytes.now) }
         // A view's model is its bytes.
         ensures seen { IfOk result (λ v. v ≡ bytes.now) }
-        // It is a view of the object that the bytes spell, and no other.
+        // The bytes spell the object that is viewed, and no other.
         ensures spelled { IfOk result (λ v. Spells bytes.now (version_at bytes.now) (object_of v)) }
         ensures one { (version : Version) (o : Object) → Spells bytes.now version o → IfOk result (λ v. object_of v ≡ o) }
-        // No rule is broken exactly if some object is spelled.
+        // No rule is broken exactly if the bytes spell some object.
         ensures exact { (broken bytes.now ≡ None) ↔ ((version : Version) × (o : Object) × Spells bytes.now version o) }
     {
         let header = judge(bytes)?;
@@ -133,7 +133,7 @@ impl<'a> View<'a> {
         SubstRow::read(stretch(self.bytes, self.at.substs + 4 * i as usize, 4))
     }
 
-    /// The bytes of the record of an instruction, which begins at this place in the section of the instructions.
+    /// The bytes of the instruction's record that begins at this place in the section of instructions.
     #[inline(always)]
     fn record_in<'c>(&self, code: &'c [u8], at: usize) -> &'c [u8]
         requires there { at / 16 < (header_at self.now).instrs }
@@ -192,14 +192,14 @@ impl<'a> View<'a> {
         }
     }
 
-    /// The bytes, for as long as they live.
+    /// The bytes, which may outlive the view.
     pub fn bytes(&self) -> &'a [u8]
         ensures { result.now ≡ self.now }
     {
         self.bytes
     }
 
-    /// The bytes of a section, a slice of the bytes.
+    /// The bytes of a section, as a slice of the view's bytes.
     pub fn section(&self, section: Section) -> &'a [u8]
         ensures { result.now ≡ section_of section self.now }
     {
@@ -207,7 +207,7 @@ impl<'a> View<'a> {
         stretch(self.bytes, at, end - at)
     }
 
-    /// The name of cell `k`, a slice of the bytes.
+    /// The name of cell `k`, as a slice of the view's bytes.
     pub fn name_of(&self, k: u32) -> &'a [u8]
         requires { k < length (object_of self.now).cells }
         ensures { option_map name_of (slice_get (object_of self.now).cells k) ≡ Some result.now }

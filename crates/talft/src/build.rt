@@ -1,13 +1,13 @@
-//! The build of the installed program: version, commit and kit.
+//! The build of the installed program: its version, commit and kit.
 use ft_edge::{FolderShelf, Load, Shelf};
 use std::alloc::Global;
 use std::fs;
 use std::rt::Files;
 
-/// Where the system names the file of the running program.
+/// The link through which the system names the running program's file.
 const OWN_FILE: &str = "/proc/self/exe";
 
-/// Where an installation names its build, in the folder that has `bin`.
+/// The file that describes an installation's build, relative to the folder that contains `bin`.
 const BUILD: &str = "share/doc/talft/BUILD";
 
 /// The maximum size of that file in bytes.

@@ -1,4 +1,4 @@
-//! Calls that are explained on standard error.
+//! Explains calls on standard error.
 use crate::build::line_of_build;
 use crate::looks::Folders;
 use crate::streams::{STANDARD_ERROR, STANDARD_INPUT, STANDARD_OUTPUT, is_pipe, is_terminal};
@@ -11,7 +11,7 @@ use std::alloc::Global;
 use std::rt::{Env, Files};
 use std::{env, fs, io};
 
-/// The environment variable that forbids explanations, by the value 0.
+/// The environment variable that turns explanations off if its value is 0.
 const VARIABLE: &str = "TALFT_EXPLAIN";
 
 /// The explanation for arguments that are not UTF-8.
@@ -24,7 +24,7 @@ const COMMANDS: &str =
 /// The maximum size of a link map in bytes.
 const MAP_LIMIT: usize = 65_536;
 
-/// Whether calls are explained: unless the environment forbids it.
+/// Whether calls are explained: they are unless the environment turns explanations off.
 pub(crate) fn is_wanted<R: Env + AllocGlobal>(rt: &R) -> bool {
     match env::var(rt, VARIABLE) {
         Ok(value) => value.as_str() != "0",
@@ -32,7 +32,7 @@ pub(crate) fn is_wanted<R: Env + AllocGlobal>(rt: &R) -> bool {
     }
 }
 
-/// Whether this name gives its bytes only once, as a pipe or a device does.
+/// Whether the file with this name can be read only once, like a pipe or a device.
 fn is_read_once<R: Files>(rt: &R, name: &str) -> bool {
     match fs::metadata(rt, name) {
         Ok(found) => !found.is_file() && !found.is_dir(),
@@ -62,7 +62,7 @@ fn can_link_again<R: Files>(rt: &R, map: &[u8]) -> bool {
     true
 }
 
-/// Whether the files of a call can be read again, those of a link map's modules too.
+/// Whether the files of a call can be read again, including the modules of a link map.
 fn are_read_again<R: Files, S: Shelf>(
     rt: &R,
     alloc: Global,
@@ -82,7 +82,7 @@ fn are_read_again<R: Files, S: Shelf>(
     true
 }
 
-/// Whether an argument of the program is not UTF-8: then the call has no words.
+/// Whether an argument of the program is not UTF-8; the call then has no words.
 fn is_some_argument_no_text<R: Env + AllocGlobal>(rt: &R) -> bool {
     match env::args(rt) {
         Ok(_) => false,
@@ -115,7 +115,8 @@ fn explanation<R: Files + AllocGlobal + Clone + Drop>(
     )
 }
 
-/// Explains why standard output could not be written; nothing if the reader of a pipe has enough.
+/// Explains why standard output could not be written. Says nothing about a pipe, whose reader may just have stopped
+/// reading.
 fn say_unwritten<R: Files + Eprint + AllocGlobal>(rt: &R, reason: &str) {
     if !is_pipe(rt) {
         let _ = rt.eprint("talft: error: the output could not be written");
@@ -124,8 +125,7 @@ fn say_unwritten<R: Files + Eprint + AllocGlobal>(rt: &R, reason: &str) {
     }
 }
 
-/// Writes the explanation of a call to standard error. The status is that of the call: what cannot be written there
-/// changes nothing.
+/// Writes the explanation of a call to standard error. If that fails, the status is still that of the call.
 fn say<R: Env + Files + Eprint + AllocGlobal + Clone + Drop>(
     rt: &R,
     words: &[String],
@@ -156,8 +156,8 @@ fn ask_for_session(words: &[String]) -> bool {
     }
 }
 
-/// Does what the words ask for, and writes the explanation to standard error. Standard output and the status are the
-/// same as without it.
+/// Does what the words ask for, and writes the explanation to standard error. Standard output and the status do not
+/// depend on the explanation.
 pub(crate) fn run<R: Env + Files + Print + Eprint + Input + AllocGlobal + Clone + Drop>(
     rt: &R,
     words: &[String],
@@ -178,7 +178,7 @@ pub(crate) fn run<R: Env + Files + Print + Eprint + Input + AllocGlobal + Clone 
         say_unwritten(rt, watched.reason());
         return Ok(status);
     }
-    // The bytes of an object do not end with a line feed.
+    // The bytes of an object do not end with a line feed, so an explanation would not begin on a new line.
     if watched.has_shown_object() && is_terminal(rt, STANDARD_ERROR) {
         let _ = rt.eprint("\n");
     }

@@ -1,4 +1,4 @@
-//! What the system has under a name.
+//! Looks up what names refer to in the system's folders.
 use crate::streams::STANDARD_OUTPUT;
 use ft_explain::{Found, Look};
 use std::fs;
@@ -21,11 +21,11 @@ fn is_forbidden<R: Files>(rt: &R, name: &str) -> bool {
     }
 }
 
-/// What the system has under a name.
+/// What a name refers to.
 fn found<R: Files>(rt: &R, name: &str) -> Found {
     match fs::metadata(rt, name) {
         Ok(found) if found.is_dir() => Found::Folder,
-        // Opening a pipe without a writer would wait for one.
+        // Opening a pipe that has no writer would wait for one.
         Ok(found) if found.is_file() && is_forbidden(rt, name) => Found::Forbidden,
         Ok(_) => Found::File,
         Err(error) => match error.kind() {
@@ -36,7 +36,7 @@ fn found<R: Files>(rt: &R, name: &str) -> Found {
     }
 }
 
-/// Whether standard output is the file of this name.
+/// Whether standard output is the file with this name.
 fn is_output<R: Files>(rt: &R, name: &str) -> bool {
     match (fs::metadata(rt, name), fs::metadata(rt, STANDARD_OUTPUT)) {
         (Ok(file), Ok(output)) => {
@@ -46,7 +46,7 @@ fn is_output<R: Files>(rt: &R, name: &str) -> bool {
     }
 }
 
-/// The name of standard input.
+/// The name of standard input as a file.
 const STANDARD_INPUT: &str = "/dev/stdin";
 
 impl<R: Files> Look for Folders<'_, R> {

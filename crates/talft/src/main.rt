@@ -1,9 +1,9 @@
-//! The tool over the files of the system, standard input and standard output.
+//! The program: the tool with the system's files, standard input and standard output.
 //!
 //! The program's words are its arguments, and `ft_tool::tool` does what they ask for: its contract says
 //! what it writes and returns. Arguments that are not UTF-8 are not a command, so `tool` then gets no
-//! words. Lines are gathered and written in large pieces. What is gathered at the end is written before the
-//! program ends; the status is that of `tool`, or 4 if this last write fails. A refused, detected or cut
+//! words. Output is buffered and written in large pieces. What is in the buffer at the end is written before
+//! the program ends; the status is that of `tool`, or 4 if this last write fails. A refused, detected or cut
 //! call is explained on standard error.
 #![tactic(auto)]
 
@@ -19,7 +19,7 @@ use std::process::ExitCode;
 use std::rt::{Env, Files};
 use std::{env, io};
 
-/// The status of an output that could not be written.
+/// The status of a call whose output could not be written.
 const NOT_WRITTEN: u8 = 4;
 
 /// The status of a call that ran out of memory.
@@ -34,7 +34,7 @@ fn words<R: Env + AllocGlobal>(rt: &R) -> io::Result<Vec<String>> {
     Ok(words)
 }
 
-/// Does what the words ask for, over the files of the system and standard input.
+/// Does what the words ask for, with the system's files and standard input.
 fn answer<R: Files + Input + AllocGlobal + Clone + Drop, K: Sink>(
     rt: &R,
     words: &[String],
@@ -63,7 +63,7 @@ fn run<R: Env + Files + Print + Eprint + Input + AllocGlobal + Clone + Drop>(
     Ok(ended(out, status))
 }
 
-/// Writes what is still gathered, unless a put failed: then nothing more is written.
+/// Writes what is still buffered. After a failed put, nothing more is written.
 fn ended<W: Write + Drop>(out: GatheringSink<W>, status: u8) -> u8 {
     if status == NOT_WRITTEN {
         let _ = out.discard();

@@ -1,4 +1,4 @@
-//! What standard output and standard error are.
+//! Whether the standard streams are terminals or pipes.
 use std::fs;
 use std::rt::Files;
 
@@ -27,7 +27,7 @@ pub(crate) fn is_terminal<R: Files + AllocGlobal>(rt: &R, stream: &str) -> bool 
     false
 }
 
-/// Whether standard output is a pipe, by its name. A pipe refuses bytes if nobody reads it any more.
+/// Whether standard output is a pipe, by its name. Writing to a pipe fails once nobody reads it any more.
 pub(crate) fn is_pipe<R: Files + AllocGlobal>(rt: &R) -> bool {
     match fs::read_link(rt, STANDARD_OUTPUT) {
         Ok(name) => name.as_str().starts_with("pipe:"),

@@ -1,4 +1,4 @@
-//! Standard output that is watched: why a write failed, and whether an object goes to a terminal.
+//! Watches standard output: why a write failed, and whether an object goes to a terminal.
 ghost use Rattle.std.specs.Prelude.{◌≡◌};
 
 use std::io;
@@ -41,7 +41,7 @@ fn reason_of(error: &Error) -> &'static str {
 }
 
 impl<'r, R: Eprint, W: Write> Watched<'r, R, W> {
-    /// A writer over this one, which leads to a terminal or not, for a command of this form.
+    /// Wraps a writer for a command of this form; `is_terminal` says whether the writer leads to a terminal.
     pub fn new(rt: &'r R, out: W, form: &'static str, is_terminal: bool) -> Watched<'r, R, W> {
         Watched {
             rt,
@@ -58,7 +58,7 @@ impl<'r, R: Eprint, W: Write> Watched<'r, R, W> {
         self.has_shown_object
     }
 
-    /// Why the last write failed, after a colon; nothing if that is not known.
+    /// Why the last write failed, after a colon; empty if that is not known.
     pub fn reason(&self) -> &'static str {
         self.reason
     }

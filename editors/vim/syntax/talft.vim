@@ -3,7 +3,7 @@ if exists("b:current_syntax")
   finish
 endif
 
-" Of two that begin at one place, the later one counts.
+" Of two items that match at the same place, the one defined later wins.
 syntax match talftFault /[^ \t\r]/
 syntax match talftMark /[][;(){}]/
 syntax match talftOperator /[-+*<=&|^]\|==\|<<\|>>/

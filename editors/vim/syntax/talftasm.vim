@@ -1,4 +1,4 @@
-" The assembly texts of talft: docs/ASSEMBLY.md. Words stand between blanks.
+" The assembly texts of talft: docs/ASSEMBLY.md. Words are separated by blanks.
 if exists("b:current_syntax")
   finish
 endif

@@ -18,7 +18,7 @@ pub struct CellRow {
 }
 
 impl CellRow {
-    /// The numbers of the record in the first 16 bytes.
+    /// Reads the record in the first 16 bytes.
     #[tactic(auto, unfolding(crate::specs::Layout::numbers))]
     pub fn read(bytes: &[u8]) -> CellRow
         requires { 16 ≤ length bytes.now }
@@ -38,7 +38,7 @@ impl CellRow {
         }
     }
 
-    /// Appends the record's bytes. If memory runs out, some of them may be there.
+    /// Appends the record's bytes. If memory runs out, some of them may have been appended.
     #[inline(always)]
     pub fn write(self, out: &mut Vec<u8>) -> Result<(), NoMemory>
         ensures { OnOk result (Puts out.old.items out.new.items (written cell_layout (cell_numbers self))) }

@@ -20,7 +20,7 @@ pub struct CodeRow {
 }
 
 impl CodeRow {
-    /// The numbers of the record in the first 16 bytes.
+    /// Reads the record in the first 16 bytes.
     #[tactic(auto, unfolding(crate::specs::Layout::numbers))]
     pub fn read(bytes: &[u8]) -> CodeRow
         requires { 16 ≤ length bytes.now }
@@ -44,7 +44,7 @@ impl CodeRow {
         }
     }
 
-    /// Appends the record's bytes. If memory runs out, some of them may be there.
+    /// Appends the record's bytes. If memory runs out, some of them may have been appended.
     #[inline(always)]
     pub fn write(self, out: &mut Vec<u8>) -> Result<(), NoMemory>
         ensures { OnOk result (Puts out.old.items out.new.items (written code_layout (code_numbers self))) }

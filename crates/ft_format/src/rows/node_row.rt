@@ -9,8 +9,8 @@ use crate::numbers::{code_words, put_words, read_u8, read_u32};
 use ft_isa::NoMemory;
 use ft_types::row_words;
 
-/// The numbers of a node's record: kind, operation, scope, padding, and the parts a, b and c, which are a word's
-/// upper and lower half at b and c.
+/// The numbers of a node's record: kind, operation, scope, padding, and the parts a, b and c. For a word, b and c are
+/// its upper and lower halves.
 #[derive(Clone, Copy)]
 pub struct NodeRow {
     pub kind: u8,
@@ -23,7 +23,7 @@ pub struct NodeRow {
 }
 
 impl NodeRow {
-    /// The numbers of the record in the first 16 bytes.
+    /// Reads the record in the first 16 bytes.
     #[tactic(auto, unfolding(crate::specs::Layout::numbers))]
     pub fn read(bytes: &[u8]) -> NodeRow
         requires { 16 ≤ length bytes.now }
@@ -56,7 +56,7 @@ impl NodeRow {
         )
     }
 
-    /// Appends the record's bytes. If memory runs out, some of them may be there.
+    /// Appends the record's bytes. If memory runs out, some of them may have been appended.
     #[inline(always)]
     pub fn write(self, out: &mut Vec<u8>) -> Result<(), NoMemory>
         ensures { OnOk result (Puts out.old.items out.new.items (written code_layout (node_numbers self))) }

@@ -16,7 +16,7 @@ pub struct PairRow {
 }
 
 impl PairRow {
-    /// The numbers of the record in the first 8 bytes.
+    /// Reads the record in the first 8 bytes.
     #[tactic(auto, unfolding(crate::specs::Layout::numbers))]
     pub fn read(bytes: &[u8]) -> PairRow
         requires { 8 ≤ length bytes.now }
@@ -27,7 +27,7 @@ impl PairRow {
         PairRow { first, second }
     }
 
-    /// Appends the record's bytes. If memory runs out, some of them may be there.
+    /// Appends the record's bytes. If memory runs out, some of them may have been appended.
     #[inline(always)]
     pub fn write(self, out: &mut Vec<u8>) -> Result<(), NoMemory>
         ensures { OnOk result (Puts out.old.items out.new.items (written pair_layout (pair_numbers self))) }

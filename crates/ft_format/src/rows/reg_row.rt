@@ -20,7 +20,7 @@ pub struct RegRow {
 }
 
 impl RegRow {
-    /// The numbers of the record in the first 12 bytes.
+    /// Reads the record in the first 12 bytes.
     #[tactic(auto, unfolding(crate::specs::Layout::numbers))]
     pub fn read(bytes: &[u8]) -> RegRow
         requires { 12 ≤ length bytes.now }
@@ -44,7 +44,7 @@ impl RegRow {
         }
     }
 
-    /// Appends the record's bytes. If memory runs out, some of them may be there.
+    /// Appends the record's bytes. If memory runs out, some of them may have been appended.
     #[inline(always)]
     pub fn write(self, out: &mut Vec<u8>) -> Result<(), NoMemory>
         ensures { OnOk result (Puts out.old.items out.new.items (written reg_layout (reg_numbers self))) }

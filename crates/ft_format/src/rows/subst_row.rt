@@ -14,7 +14,7 @@ pub struct SubstRow {
 }
 
 impl SubstRow {
-    /// The number of the record in the first 4 bytes.
+    /// Reads the record in the first 4 bytes.
     #[tactic(auto, unfolding(crate::specs::Layout::numbers))]
     pub fn read(bytes: &[u8]) -> SubstRow
         requires { 4 ≤ length bytes.now }
@@ -24,7 +24,7 @@ impl SubstRow {
         SubstRow { node }
     }
 
-    /// Appends the record's bytes. If memory runs out, some of them may be there.
+    /// Appends the record's bytes. If memory runs out, some of them may have been appended.
     #[tactic(auto, unfolding(crate::specs::Layout::written))]
     pub fn write(self, out: &mut Vec<u8>) -> Result<(), NoMemory>
         ensures { OnOk result (Puts out.old.items out.new.items (written subst_layout (subst_numbers self))) }

@@ -1,4 +1,4 @@
-//! Mnemonics of other machines that jump, call, compare, stop or do nothing, and their directives.
+//! Mnemonics of other machines that jump, call, compare, stop or do nothing, and assembler directives.
 use crate::elsewhere::Row;
 
 /// The mnemonics, with the advice for each.

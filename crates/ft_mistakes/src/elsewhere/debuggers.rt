@@ -1,4 +1,4 @@
-//! Commands of other debuggers, and commands of the prompt that a script does not have.
+//! Commands of other debuggers, and commands that exist at the prompt but not in scripts.
 use crate::elsewhere::Row;
 
 /// The commands, with the advice for each.

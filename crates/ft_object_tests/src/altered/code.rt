@@ -2,7 +2,7 @@
 use crate::altered::Row;
 use ft_object::ObjectError;
 
-/// Rows of blocks, over `J`.
+/// Test rows for blocks, over `J`.
 pub(crate) const BLOCKS: &[Row] = &[
     (
         "first instruction, of the first block",
@@ -22,7 +22,7 @@ pub(crate) const BLOCKS: &[Row] = &[
     ("code type", &[(175, 2)], ObjectError::Index { at: 172 }),
 ];
 
-/// Rows of operations, of `mov`, of loads and stores, and of `halt`, over `J`.
+/// Test rows for operations, `mov`, loads, stores and `halt`, over `J`.
 pub(crate) const OPERATIONS: &[Row] = &[
     ("kind", &[(184, 8)], ObjectError::Kind { at: 184 }),
     (
@@ -128,7 +128,7 @@ pub(crate) const OPERATIONS: &[Row] = &[
     ),
 ];
 
-/// Rows of jumps and branches, over `J`.
+/// Test rows for jumps and branches, over `J`.
 pub(crate) const TRANSFERS: &[Row] = &[
     ("jmp: rd", &[(249, 64)], ObjectError::Index { at: 249 }),
     ("jmp: b", &[(250, 1)], ObjectError::Pad { at: 250 }),
@@ -222,14 +222,14 @@ pub(crate) const TRANSFERS: &[Row] = &[
     ),
 ];
 
-/// Rows of a substitution of 128 rows, over `J` with room for them.
+/// Test rows for a substitution of 128 rows, over `J` with room for them.
 pub(crate) const MOST_SUBSTITUTIONS: &[Row] = &[(
     "jmp_B: past, before the second row",
     &[(39, 128), (275, 128)],
     ObjectError::Index { at: 364 },
 )];
 
-/// Rows of substitutions above 128 rows, over `J` with room for 129.
+/// Test rows for substitutions of more than 128 rows, over `J` with room for 129.
 pub(crate) const LONG_SUBSTITUTIONS: &[Row] = &[
     (
         "jmp_B: past",
@@ -243,7 +243,7 @@ pub(crate) const LONG_SUBSTITUTIONS: &[Row] = &[
     ),
 ];
 
-/// Substitution rows, over `J`.
+/// Test rows for substitution rows, over `J`.
 pub(crate) const SUBSTITUTION_ROWS: &[Row] = &[
     ("no node", &[(363, 3)], ObjectError::Index { at: 360 }),
     ("a memory", &[(363, 0)], ObjectError::Kind { at: 360 }),

@@ -2,7 +2,7 @@
 use crate::altered::Row;
 use ft_object::ObjectError;
 
-/// Rows of the header, over `J`.
+/// Test rows for the header, over `J`.
 pub(crate) const HEADER: &[Row] = &[
     ("magic", &[(0, 55)], ObjectError::Magic { at: 0 }),
     ("version 0", &[(7, 0)], ObjectError::Magic { at: 0 }),

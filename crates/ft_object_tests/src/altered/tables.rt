@@ -2,7 +2,7 @@
 use crate::altered::Row;
 use ft_object::ObjectError;
 
-/// Rows of cells, over `J`.
+/// Test rows for cells, over `J`.
 pub(crate) const CELLS: &[Row] = &[
     (
         "name's end, not above the one before",
@@ -34,7 +34,7 @@ pub(crate) const CELLS: &[Row] = &[
     ),
 ];
 
-/// Rows of a second cell, over `P9`.
+/// Test rows for a second cell, over `P9`.
 pub(crate) const SECOND_CELLS: &[Row] = &[
     (
         "name's end, not above the one before",
@@ -48,7 +48,7 @@ pub(crate) const SECOND_CELLS: &[Row] = &[
     ),
 ];
 
-/// Rows of nodes, over `J`.
+/// Test rows for nodes, over `J`.
 pub(crate) const NODES: &[Row] = &[
     ("kind", &[(64, 6)], ObjectError::Kind { at: 64 }),
     (
@@ -213,7 +213,7 @@ pub(crate) const NODES: &[Row] = &[
     ),
 ];
 
-/// Rows of types, over `J`.
+/// Test rows for types, over `J`.
 pub(crate) const TYPES: &[Row] = &[
     (
         "register rows' end, beyond the rows",
@@ -279,7 +279,7 @@ pub(crate) const TYPES: &[Row] = &[
     ),
 ];
 
-/// Register rows, over `J`.
+/// Test rows for register rows, over `J`.
 pub(crate) const REGISTER_ROWS: &[Row] = &[
     ("register", &[(144, 64)], ObjectError::Index { at: 144 }),
     (
@@ -329,7 +329,7 @@ pub(crate) const REGISTER_ROWS: &[Row] = &[
     ),
 ];
 
-/// Queue rows, over `J` with its first block's record as a queue row.
+/// Test rows for queue rows, over `J` with its first block's record as a queue row.
 pub(crate) const QUEUE_ROWS: &[Row] = &[
     (
         "address, no node",
@@ -368,7 +368,7 @@ pub(crate) const QUEUE_ROWS: &[Row] = &[
     ),
 ];
 
-/// Rows of names, over `J`.
+/// Test rows for names, over `J`.
 pub(crate) const NAMES: &[Row] = &[
     ("first byte", &[(364, 48)], ObjectError::Name { at: 364 }),
     ("second byte", &[(365, 45)], ObjectError::Name { at: 365 }),

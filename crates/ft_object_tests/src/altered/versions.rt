@@ -1,8 +1,9 @@
-//! What only version 2 has: in bytes of version 1 it is refused, and in bytes of version 2 it has rules of its own.
+//! Features of version 2: in bytes of version 1 they are refused, and in bytes of version 2 they have rules of their
+//! own.
 use crate::altered::{Lawful, Row};
 use ft_object::ObjectError;
 
-/// What version 1 lacks, over `J`.
+/// What version 1 does not have, over `J`.
 pub(crate) const BEYOND_FIRST: &[Row] = &[
     ("kind 6 of a node", &[(96, 6)], ObjectError::Kind { at: 96 }),
     (
@@ -82,7 +83,7 @@ pub(crate) const BEYOND_FIRST: &[Row] = &[
     ),
 ];
 
-/// Rules of version 2, over `J` with byte 7 as 2.
+/// Rules of version 2, over `J` with byte 7 set to 2.
 pub(crate) const SECOND: &[Row] = &[
     ("kind 7 of a node", &[(96, 7)], ObjectError::Kind { at: 96 }),
     (
@@ -172,7 +173,7 @@ pub(crate) const SECOND: &[Row] = &[
     ),
 ];
 
-/// Rows of `idx`, over `I`.
+/// Test rows for `idx`, over `I`.
 pub(crate) const RUNS: &[Row] = &[
     ("version 1", &[(7, 1)], ObjectError::Kind { at: 152 }),
     ("rd", &[(153, 64)], ObjectError::Index { at: 153 }),
@@ -206,7 +207,7 @@ pub(crate) const RUNS: &[Row] = &[
     ),
 ];
 
-/// Valid alterations of `J` with byte 7 as 2.
+/// Valid alterations of `J` with byte 7 set to 2.
 pub(crate) const LAWFUL_SECOND: &[Lawful] = &[
     ("as it is", &[]),
     (

@@ -1,4 +1,4 @@
-//! Blocks, which begin one after the other.
+//! Blocks, each of which begins after the previous one.
 ghost use Rattle.std.specs.Prelude.{◌+◌, ◌*◌, ◌≤◌, ◌^◌, None, length};
 ghost use Rattle.ft_format.specs.Layout.{rows, pair_layout};
 ghost use Rattle.ft_format.specs.Broken.{blocks_broken};
@@ -7,7 +7,7 @@ ghost use Rattle.ft_view.specs.Found.{Finds};
 use crate::block::check_block;
 use ft_format::{Header, ObjectError, PairRow};
 
-/// The rules of the records of all blocks, the first of which is at a place.
+/// Checks the records of all blocks, the first of which is at a place.
 pub(crate) fn check_blocks(header: Header, at: usize, bytes: &[u8]) -> Result<(), ObjectError>
     requires there { 8 * header.blocks ≤ length bytes.now }
     requires places { at + 8 * header.blocks ≤ 2 ^ 27 }

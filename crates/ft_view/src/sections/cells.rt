@@ -7,7 +7,7 @@ ghost use Rattle.ft_view.specs.Found.{Finds};
 use crate::cell::check_cell;
 use ft_format::{CellRow, Header, ObjectError};
 
-/// The rules of the records of all cells, except for the bytes of their names.
+/// Checks the records of all cells, except for the bytes of their names.
 pub(crate) fn check_cells(header: Header, bytes: &[u8]) -> Result<(), ObjectError>
     requires there { 16 * header.cells ≤ length bytes.now }
     requires few { header.cells ≤ 1024 }

@@ -8,7 +8,7 @@ use crate::instr::{check_instr, rows_past};
 use crate::node_records::NodeRecords;
 use ft_format::{CodeRow, Header, ObjectError};
 
-/// The rules of the records of all instructions, the first of which is at a place, and how many substitution rows
+/// Checks the records of all instructions, the first of which is at a place, and returns how many substitution rows
 /// they take.
 pub(crate) fn check_instrs(
     header: Header,

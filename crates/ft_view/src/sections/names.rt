@@ -14,7 +14,7 @@ use crate::rules::check;
 use crate::same_name::is_same;
 use ft_format::{CellRow, ObjectError, Version};
 
-/// Whether one of the first cells has this name.
+/// Whether one of the first `count` cells has this name.
 fn has_name(names: &[u8], count: u32, records: &[u8], name: &[u8]) -> bool
     requires there { 16 * count ≤ length records.now }
     requires ends { AreEnds past_of (length names.now) 0 (rows cell_layout count records.now) }
@@ -35,7 +35,7 @@ fn has_name(names: &[u8], count: u32, records: &[u8], name: &[u8]) -> bool
     false
 }
 
-/// The rules of a name at a place, after those of earlier cells.
+/// Checks a name at a place, given the earlier cells.
 fn check_name(
     version: Version,
     names: &[u8],
@@ -54,8 +54,8 @@ fn check_name(
     check(!is_there, ObjectError::Name { at })
 }
 
-/// The rules of the cells' names, whose bytes begin at a place and take all up to the end: `Name` for a byte that is
-/// not allowed there or a name that an earlier cell has, `Order` for a byte that is left over.
+/// Checks the cells' names, whose bytes begin at a place and must reach the end: `Name` for a byte that is not allowed
+/// there or a name that an earlier cell has, `Order` for a left-over byte.
 pub(crate) fn check_names(
     version: Version,
     end: usize,

@@ -1,4 +1,4 @@
-//! Nodes, each after those to which it refers.
+//! Nodes, each after the nodes that it refers to.
 ghost use Rattle.std.specs.Prelude.{◌+◌, ◌*◌, ◌≤◌, ◌^◌, [], length};
 ghost use Rattle.ft_format.specs.Layout.{rows, code_layout};
 ghost use Rattle.ft_format.specs.Broken.{nodes_broken};
@@ -8,8 +8,8 @@ use crate::node::check_node;
 use crate::node_records::NodeRecords;
 use ft_format::{NodeRow, ObjectError, Version};
 
-/// The rules of `count` records of nodes, the first of which is at a place. A function of its own: the loop then has
-/// enough registers.
+/// Checks `count` records of nodes, the first of which is at a place. It is not inlined, so that the loop has enough
+/// registers.
 #[inline(never)]
 pub(crate) fn check_nodes(
     version: Version,

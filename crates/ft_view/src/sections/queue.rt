@@ -1,4 +1,4 @@
-//! Queue rows: what each type says about the stores that wait.
+//! Queue rows: what each type says about pending stores.
 ghost use Rattle.std.specs.Prelude.{◌≡◌, ◌+◌, ◌*◌, ◌≤◌, ◌^◌, length, drop, IfOk};
 ghost use Rattle.ft_format.specs.Layout.{rows, pair_layout, type_layout};
 ghost use Rattle.ft_format.specs.Values.{queue_end_of};
@@ -11,7 +11,7 @@ use crate::queue_pair::check_queue_row;
 use crate::rules::check;
 use ft_format::{Header, ObjectError, PairRow, TypeRow};
 
-/// The rules of the queue rows of one type, and the bytes after them.
+/// Checks the queue rows of one type, and returns the bytes after them.
 fn check_type_queue<'a>(
     nodes: &NodeRecords,
     ints: u8,
@@ -36,7 +36,7 @@ fn check_type_queue<'a>(
     Ok(rest)
 }
 
-/// The rules of the queue rows of all types.
+/// Checks the queue rows of all types.
 pub(crate) fn check_queue(
     header: Header,
     nodes: &NodeRecords,

@@ -11,7 +11,7 @@ use crate::reg::check_reg;
 use crate::rules::check;
 use ft_format::{Header, ObjectError, RegRow, TypeRow};
 
-/// The rules of the register rows of one type, and the bytes after them.
+/// Checks the register rows of one type, and returns the bytes after them.
 fn check_type_regs<'a>(
     types: u32,
     nodes: &NodeRecords,
@@ -39,7 +39,7 @@ fn check_type_regs<'a>(
     Ok(rest)
 }
 
-/// The rules of the register rows of all types.
+/// Checks the register rows of all types.
 pub(crate) fn check_regs(
     header: Header,
     nodes: &NodeRecords,

@@ -8,7 +8,7 @@ use crate::node_records::NodeRecords;
 use crate::rules::{check, check_node_number};
 use ft_format::{Header, ObjectError, SubstRow};
 
-/// The rules of `count` rows.
+/// Checks `count` rows.
 fn check_rows(nodes: &NodeRecords, at: usize, count: u32, bytes: &[u8]) -> Result<(), ObjectError>
     requires there { 4 * count ≤ length bytes.now }
     requires places { at + 4 * count ≤ 2 ^ 27 }
@@ -26,7 +26,7 @@ fn check_rows(nodes: &NodeRecords, at: usize, count: u32, bytes: &[u8]) -> Resul
     Ok(())
 }
 
-/// The rules of the substitution rows of an object, as many as its substitutions take.
+/// Checks the substitution rows of an object, as many as its substitutions take.
 pub(crate) fn check_substs(
     header: Header,
     nodes: &NodeRecords,

@@ -12,13 +12,13 @@ use Rattle.ft_campaign.specs.Verdicts.{AreVerdicts}
 use Rattle.ft_campaign.proofs.Judged.{more_verdicts}
 use Rattle.ft_campaign.proofs.judge.find_verdicts.Goals as goal
 
--- the sum of the costs of one more fault
+-- the sum of the costs, with one more fault
 sum_more : (f : Strike → ℕ) (xs : List Strike) (i : ℕ) (x : Strike) → i < length xs → x ≡ get_or xs i x →
     sum_by f (take (i + 1) xs) ≡ sum_by f (take i xs) + f x
 sum_more f xs i x lt is = ap (sum_by f) (take_more xs i x lt) ∙ sum_by_push f (take i xs) (get_or xs i x)
     ∙ ap (λ y. sum_by f (take i xs) + f y) (sym is)
 
--- the end of a run is an end
+-- the steps from a fault's snapshot to the last step are a bound on its cost
 whole : (o : Object) (w : List Wild) (n : ℕ) (x : Strike) → IsCost o w n x (n - first x)
 whole o w n x = upto n (last refl) refl
 

@@ -13,14 +13,14 @@ use Rattle.ft_checker.specs.Judges.{Turns}
 use Rattle.ft_checker.proofs.Turned.{on_last, on_more, end_last, end_more, row_fails}
 use Rattle.ft_checker.proofs.blocks.turn.Goals as goal
 
--- an error of the row is the turn's
+-- an error of the row is an error of the turn
 error_turns : (x : Outcome) (e : RuleError) (k : ℕ) (others : List Instr) (next : Context →
     Option (ℕ × Premise)) (later : Option (ℕ × Premise)) → IsRefusal x e →
     Turns (after_row x k others next) k later (Err e)
 error_turns x (Refused why) k others next later h = row_fails x _ k others next h
 error_turns x NoMemory k others next later h = tt
 
--- also by the exit of the row
+-- so is one by which the row exits
 exit_turns : (x : Outcome) (r : Result Bool RuleError) (e : RuleError) (k : ℕ) (others : List Instr) (next : Context →
     Option (ℕ × Premise)) (later : Option (ℕ × Premise)) → IsErrAnd r (λ f. f ≡ e) → IsRefusal x e →
     Turns (after_row x k others next) k later r

@@ -12,7 +12,7 @@ none_counted : {X : Type 0} (xs : List X) → has_none xs ≡ (length xs == 0)
 none_counted [] = refl
 none_counted (x ∷ xs) = sym (apart _ 0 (λ e. absurd (omega arith)))
 
--- the test by the head of the code type
+-- the test, in terms of the code type's head
 entry_is : (o : Object) (t : ℕ) (x : TypeHead) (b : Bool) → (x.ints ≡ ints_of o t) × (x.regs ≡ length (reg_rows o t))
     × (x.queue ≡ length (queue_rows o t)) × (x.memory ≡ memory_of o t) → b
     ≡ ((x.ints == 0) && (x.regs == 0) && (x.queue == 0)) → is_entry_type o t

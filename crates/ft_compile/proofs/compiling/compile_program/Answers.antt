@@ -6,7 +6,7 @@ use Rattle.ft_compile.proofs.BlockWalks.{module_of_flow}
 use Rattle.ft_compile.proofs.Stands.{emits, stands}
 use Rattle.ft_compile.proofs.compiling.compile_program.Goals as goal
 
--- fewer than 32 are at most 32
+-- a number below 32 is at most 32
 few_of : (n : ℕ) → n < 32 → n ≤ 32
 few_of n lt = omega arith
 

@@ -1,4 +1,4 @@
--- The starts in the code are the definition's, so each target's place is, too; the runs are a lemma's.
+-- The computed starts are as defined, so the targets' places are too; a lemma gives the runs.
 use Rattle.std.proofs.Common.{◌≡◌, map, sym, ap, ◌∙◌, subst, length, slice_index}
 use Rattle.std.specs.List.{All}
 use Rattle.ft_lower.specs.Flow.{blocks_of}

@@ -1,4 +1,4 @@
--- A block of the list is one of the blocks that the conditions are about.
+-- The preconditions hold for each block of the list.
 use Rattle.std.proofs.Common.{◌<◌, length, sym, subst}
 use Rattle.std.specs.List.{All}
 use Rattle.ft_lower.specs.Size.{pairs_of}

@@ -11,7 +11,7 @@ use Rattle.ft_format.proofs.Versions.{has_all}
 use Rattle.ft_format.proofs.Write.{spells_unbroken, spells_read, spells_version}
 use Rattle.ft_format.proofs.laws.spellings_are_one.Goals as goal
 
--- an object that obeys the rules is spelled by its spelling
+-- the spelling of an object that obeys the rules spells it
 by_spelling : (o : Object) → IsSpellable o → Spells (spelling Second o) Second o
 by_spelling o s = record { spellable = s; has = has_all o s; spelled = refl }
 

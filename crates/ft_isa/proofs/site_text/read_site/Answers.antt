@@ -16,7 +16,7 @@ ends_as text read None e f = tt
 ends_as text read (Some site) e f = reads_ok next_site whole_site Empty site_told IsSiteRead IsSiteText site_reader read
     site text e f
 
--- what was read of the whole text
+-- the state after the whole text
 whole_text : (text : List ℕ) (i : ℕ) (read : SiteRead) → length text ≤ i → state_after next_site Empty (take i text)
     ≡ Some read → state_after next_site Empty text ≡ Some read
 whole_text text i read past e = ap (state_after next_site Empty) (sym (take_all i text past)) ∙ e

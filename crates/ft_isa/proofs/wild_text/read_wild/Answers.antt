@@ -24,7 +24,7 @@ refused : (text : List ℕ) (at : ℕ) (read : WildRead) → at < length text �
 refused text at read below e f = refused_at next_wild whole_wild start wild_told IsWildRead IsWildText wild_reader read
     text at below e f
 
--- a text is refused at its end, if it lacks something
+-- an incomplete text is refused at its end
 refused_end : (text : List ℕ) (done : List Wild) (part : AnswerRead) → state_after next_wild start text
     ≡ Some (wild_at done part) → whole_answer part ≡ None → IsRefusedAt IsWildText text (length text)
 refused_end text done part e f =
@@ -62,7 +62,7 @@ returns-in_default-clause-exact c = let none = early c in λ answers h. absurd (
 pub returns-in_default-clause-err : goal.returns-in_default-clause-err
 returns-in_default-clause-err c = early c
 
--- the byte is not a comma, and continues no part
+-- the byte is not a comma, and does not continue the part
 stuck : (c : goal.After-drop-answers-in_default-next) → IsRefusedAt IsWildText c.args.text.now c.loop-at.at
 stuck c =
     refused c.args.text.now c.loop-at.at (wild_at c.loop-at.answers.items c.loop-at.read) c.loop-at-test.true

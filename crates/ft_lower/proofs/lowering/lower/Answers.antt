@@ -13,7 +13,7 @@ use Rattle.ft_lower.proofs.Pairs.{lowered_below}
 use Rattle.ft_lower.proofs.WellFormed.{lowered_is_well}
 use Rattle.ft_lower.proofs.lowering.lower.Goals as goal
 
--- a program of the code is resolved
+-- a program of the code has resolved names, and its need and its weight are within the limits
 resolved : (p : Prog) → IsResolved (program_of p)
 resolved p = record { names = p.fits; need = p.small_need; weight = p.light }
 

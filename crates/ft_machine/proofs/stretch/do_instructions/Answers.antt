@@ -70,17 +70,17 @@ pub execute-requires : goal.execute-requires
 execute-requires g c = has_length (g.P.Program.object c.args.program.now) (c.loop-at.at / 16) c.fetch.result
     c.requires.spellable c.fetch.ensures
 
--- the instruction at a place before the end is within the limit
+-- an instruction before the end fits within the limit
 has_room : (at past limit : ℕ) → at < past → past ≤ limit → at ≡ 16 * (at / 16) → limit ≡ 16 * (limit / 16) →
     at + 16 ≤ limit
 has_room at past limit lt le whole limit_whole = omega (arith, lt, le, whole, limit_whole)
 
--- the steps of one more instruction
+-- one more instruction takes two more steps
 on_done : (all limit at : ℕ) → at + 16 ≤ limit → limit - at ≤ 16 * all → 2 * (all - (limit - at) / 16) + 2
     ≡ 2 * (all - (limit - (at + 16)) / 16)
 on_done all limit at room left = omega (arith, room, left)
 
--- what is left stays, wherever the next instruction is
+-- the number of steps taken does not depend on where the next instruction is
 same_rest : (all to rest : ℕ) → 2 * (all - rest / 16) ≡ 2 * (all - (to + rest - to) / 16)
 same_rest all to rest = ap (λ n. 2 * (all - n / 16)) (omega arith)
 

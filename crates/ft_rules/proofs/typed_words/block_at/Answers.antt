@@ -26,7 +26,7 @@ unfolding block_at
 block_lacks o address h = sym (none_pass _ o.blocks (λ k y f. let n = h k y f in
     apart address (1 + y.start) (λ q. absurd (n (omega arith)))))
 
--- a block at an earlier place, or the same, begins no later
+-- a block begins no later than one with the same or a higher number
 no_later : (o : Object) (k n : ℕ) (x y : Block) → IsSpellable o → k ≤ n → slice_get o.blocks k ≡ Some x →
     slice_get o.blocks n ≡ Some y → x.start ≤ y.start
 no_later o k n x y h l e f = by_test (eqb k n) refl

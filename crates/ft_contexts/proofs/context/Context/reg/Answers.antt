@@ -7,7 +7,7 @@ use Rattle.ft_contexts.specs.Contexts.{HoldsRegisters, RegistersNameTypes}
 use Rattle.ft_contexts.proofs.Registers.{known_of, there_from_get_or}
 use Rattle.ft_contexts.proofs.context.Context.reg.Goals as goal
 
--- a register that is known is held
+-- the form of a known register is held
 known_held : (fs : List Normal) (xs : List (Option RegForm)) (r : ℕ) (x : Option RegForm) → HoldsRegisters fs xs →
     get_or xs r None ≡ x → IfSome x (λ y. IsInteger fs y.form)
 known_held fs xs r None h e = tt
@@ -19,7 +19,7 @@ returns-clause-known c = λ fs. rw c.number.ensures.same (known_of fs c.args.sel
 pub returns-clause-held : goal.returns-clause-held
 returns-clause-held c = λ fs h. known_held fs c.args.self.now.registers c.number.result _ h.registers refl
 
--- its code type is named
+-- its code type exists
 known_typed : (types : ℕ) (xs : List (Option RegForm)) (r : ℕ) (x : Option RegForm) → RegistersNameTypes types xs →
     get_or xs r None ≡ x → IfSome x (λ y. IsBase types y.basic.base)
 known_typed types xs r None h e = tt
