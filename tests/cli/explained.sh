@@ -263,7 +263,7 @@ while IFS='|' read -r text message; do
   report "the message about \`$text\`" "habit.src:$message" "$(habit_in compile habit.src)"
 done <<'END'
 cell out = 0;\nout := 5;|2:5: error: unexpected character `:`: write `=` to assign
-cell out = 0;\nout = 2 ** 3;|2:10: error: unexpected `*`: there are no powers, only products
+cell out = 0;\nout = 2 ** 3;|2:10: error: unexpected `*`: there is no power operator: multiply
 cell a[3] = 0;\nvar i;\na[i++] = 3;|3:5: error: unexpected `+`: write it as a separate statement, as in `a = a + 1;`
 cell a[3] = {1, 2};|1:15: error: unexpected character `,`: all cells of an array have the same initial value
 cell a = 0, b = 0;|1:11: error: unexpected character `,`: there are no lists: each name has its own declaration, as in `var a; var b;`
@@ -394,8 +394,8 @@ campaign five.obj --faults --steps 5|talft: error: missing FILE after `--faults`
 trial five.obj --fault --steps 5|talft: error: missing STEP:SITE:WORD after `--fault`
 run five.obj --steps --fault 4:r1:6|talft: error: missing N after `--steps`
 check -|-: error: no such file; for standard input write `/dev/stdin`
-check cut.obj|cut.obj: error: the object has 100 bytes, and its header gives 219: it is cut off: copy it again
-check head.obj|head.obj: error: the object has 20 bytes, and its header alone has 48: it is cut off: copy it again
+check cut.obj|cut.obj: error: the object has 100 bytes, but its header requires 219: it is cut off: copy it again
+check head.obj|head.obj: error: the object has 20 bytes, fewer than the 48 of its header: it is cut off: copy it again
 link latin.map|latin.map:2:9: error: this line is not UTF-8: write it in ASCII
 link arrow.map|arrow.map:2:13: error: unexpected `->`: expected `import NAME B`
 link extra.map|extra.map:2:15: error: unexpected `first`: expected `export NAME B`
@@ -435,7 +435,7 @@ printf 'cell a = 10;\na = 10;\n' >ten.src
 "$top/talft" compile ten.src >ten.obj 2>errors
 python3 -c 'import sys; sys.stdout.buffer.write(open("ten.obj", "rb").read().replace(b"\n", b"\r\n"))' >text.obj
 report 'the message about an object that was copied as a text' \
-  "$(printf '%s\n' "text.obj: error: the object has $(wc -c <text.obj) bytes, and its header gives $(wc -c <ten.obj)" \
+  "$(printf '%s\n' "text.obj: error: the object has $(wc -c <text.obj) bytes, but its header requires $(wc -c <ten.obj)" \
     '  each line feed has a carriage return before it, as after a copy in text mode: copy the object in binary mode')" \
   "$("$top/talft" check text.obj 2>&1 >with)"
 
@@ -464,8 +464,8 @@ while IFS='|' read -r line message; do
 done <<'END'
 print r1|1: error: unknown command `print`: `reg R` and `cell NAME` show a word; `tools/debugger` knows `print`
 p r1|1: error: unknown command `p`: `reg R` and `cell NAME` show a word; `tools/debugger` knows `print`
-quit|1: error: unknown command `quit`: a session ends with its input
-q|1: error: unknown command `q`: a session ends with its input
+quit|1: error: unknown command `quit`: a session ends when its input ends
+q|1: error: unknown command `q`: a session ends when its input ends
 info registers|1: error: unknown command `info`: `where`, `reg R`, `cell NAME` and `queue` show the state; `tools/debugger` knows `info`
 list|1: error: unknown command `list`: `talft dis OBJECT` writes the instructions; `tools/debugger` knows `disassemble`
 x/4 out|1: error: unknown command `x/4`: `cell NAME` shows the word of a cell; `tools/debugger` knows `x`

@@ -77,10 +77,6 @@ pub lines_free : (text : List ℕ) → HaveNoFeed (lines_of text)
 lines_free [] = tt
 lines_free (b ∷ bs) = lines_step (b == 10) b (lines_of bs) refl (lines_free bs)
 
-free_before : (xs ys : List (List ℕ)) → HaveNoFeed (xs ++ ys) → HaveNoFeed xs
-free_before [] ys h = tt
-free_before (x ∷ xs) ys h = (h.0, free_before xs ys h.1)
-
 -- lines with their line feeds
 abbrev fed : List ℕ → List ℕ
 fed line = line ++ codes "\n"

@@ -1,5 +1,5 @@
 -- Written lines are read back as the lines that they were written for.
-use Rattle.std.proofs.Common.{◌≡◌, ℕ, zero, suc, ◌+◌, ◌%◌, ◌^◌, ◌<◌, ◌≤◌, ◌==◌, Bool, true, false, ◌||◌, not, List, []}
+use Rattle.std.proofs.Common.{◌≡◌, ℕ, zero, suc, ◌+◌, ◌%◌, ◌^◌, ◌<◌, ◌≤◌, ◌==◌, Bool, true, false, not, List, []}
 use Rattle.std.proofs.Common.{◌∷◌, ◌++◌, length, map, decimal, codes, refl, ap, sym, ◌∙◌, subst, append_assoc, arith}
 use Rattle.std.specs.Prelude.{if◌then◌else◌, ◌&&◌, nat_lt, Option, Some, None}
 use Rattle.std.specs.List.{AllByRecursion, AllZip, flat_map, list_all}
@@ -40,11 +40,6 @@ use Rattle.ft_format.specs.InstrRecords.{FitsInstr}
 use Rattle.ft_asm.specs.Reads.{spaced, line_text}
 
 -- PARTS OF WORDS
-
-not_either : (a b : Bool) → not (a || b) ≡ true → (a ≡ false) × (b ≡ false)
-not_either true b e = absurd cc
-not_either false true e = absurd cc
-not_either false false e = (refl, refl)
 
 no_blank : (b : ℕ) → is_part b ≡ true → is_blank b ≡ false
 no_blank b e = not-true (is_blank b) (and_parts (not (is_blank b)) (not (b == 10)) e).0

@@ -5,7 +5,7 @@ use Rattle.std.specs.List.{flat_map}
 use Rattle.std.proofs.lemmas.List.{drop_all}
 use Rattle.ft_isa.specs.declared.basic.Base.{Base}
 use Rattle.ft_isa.proofs.Lists.{drop_there}
-use Rattle.ft_asm.specs.Operands.{refs_word, base_word}
+use Rattle.ft_asm.specs.Operands.{refs_word}
 
 refs_step : (n m : ℕ) (base : Base) → n ≡ suc m → refs_word n base ≡ codes "ref:" ++ refs_word m base
 refs_step n m base e = ap (λ k. refs_word k base) e
@@ -16,12 +16,6 @@ pub refs_goes : (refs n : ℕ) (base : Base) (old new all : List ℕ) → n < re
 refs_goes refs n base old new all lt e h =
     ap (λ l. l ++ refs_word (refs - (n + 1)) base) e ∙ append_assoc old (codes "ref:") (refs_word (refs - (n + 1)) base)
     ∙ ap (λ l. old ++ l) (sym (refs_step (refs - n) (refs - (n + 1)) base (omega arith))) ∙ h
-
--- after writing all of them, and the base
-pub refs_end : (refs n : ℕ) (base : Base) (old new all : List ℕ) → refs ≤ n → new ≡ old ++ base_word base → old
-    ++ refs_word (refs - n) base ≡ all → new ≡ all
-refs_end refs n base old new all le e h = let none : 0 ≡ refs - n = omega arith in
-    e ∙ ap (λ k. old ++ refs_word k base) none ∙ h
 
 -- after writing one more line
 pub line_goes : {A : Type 0} (text : A → List ℕ) (xs : List A) (n : ℕ) (x : A) (old new all : List ℕ) → slice_get xs n

@@ -13,8 +13,8 @@ use Rattle.ft_semantics.specs.declared.status.Status.{Status}
 use Rattle.ft_semantics.specs.declared.status.Status.TheVariants as status
 use Rattle.ft_semantics.specs.declared.status.Status.TheVariants.{Running}
 use Rattle.ft_semantics.specs.State.{State}
-use Rattle.ft_semantics.specs.Step.{step, step_at, advance, fetch, detected}
-use Rattle.ft_semantics.specs.Run.{Ran, extended, run, run-add_one, state_after, wild_after, outputs_after}
+use Rattle.ft_semantics.specs.Step.{step_at, advance, fetch, detected}
+use Rattle.ft_semantics.specs.Run.{Ran, run, state_after, wild_after, outputs_after}
 use Rattle.ft_semantics.specs.Run.{status_after}
 use Rattle.ft_semantics.proofs.Runs.{HasStopped, run_stays}
 use Rattle.ft_campaign.specs.declared.clean.KeptRun.{KeptRun}
@@ -88,14 +88,6 @@ clean_stopped o w k n c lt stop outputs status last running a b =
       past = λ i le below e. not_running (status_after o None w (k + 1)) stop
           (sym (ap (λ (x : Ran). x.state.status) (run_stays o None w (k + 1) i le stop)) ∙ e);
     }
-
--- the run after a step of a machine that is in the run's state
-pub run_more : (o : Object) (w : List Wild) (k : ℕ) (s : State) (v : List Wild) → s ≡ state_after o None w k → v
-    ≡ wild_after o None w k → run o None w (k + 1) ≡ extended (outputs_after o None w k) (step o s v)
-run_more o w k s v es ev =
-    run-add_one o None w k
-    ∙ ap (λ x. extended (outputs_after o None w k) (step o x (wild_after o None w k))) (sym es)
-    ∙ ap (λ x. extended (outputs_after o None w k) (step o s x)) (sym ev)
 
 -- the run after m steps of a machine that is in the run's state
 pub run_span : (o : Object) (w : List Wild) (k m : ℕ) (s : State) (v : List Wild) → s ≡ state_after o None w k → v

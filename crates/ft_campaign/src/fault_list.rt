@@ -12,7 +12,7 @@ use thiserror::Error;
 #[derive(Clone, Copy, Debug, PartialEq, Eq, Error)]
 pub enum ListError {
     /// The line with this number, counted from 1, is not a strike.
-    #[error("line {number} is no strike")]
+    #[error("line {number} is not a strike")]
     Line { number: u32 },
     /// The text has more than 4,194,304 bytes or more than 65,536 lines.
     #[error("too many faults")]

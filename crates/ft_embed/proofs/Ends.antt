@@ -96,9 +96,5 @@ pub only : (n : ℕ) → (n ≡ 5) ⊎ (n ≡ 8) → n ≢ 5 → n ≢ 8 → ⊥
 only n (inl five) a b = a five
 only n (inr eight) a b = b eight
 
-pub not_seven : (n : ℕ) → (n ≡ 5) ⊎ (n ≡ 8) → n ≡ 7 → ⊥
-not_seven n (inl five) seven = omega (arith, five, seven)
-not_seven n (inr eight) seven = omega (arith, eight, seven)
-
 pub unrefused_accepted : (o : Object) → refusal o ≡ None → IsAccepted o
 unrefused_accepted o h = (accepted_is_unrefused o).1 h

@@ -1,7 +1,6 @@
 -- Modules that are added in turn, and why they cannot be linked.
 use Rattle.std.proofs.Common.{◌≡◌, ◌≢◌, ◌⊎◌, inl, inr, ℕ, ◌+◌, ◌≤◌, List, [], ◌∷◌, length, drop, Option, Some, None}
 use Rattle.std.proofs.Common.{refl, sym, ap, subst, ◌∙◌, arith}
-use Rattle.std.specs.Str.{bytes_eq}
 use Rattle.std.specs.Prelude.{if◌then◌else◌}
 use Rattle.std.proofs.Common.{zero, suc, ◌<◌, get_or, drop-cons, add-one}
 use Rattle.std.proofs.lemmas.List.{length-append}
@@ -21,8 +20,8 @@ use Rattle.ft_embed.specs.declared.unlinked.Module.{Module}
 use Rattle.ft_embed.specs.Verdicts.{Tells, judged, told_error}
 use Rattle.ft_embed.specs.Links.{unlinked, SaysOf, IsMap, EndsAtMap, bad_line, line_twice, bytes_of, EndsAtObject}
 use Rattle.ft_embed.specs.Links.{not_accepted, not_added, no_object, no_module, EndsAtModule, ends_at_bytes, AddsObject}
-use Rattle.ft_embed.specs.Links.{AddsAll, EndsInTurn, IsUnlinked, ends_at_map, ends_at_end, IsLinkedOf, IsUnlinkedBy}
-use Rattle.ft_embed.specs.Links.{IsUnaccepted, SaidUnlinked, IsAddedTo, IsLinkedAll, HasAdded}
+use Rattle.ft_embed.specs.Links.{AddsAll, EndsInTurn, IsUnlinked, ends_at_map, ends_at_end, IsUnlinkedBy}
+use Rattle.ft_embed.specs.Links.{IsUnaccepted, SaidUnlinked, IsAddedTo, HasAdded}
 
 -- REFUSALS
 
@@ -59,15 +58,6 @@ unaccepted_by (Some r) m u h = (r, refl, h)
 pub ends_unaccepted : (modules : List Object) (o : Object) (u : Unlinked) →
     IsUnaccepted (refusal o) (length modules) u → EndsAtObject modules o u
 ends_unaccepted modules o u h = let r = unaccepted_by (refusal o) (length modules) u h in not_accepted r.0 r.1 r.2
-
--- the bytes of the first module with a name, from a place on
-pub bytes_from : (given : List Module) (name : List ℕ) (i : ℕ) (m : Module) → i < length given → m ≡ get_or given i m →
-    bytes_of (drop i given) name ≡ (if bytes_eq m.name.now name then Some m.bytes.now
-    else bytes_of (drop (i + 1) given) name)
-bytes_from given name i m lt is = ap (λ l. bytes_of l name) (drop-cons given i m lt)
-    ∙ ap (λ (x : Module). if bytes_eq x.name.now name then Some x.bytes.now else bytes_of (drop (suc i) given) name)
-    (sym is) ∙ ap (λ n. if bytes_eq m.name.now name then Some m.bytes.now else bytes_of (drop n given) name)
-    (sym (add-one i))
 
 module _ (given : List Module) (modules : List Object) (name bytes view : List ℕ) (found : bytes_of given name
     ≡ Some bytes) (same : view ≡ bytes) (spelled : Spells bytes (version_at bytes) (object_of view)) where
@@ -167,17 +157,6 @@ pub map_ends : (given : List Module) (text : List ℕ) (said : List MapLine) (u 
     AreSaid text said → SaidUnlinked (answer_of said) u → IsUnlinked given text u
 map_ends given text said u short are h = ends_at_map
     (said_ends text (answer_of said) u (record { short = short; lines = said; are_said = are; is = refl }) h)
-
-pub all_linked : (given : List Module) (text bytes : List ℕ) (linkage : LinkMap) (modules : List Object) →
-    IsMap text linkage → AddsAll given [] linkage.files modules → IsLinkedAll linkage modules bytes →
-    IsLinkedOf given text bytes
-all_linked given text bytes linkage modules is added all = record {
-  linkage = linkage;
-  is_map = is;
-  modules = modules;
-  added = added;
-  all = all;
-}
 
 pub all_unlinked : (given : List Module) (text : List ℕ) (u : Unlinked) (linkage : LinkMap) (modules : List Object) →
     IsMap text linkage → AddsAll given [] linkage.files modules → IsUnlinkedBy (refusal_of linkage modules) u →

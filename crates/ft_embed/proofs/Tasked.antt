@@ -1,6 +1,6 @@
 -- Runs that continue across calls.
 use Rattle.std.proofs.Common.{◌≡◌, ℕ, zero, suc, ◌+◌, ◌<◌, ◌≤◌, false, List, [], length, Option, Some, None, is_some}
-use Rattle.std.proofs.Common.{if◌then◌else◌, refl, ap, sym, subst, ◌∙◌, arith, add-zero, eq-eqb}
+use Rattle.std.proofs.Common.{if◌then◌else◌, refl, ap, sym, subst, ◌∙◌, arith, add-zero}
 use Rattle.std.specs.Prelude.{◌++◌, IfSome}
 use Rattle.std.proofs.lemmas.List.{length-append}
 use Rattle.ft_isa.specs.declared.plan.Site.{Site}
@@ -11,7 +11,7 @@ use Rattle.ft_types.specs.Spellable.{IsSpellable}
 use Rattle.ft_typing.specs.Accepted.{IsAccepted}
 use Rattle.ft_semantics.specs.declared.status.Status.TheVariants.{Running}
 use Rattle.ft_semantics.specs.State.{State, start, HasCells}
-use Rattle.ft_semantics.specs.Strike.{is_there, struck_state, struck_before, with_word}
+use Rattle.ft_semantics.specs.Strike.{struck_state, struck_before}
 use Rattle.ft_semantics.specs.Run.{Ran, run, run-zero, state_after, status_after}
 use Rattle.ft_machine.specs.Spans.{span, span-zero, Spares}
 use Rattle.ft_semantics.proofs.Struck.{struck_there, spared}
@@ -155,11 +155,6 @@ task_struck r s s' site value h first struck =
           ∙ ap (λ (q : Ran). q.state) (before r.object x no_words r.taken now))
           ∙ sym (struck_there x (state_after r.object (Some x) no_words r.taken));
     }
-
--- striking a site that does not exist changes nothing
-pub kept_state : (s s' : State) (site : Site) (value : ℕ) → s' ≡ struck_state s site value → is_there s site ≡ false →
-    s' ≡ s
-kept_state s s' site value struck none = struck ∙ ap (λ b. if b then with_word site value s else s) none
 
 pub no_strike : (strike : Option Strike) → is_some strike ≡ false → strike ≡ None
 no_strike None e = refl

@@ -31,8 +31,8 @@ fn basic_types(instr: Instr) -> &'static str {
 /// What is wrong with the register d.
 fn states(instr: Instr) -> &'static str {
     match instr {
-        Instr::JmpB { .. } => "no `jmp_G` waits for it",
-        Instr::BzB { .. } => "no `bz_G` waits for it",
+        Instr::JmpB { .. } => "no `jmp_G` is pending",
+        Instr::BzB { .. } => "no `bz_G` is pending",
         Instr::Halt => "a green jump or branch waits for its blue one",
         _ => "another green jump or branch waits for its blue one",
     }
@@ -64,7 +64,7 @@ pub(crate) fn premise(number: u64, instr: Instr) -> &'static str {
         5 => "its target register does not hold the address of a block (`code`)",
         6 => states(instr),
         7 => "eight stores are pending already",
-        8 => "no green store waits for it",
+        8 => "no green store is pending",
         9 => "its address is not known to be that of the oldest pending store",
         10 => "its value is not known to be that of the oldest pending store",
         11 => "the word that it tests is not known to be the one that `bz_G` tests",

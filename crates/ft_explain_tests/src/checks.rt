@@ -38,7 +38,7 @@ const REFUSED: &[Refused] = &[
     (
         P8,
         &[],
-        "file: error: block 0, instruction 5: no green store waits for it (premise 8)\n  st_B r32 r33\n  r32: B ref:int\n  r33: B int\n",
+        "file: error: block 0, instruction 5: no green store is pending (premise 8)\n  st_B r32 r33\n  r32: B ref:int\n  r33: B int\n",
     ),
     (
         P9,

@@ -135,7 +135,7 @@ const HABITS: &[(&str, &str)] = &[
     ),
     (
         "cell a = 1.5;",
-        "file:1:11: error: unexpected character `.`: numbers are whole\n cell a = 1.5;\n           ^\n",
+        "file:1:11: error: unexpected character `.`: numbers are integers\n cell a = 1.5;\n           ^\n",
     ),
     (
         "cell a = 'x';",

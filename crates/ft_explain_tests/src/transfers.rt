@@ -18,7 +18,7 @@ const REFUSED: &[Refused] = &[
     (
         P6,
         &[],
-        "file: error: block 0, instruction 5: no `jmp_G` waits for it (premise 6)\n  jmp_B r33 0 2\n  r33: B code:1\n",
+        "file: error: block 0, instruction 5: no `jmp_G` is pending (premise 6)\n  jmp_B r33 0 2\n  r33: B code:1\n",
     ),
     (
         P11,

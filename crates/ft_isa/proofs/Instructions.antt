@@ -1,10 +1,10 @@
 -- Which kinds of instructions exclude each other, and case analysis by what an instruction does.
-use Rattle.std.proofs.Common.{◌≡◌, ℕ, Bool, true, false, ◌||◌, Option, Some, None, refl}
+use Rattle.std.proofs.Common.{◌≡◌, ℕ, true, false, Some, refl}
 use Rattle.ft_isa.specs.declared.colour.Colour.{Colour}
 use Rattle.ft_isa.specs.declared.reg.Reg.{Reg}
 use Rattle.ft_isa.specs.declared.instr.Instr.{Instr}
 use Rattle.ft_isa.specs.declared.instr.Instr.TheVariants.{St, JmpG, JmpB, BzG, BzB, Halt}
-use Rattle.ft_isa.specs.Instructions.{is_fixed, is_leading, written, is_register, is_one_of}
+use Rattle.ft_isa.specs.Instructions.{is_fixed, is_leading, written}
 
 -- an instruction is fixed, or is a store, or writes a register
 pub data Kind : Instr → Type 0 where
@@ -29,23 +29,3 @@ leading_is_free i h = by_kind (kind_of i) h
     by_kind (fixed f n) h = cc
     by_kind (store colour rd rs) h = refl
     by_kind (write r f w) h = f
-
--- a fixed instruction is not leading
-pub fixed_never_leads : (i : Instr) → is_fixed i ≡ true → is_leading i ≡ false
-fixed_never_leads i h = by_kind (kind_of i) h
-  where
-    by_kind : {i : Instr} → Kind i → is_fixed i ≡ true → is_leading i ≡ false
-    by_kind (fixed f n) h = n
-    by_kind (store colour rd rs) h = cc
-    by_kind (write r f w) h = cc
-
--- one of two registers is the first or the second
-pub one_of_two : (p q : Option ℕ) (r : ℕ) → is_one_of p q r ≡ (is_register p r || is_register q r)
-one_of_two (Some p) (Some q) r = refl
-one_of_two None None r = refl
-one_of_two None (Some q) r = refl
-one_of_two (Some p) None r = or_none (is_register (Some p) r)
-  where
-    or_none : (b : Bool) → b ≡ (b || false)
-    or_none true = refl
-    or_none false = refl

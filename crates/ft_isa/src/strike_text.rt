@@ -10,7 +10,7 @@ use thiserror::Error;
 
 /// The text is not a strike.
 #[derive(Clone, Copy, Debug, PartialEq, Eq, Error)]
-#[error("no strike at byte {at}")]
+#[error("invalid strike at byte {at}")]
 pub struct Form {
     /// The length of the longest prefix of the text that is a prefix of some strike's text.
     pub at: usize,

@@ -13,7 +13,7 @@ use thiserror::Error;
 pub enum WildError {
     /// The text does not spell wild answers. `at` is the length of its longest prefix that is also a prefix of some
     /// text that does.
-    #[error("no wild answers at byte {at}")]
+    #[error("invalid wild answers at byte {at}")]
     Form { at: usize },
     /// Memory ran out.
     #[error("out of memory")]

@@ -5,9 +5,9 @@ use thiserror::Error;
 #[derive(Clone, Copy, Debug, PartialEq, Eq, Error)]
 pub enum LexError {
     /// The byte at `at`, counted from 0, begins no token, or is the 33rd of a name.
-    #[error("no token at byte {at}")]
+    #[error("invalid token at byte {at}")]
     Byte { at: usize },
     /// The digits from byte `at` spell 2^64 or more.
-    #[error("too large a number at byte {at}")]
+    #[error("number too large at byte {at}")]
     Number { at: usize },
 }

@@ -1,5 +1,5 @@
 -- The totals and the invariant of the linker after one more module.
-use Rattle.std.proofs.Common.{◌≡◌, ℕ, zero, suc, ◌+◌, ◌≤◌, ◌<◌, ◌^◌, true, List, [], ◌∷◌, ◌++◌, length, slice_get}
+use Rattle.std.proofs.Common.{◌≡◌, ℕ, suc, ◌+◌, ◌≤◌, ◌<◌, ◌^◌, true, List, [], ◌∷◌, ◌++◌, length}
 use Rattle.std.proofs.Common.{Option, Some, None, refl, sym, ap, ◌∙◌, subst, arith}
 use Rattle.std.specs.Prelude.{All, ◌&&◌, sum_by}
 use Rattle.std.specs.List.{list_all}
@@ -101,11 +101,6 @@ passes_few ms o e =
     (unless (list_all has_plain_rows o.types) (Rows (length ms)))
     (option_map (λ f. CodeOf (length ms) f.0 f.1) (first_walk_fault o 0 o.blocks))
     (unless (are_few (ms ++ o ∷ [])) (TooBig (length ms))) e)
-
--- a fact about the only element of a list
-one_at : {X : Type 0} (P : X → Type 0) (x : X) → P x → (k : ℕ) (y : X) → slice_get (x ∷ []) k ≡ Some y → P y
-one_at P x h zero y e = let same : x ≡ y = cc in subst P same h
-one_at P x h (suc k) y e = cc
 
 turns_more : (ms : List Object) (o : Object) → turns_refusal ms ≡ None → added_refusal ms o ≡ None →
     turns_refusal (ms ++ o ∷ []) ≡ None

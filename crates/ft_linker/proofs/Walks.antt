@@ -35,10 +35,6 @@ range_one xs i past x e lt =
     let n : past - i ≡ suc (past - suc i) = omega (arith, lt) in
     (λ j. take (n j) (drop_there xs i x e j)) ∙ take_one (past - suc i) x (drop (suc i) xs)
 
-nothing_taken : {X : Type 0} (ys : List X) → take 0 ys ≡ []
-nothing_taken [] = refl
-nothing_taken (y ∷ ys) = refl
-
 -- ROWS
 
 -- the test for rows of entered registers, one row at a time

@@ -1,8 +1,7 @@
 -- Two lists compared element by element.
-use Rattle.std.proofs.Common.{◌≡◌, ℕ, zero, suc, ◌+◌, ◌≤◌, List, [], ◌∷◌, length, take, slice_get, Some, refl, sym, ap}
+use Rattle.std.proofs.Common.{◌≡◌, ℕ, zero, suc, ◌+◌, List, [], ◌∷◌, take, slice_get, Some, sym}
 use Rattle.std.proofs.Common.{subst, arith}
 use Rattle.std.specs.List.{AllZip}
-use Rattle.std.proofs.lemmas.List.{take_all}
 
 -- one more element of each list
 zip_next : {X : Type 0} (R : X → X → Type 0) (xs ys : List X) (k : ℕ) (x y : X) → AllZip R (take k xs) (take k ys) →
@@ -26,15 +25,3 @@ zip_at R (a ∷ xs) [] k x y h e f = absurd h
 zip_at R (a ∷ xs) (b ∷ ys) zero x y h e f = let s : a ≡ x = cc in let t : b ≡ y = cc in
     subst (λ z. R z y) s (subst (R a) t h.0)
 zip_at R (a ∷ xs) (b ∷ ys) (suc k) x y h e f = zip_at R xs ys k x y h.1 e f
-
-pub zip_long : {X : Type 0} (R : X → X → Type 0) (xs ys : List X) → AllZip R xs ys → length xs ≡ length ys
-zip_long R [] [] h = refl
-zip_long R [] (y ∷ ys) h = absurd h
-zip_long R (x ∷ xs) [] h = absurd h
-zip_long R (x ∷ xs) (y ∷ ys) h = ap suc (zip_long R xs ys h.1)
-
--- all elements, once the prefixes are the whole lists
-pub zip_whole : {X : Type 0} (R : X → X → Type 0) (xs ys : List X) (k : ℕ) → AllZip R (take k xs) (take k ys) →
-    length xs ≤ k → length ys ≤ k → AllZip R xs ys
-zip_whole R xs ys k h le lf = subst (λ (z : List _). AllZip R z ys) (take_all k xs le)
-    (subst (AllZip R (take k xs)) (take_all k ys lf) h)

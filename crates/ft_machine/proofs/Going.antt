@@ -287,8 +287,5 @@ module _ {T : Type 0} (outlet : Ghosts T) where
 pub next_is : (i : ℕ) → i < 2 ^ 32 → next (1 + i) ≡ 1 + i + 1
 next_is i small = omega arith
 
-pub after_it : (i : ℕ) → i < 2 ^ 32 → next (1 + i) ≡ 2 + i
-after_it i small = omega arith
-
 pub same_place : (i : ℕ) → 1 + i + 1 ≡ 1 + (i + 1)
 same_place i = omega arith

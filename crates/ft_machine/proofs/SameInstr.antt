@@ -34,11 +34,6 @@ and3 : {A B C R : Type 0} (a b c : Bool) → Decides a A → Decides b B → Dec
 and3 true b c da db dc mk pa pb pc = and2 b c db dc (mk (da.0 refl)) pb pc
 and3 false b c da db dc mk pa pb pc = (λ t. absurd (cc), λ r. da.1 (pa r))
 
-and4 : {A B C D R : Type 0} (a b c d : Bool) → Decides a A → Decides b B → Decides c C → Decides d D →
-    (A → B → C → D → R) → (R → A) → (R → B) → (R → C) → (R → D) → Decides (a && (b && (c && d))) R
-and4 true b c d da db dc dd mk pa pb pc pd = and3 b c d db dc dd (mk (da.0 refl)) pb pc pd
-and4 false b c d da db dc dd mk pa pb pc pd = (λ t. absurd (cc), λ r. da.1 (pa r))
-
 coloured_decides : (a b : Coloured) → Decides (sameb the_colour.the_type a.colour b.colour && eqb a.word b.word) (a ≡ b)
 coloured_decides a b = and2 _ _ (colour_decides a.colour b.colour) (Decides-eqb a.word b.word)
     (λ e f. ap (λ x. let y : Coloured = record { colour = x; word = a.word } in y) e

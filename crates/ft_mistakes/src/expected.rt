@@ -220,7 +220,7 @@ fn habit_after(last: Kind, next: Kind) -> Option<&'static str> {
     match next {
         Kind::If if last == Kind::Else => Some("write `else { if (..) { .. } }`"),
         Kind::Assign if last == Kind::Less => Some(AT_MOST),
-        Kind::Star if last == Kind::Star => Some("there are no powers, only products"),
+        Kind::Star if last == Kind::Star => Some("there is no power operator: multiply"),
         Kind::Plus if last == Kind::Plus => Some(
             "write it as a separate statement, as in `a = a + 1;`",
         ),
@@ -355,7 +355,7 @@ pub(crate) fn instead_of(byte: u8) -> &'static str {
         b'/' => ": comments begin with `#`, and there is no division",
         b'%' => ": there is no division",
         b'"' | b'\'' => ": there are no strings or characters, only numbers",
-        b'.' => ": numbers are whole",
+        b'.' => ": numbers are integers",
         b':' => ": a block is written between `{` and `}`",
         b'~' => ": write `a ^ 18446744073709551615` for `~a`",
         b'?' => ": write `if (..) { .. } else { .. }`",

@@ -34,7 +34,7 @@ pub fn rule(number: u64) -> &'static str {
         2 => "the object's size does not match its header",
         3 => "a count, a scope or a length is out of its range",
         4 => "padding, or a field that the record does not use, is not zero",
-        5 => "a code is unknown, a type has more than 8 `ref`, or a node is of the wrong kind",
+        5 => "a code is unknown, a type has more than 8 `ref`s, or a node is of the wrong kind",
         6 => "a number refers to a part that does not exist, or that this part may not refer to",
         7 =>
             "ends, starts or registers are not in ascending order, or there is a stray row or byte",
@@ -67,7 +67,9 @@ fn say_length(page: &mut Page, bytes: &[u8]) -> Result<(), NoMemory> {
     match header_of(bytes) {
         Some(header) => {
             let wanted = total(header);
-            page.say(format_args!("the object has {length} bytes, and its header gives {wanted}"))?;
+            page.say(format_args!(
+                "the object has {length} bytes, but its header requires {wanted}"
+            ))?;
             page.say(if length < wanted { CUT_OFF } else { "\n" })?;
             if is_as_text(bytes, wanted) {
                 page.say(AS_TEXT)?;
@@ -75,7 +77,9 @@ fn say_length(page: &mut Page, bytes: &[u8]) -> Result<(), NoMemory> {
             Ok(())
         }
         None => {
-            page.say(format_args!("the object has {length} bytes, and its header alone has 48"))?;
+            page.say(format_args!(
+                "the object has {length} bytes, fewer than the 48 of its header"
+            ))?;
             page.say(CUT_OFF)
         }
     }
@@ -122,7 +126,9 @@ fn may_be_damaged(bytes: &[u8], content: Content) -> bool {
 fn say_short(page: &mut Page, at: u64) -> Result<(), NoMemory> {
     match at {
         0 => page.say("the file is empty\n"),
-        1..48 => page.say(format_args!("the object has {at} bytes: its header alone has 48\n")),
+        1..48 => page.say(format_args!(
+            "the object has {at} bytes, fewer than the 48 of its header\n"
+        )),
         _ => page.say(format_args!(
             "the object's size does not match its header: it differs at byte {at}\n"
         )),

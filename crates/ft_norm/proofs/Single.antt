@@ -333,13 +333,6 @@ greatest_more xs x i n l r e =
     let m : max n (size x.atoms) ≡ greatest (take i xs ++ get_or xs i x ∷ []) = omega (arith, a, c, e) in
     m ∙ ap greatest (sym (take_more xs i x l))
 
--- the largest degree of all terms
-pub greatest_all : (xs : List Term) (i : ℕ) → length xs ≤ i → greatest (take i xs) ≡ greatest xs
-greatest_all [] zero h = refl
-greatest_all [] (suc i) h = refl
-greatest_all (x ∷ xs) zero h = absurd (omega (arith, h))
-greatest_all (x ∷ xs) (suc i) h = ap (max (size x.atoms)) (greatest_all xs i (omega (arith, h)))
-
 -- the degree of the polynomial is the largest degree of a term
 pub degree_over : (fs : List Form) (ts : List Term) → AreOver fs ts → degree (polynomial_form fs ts) ≡ greatest ts
 degree_over fs [] h = refl

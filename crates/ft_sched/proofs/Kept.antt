@@ -144,19 +144,6 @@ pub kept_new : (is : List Instr) (writers touchers : List ℕ) → is ≡ [] →
 kept_new is writers touchers e f g = subst (λ z. IsKept z 0 writers touchers 0) (sym e)
     (subst (λ z. IsKept [] 0 z touchers 0) (sym f) (subst (λ z. IsKept [] 0 unmet z 0) (sym g) kept_none))
 
--- ONE TAKEN
-
-pub kept_taken : (is : List Instr) (front : ℕ) (writers touchers : List ℕ) (blue : ℕ) → front < length is →
-    IsKept is front writers touchers blue → IsKept is (front + 1) writers touchers blue
-kept_taken is front writers touchers blue l k = record {
-  front_within = omega arith;
-  writers = k.writers;
-  touchers = k.touchers;
-  written_last = k.written_last;
-  touched_last = k.touched_last;
-  blue_last = k.blue_last;
-}
-
 -- LOOKUPS
 
 -- place 0 is never above the front, just as no instruction passes a test that always fails

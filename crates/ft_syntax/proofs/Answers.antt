@@ -1,5 +1,5 @@
 -- A text has exactly one outcome.
-use Rattle.std.proofs.Common.{◌≡◌, ◌≢◌, ◌<◌, ◌≤◌, ℕ, List, [], length, Result, Ok, Err, refl, sym, ap, ◌∙◌, arith, ◌⊎◌}
+use Rattle.std.proofs.Common.{◌≡◌, ◌<◌, ◌≤◌, ℕ, List, [], length, Result, Ok, Err, refl, sym, ap, ◌∙◌, arith, ◌⊎◌}
 use Rattle.std.proofs.Common.{inl, inr, ⊎_elim}
 use Rattle.ft_lexer.specs.Scan.{Lexeme, all_of, scan}
 use Rattle.ft_lexer.specs.declared.lex_error.LexError.{LexError}
@@ -12,8 +12,7 @@ use Rattle.ft_syntax.specs.Syntax.{SyntaxTree}
 use Rattle.std.specs.Prelude.{Bool, true, false, nat_le}
 use Rattle.ft_syntax.specs.Limits.{text_limit, nothing_open}
 use Rattle.ft_syntax.specs.Machine.{decls, walk}
-use Rattle.ft_syntax.specs.Refusal.{syntax_at, deep_at, Answer, Judged, HasLexemes, IsRefused, IsAnswer}
-use Rattle.ft_syntax.specs.View.{LexRefused, RefusedBy}
+use Rattle.ft_syntax.specs.Refusal.{syntax_at, deep_at, Answer, Judged, HasLexemes, IsAnswer}
 use Rattle.ft_syntax.proofs.Judged.{judged}
 use Rattle.ft_syntax.proofs.Only.{judged_only}
 
@@ -90,37 +89,3 @@ some_within text false h = (Err TooLong, grind arith)
 -- a text has an outcome
 pub some_answer : (text : List ℕ) → (s : Result SyntaxTree SourceError) × IsAnswer text s
 some_answer text = some_within text (nat_le (length text) text_limit) refl
-
--- a text with an error in its scan is refused for it
-pub lex_refused : (text : List ℕ) (e : SourceError) → length text ≤ text_limit → LexRefused e (all_of (scan text)) →
-    e ≢ NoMemory → IsRefused text e
-lex_refused text (Byte at) short h other = (short, h)
-lex_refused text (Number at) short h other = (short, h)
-lex_refused text NoMemory short h other = absurd (other refl)
-lex_refused text TooLong short h other = absurd h
-lex_refused text (Syntax at) short h other = absurd h
-lex_refused text (Deep at) short h other = absurd h
-lex_refused text (Twice at) short h other = h
-lex_refused text (Unknown at) short h other = h
-lex_refused text (Array at) short h other = h
-lex_refused text (Length at) short h other = h
-lex_refused text (Cells count) short h other = h
-lex_refused text (Registers need) short h other = h
-lex_refused text (Weight weight) short h other = h
-
--- if the lexemes of a text are refused, so is the text
-pub list_refused : (text : List ℕ) (ts : List Lexeme) (e : SourceError) → length text ≤ text_limit → all_of (scan text)
-    ≡ Ok ts → RefusedBy ts (length text) e → e ≢ NoMemory → IsRefused text e
-list_refused text ts (Syntax at) short scanned h other = (ts, record { short = short; scanned = scanned }, h)
-list_refused text ts (Deep at) short scanned h other = (ts, record { short = short; scanned = scanned }, h)
-list_refused text ts NoMemory short scanned h other = absurd (other refl)
-list_refused text ts TooLong short scanned h other = absurd h
-list_refused text ts (Byte at) short scanned h other = absurd h
-list_refused text ts (Number at) short scanned h other = absurd h
-list_refused text ts (Twice at) short scanned h other = h
-list_refused text ts (Unknown at) short scanned h other = h
-list_refused text ts (Array at) short scanned h other = h
-list_refused text ts (Length at) short scanned h other = h
-list_refused text ts (Cells count) short scanned h other = h
-list_refused text ts (Registers need) short scanned h other = h
-list_refused text ts (Weight weight) short scanned h other = h

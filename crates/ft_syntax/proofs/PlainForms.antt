@@ -9,14 +9,6 @@ use Rattle.ft_syntax.specs.declared.stmt.Stmt.{more_of-Stmt, items-the_row-Stmt,
 use Rattle.ft_syntax.specs.Plain.{StatementList, none, assign, assign_at, loop, choose, follow, plain_expression}
 use Rattle.ft_syntax.specs.Plain.{plain_statement, plain_row, plain_list}
 
--- statements followed by none are the statements themselves
-pub follow_none : {M : Type 0} → (a : StatementList M) → follow a none ≡ a
-follow_none none = refl
-follow_none (assign to e rest) = ap (assign to e) (follow_none rest)
-follow_none (assign_at to i e rest) = ap (assign_at to i e) (follow_none rest)
-follow_none (loop e body rest) = ap (loop e body) (follow_none rest)
-follow_none (choose e if_so if_not rest) = ap (choose e if_so if_not) (follow_none rest)
-
 -- `follow` is associative
 pub follow_follow : {M : Type 0} → (a b c : StatementList M) → follow (follow a b) c ≡ follow a (follow b c)
 follow_follow none b c = refl

@@ -11,18 +11,18 @@ pub enum SourceError {
     #[error("more than 1048576 bytes")]
     TooLong,
     /// The byte at `at` begins no token, or is the 33rd of a name.
-    #[error("no token at byte {at}")]
+    #[error("invalid token at byte {at}")]
     Byte { at: usize },
     /// The number whose first digit is at `at` is 2^64 or more.
-    #[error("too large a number at byte {at}")]
+    #[error("number too large at byte {at}")]
     Number { at: usize },
     /// No program is possible after the token at `at`; if something is missing at the end of the text, `at` is the
     /// text's length.
-    #[error("no program from byte {at} on")]
+    #[error("syntax error at byte {at}")]
     Syntax { at: usize },
     /// The token at `at` opens a 101st bracket or brace, or is the 201st operator of one assignment,
     /// its index included, or of one test.
-    #[error("too deep at byte {at}")]
+    #[error("nested too deeply at byte {at}")]
     Deep { at: usize },
     /// The name declared at `at` was declared before.
     #[error("declared twice at byte {at}")]
@@ -34,16 +34,16 @@ pub enum SourceError {
     #[error("misused name at byte {at}")]
     Array { at: usize },
     /// The length of an array at `at` is 0 or above 1,024.
-    #[error("no length of an array at byte {at}")]
+    #[error("invalid array length at byte {at}")]
     Length { at: usize },
     /// There are `count` cells, more than 1,024.
-    #[error("{count} cells")]
+    #[error("too many cells: {count}")]
     Cells { count: u64 },
     /// The program needs `need` pairs of registers, more than 32.
-    #[error("{need} pairs of registers")]
+    #[error("too many pairs of registers: {need}")]
     Registers { need: u64 },
     /// The program's weight is `weight`, more than 65,536.
-    #[error("weight {weight}")]
+    #[error("program too large: weight {weight}")]
     Weight { weight: u64 },
     /// Memory ran out.
     #[error("out of memory")]

@@ -116,7 +116,7 @@ pub(crate) fn load_object<'a, F: Shelf>(
 #[derive(Clone, Copy, Debug, PartialEq, Eq, Error)]
 pub(crate) enum ListFault {
     /// The line with this number, counted from 1, is not a fault.
-    #[error("line {0} is no strike")]
+    #[error("line {0} is not a strike")]
     Line(u32),
     /// The file has more than 4,194,304 bytes or more than 65,536 lines.
     #[error("too many faults")]

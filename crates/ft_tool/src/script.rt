@@ -20,7 +20,7 @@ pub(crate) enum ScriptFault {
     #[error("the script is too long")]
     TooLong,
     /// The script could not be read.
-    #[error("the script could not be taken")]
+    #[error("the script could not be read")]
     Failed,
     /// Memory ran out.
     #[error("out of memory")]

@@ -45,14 +45,14 @@ pub enum Why {
     Targets,
     /// For some register of the target's code type, the register here has no type, another colour, a basic type that is
     /// not accepted as the target's, or a form that is not the same as the target's expression under the substitution.
-    #[error("a register is not as the target wants it")]
+    #[error("a register does not meet the target's type")]
     RegisterUnlike,
     /// The static queue differs in length from the target's, or a pair is not the same under the
     /// substitution; at `halt`, the static queue is not empty.
-    #[error("the pending stores are not as the target wants them")]
+    #[error("the pending stores do not match the target's")]
     QueueUnlike,
     /// The memory form is not the same as the target's memory under the substitution.
-    #[error("the memory is not as the target wants it")]
+    #[error("the memory does not match the target's")]
     MemoryUnlike,
     /// The substitution's number of rows is not the target's number of integer variables, or a row or its
     /// memory has a scope above this block's number of integer variables.

@@ -3,7 +3,7 @@ use crate::elsewhere::Row;
 
 /// The commands, with the advice for each.
 pub(super) const ROWS: &[Row] = &[
-    ("quit exit q", "a session ends with its input"),
+    ("quit exit q", "a session ends when its input ends"),
     (
         "print p output display examine inspect",
         "`reg R` and `cell NAME` show a word; `tools/debugger` knows `print`",
