@@ -117,7 +117,7 @@ def main(words):
         "creationInfo": {
             "created": date.strftime("%Y-%m-%dT%H:%M:%SZ"),
             "creators": ["Tool: talft build/sbom.py"],
-            "comment": f"{kit}; commit {commit}. The libc and the loader of the host are no part of this.",
+            "comment": f"{kit}; commit {commit}. The libc and the loader of the host are not included.",
         },
         "packages": [found for packages, _ in parts for found in packages],
         "relationships": [

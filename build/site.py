@@ -111,7 +111,7 @@ class Site:
             rows = [item(self.pages[f"docs/{name}.md"], self.titles[f"docs/{name}.md"]) for name in names]
             parts.append(f"<h2>{reader}</h2><ul>{''.join(rows)}</ul>")
         rows = [item(page, self.titles[path]) for path, page in BESIDE.items() if page != "index.html"]
-        parts.append(f"<h2>Beside</h2><ul>{''.join(rows)}{item('manual/index.html', 'Manual pages')}{item('trace-page.html', 'Trace, to search')}"
+        parts.append(f"<h2>More</h2><ul>{''.join(rows)}{item('manual/index.html', 'Manual pages')}{item('trace-page.html', 'Searchable trace')}"
                      f"{item('report.html', 'A report') if os.path.exists(os.path.join(self.folder, 'report.html')) else ''}</ul>")
         return "\n".join(parts)
 

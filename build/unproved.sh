@@ -51,7 +51,7 @@ esac
 
 . "$top/build/kit.sh" || exit 70
 need_kit || exit 70
-echo 'talft: not proved yet, so slow: `make` proves and builds it' >&2
+echo 'talft: slow, since not proved yet: `make` proves and builds it' >&2
 work=$(mktemp -d) || exit 70
 trap 'rm -rf "$work"' EXIT
 words=("$@") data=() lacking=no script=/dev/null
@@ -127,8 +127,8 @@ trap 'stopped 143' TERM
 
 status=$(sed -n '$s/^run=ended status=\([0-9]*\) .*$/\1/p' "$work/said")
 
-# A line that the program wrote about a file passed under the name $2, with the file's own name. The program calls
-# folders and unreadable files missing.
+# A line that the program wrote about a file passed under the name $2, with the file's own name. The program
+# reports folders and unreadable files as missing.
 said_of() {
   local said=${1#"$2"} file=${names[$2]}
   if [ "$said" = ': error: no such file' ] && [ -d "$file" ]; then

@@ -7,12 +7,12 @@
 Two kinds of list end at `<!-- end -->`. Both name files of crates/, lowest crate first, and look at code, definitions
 and proofs outside comments.
 
-`<!-- files: CASE.. ; FILE.. -->` begins the files that name one of these cases.
+`<!-- files: CASE.. ; FILE.. -->` introduces the files that name one of these cases.
 
-`<!-- cases: CASE.. | CASE.. ; FILE.. -->` begins the files that go by cases: they name at least three quarters of the
-cases of one of the sets between the bars. A new case changes them, as a rule: the prover refuses a match without it,
-and a table lacks its row. A file that names fewer has a last clause for the others, and changes only if that does not
-fit. The sets are the same cases as different layers call them.
+`<!-- cases: CASE.. | CASE.. ; FILE.. -->` introduces the files that list cases: they name at least three quarters of
+the cases of one of the sets between the bars. A new case changes them, as a rule: the prover refuses a match without
+it, and a table needs a row for it. A file that names fewer has a last clause for the others, and changes only if that
+does not fit. The sets are the same cases as different layers call them.
 
 FILE.. are other files that must change: they hold the case's number, a limit on numbers, its parts or its fields.
 """

@@ -32,7 +32,7 @@ def table(rows):
 
 
 def worse(old, new):
-    """The rows that take a tenth more, and more than the clock and the pages of one call can account for."""
+    """The rows that take over a tenth more, and more than the noise of the clock and of memory pages can explain."""
     before = {(row["command"], row["input"], row["words"]): row for row in old}
     for row in new:
         was = before.get((row["command"], row["input"], row["words"]))

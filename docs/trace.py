@@ -235,7 +235,7 @@ MARK = re.compile(r"<!-- trace: (.*?) -->\n.*?<!-- end of trace -->", re.S)
 
 
 def promises(trace):
-    """docs/PROMISES.md with its tables made anew."""
+    """docs/PROMISES.md with its tables regenerated."""
     def made(found):
         what = found.group(1)
         if what == "wrong bodies":

@@ -23,7 +23,7 @@ __attribute__((constructor)) static void keep(int argc, char **argv)
     words = argv;
 }
 
-/* Copies a text into a buffer. Returns its length, or -1 if there is no text, or -2 if it only fills the buffer. */
+/* Copies a text into a buffer. Returns its length, -1 if there is no text, or -2 if it is longer than the buffer. */
 static ptrdiff_t put(const char *text, uint8_t *buf, size_t room)
 {
     size_t at = 0;

@@ -29,9 +29,9 @@
  *            others used up to 17 KiB. This is measured, not proved.
  *
  * NOT PROVED  No clause says how much memory a call takes, that it is freed, or that NO_MEMORY is returned only when memory is
- *             short. No clause says that talft_compile gives one text the same object each time. Nothing is proved about
- *             talft_arena, nor about this file's declarations: that types, fields and numbers are those of the library. No
- *             clause says that entries and bytes of an array beyond those written are unchanged.
+ *             short. No clause says that talft_compile always makes the same object from the same text. Nothing is
+ *             proved about talft_arena, nor about this file's declarations: that types, fields and numbers are those of
+ *             the library. No clause says that entries and bytes of an array beyond those written are unchanged.
  */
 #ifndef TALFT_H
 #define TALFT_H
@@ -174,8 +174,8 @@ typedef struct talft_module {
  * and one fault is masked or detected. OK or NO_ROOM: *made is the number of its bytes.
  *
  * NOT_LINKED, part 7: the number of the refusal is that of the command `talft link`. MALFORMED or REFUSED: talft_check
- * returns this for a module. NO_MODULE: no module has the name. In these cases *module is the module's number in the map,
- * from 0; it is 0 if the refusal is about the map or a line of it. Or NO_MEMORY. In all cases but OK `out` is
+ * would return this for a module. NO_MODULE: no module has the name. In these cases *module is the module's number in
+ * the map, from 0; it is 0 if the refusal is about the map or a line of it. Or NO_MEMORY. In all cases but OK `out` is
  * unchanged. In all cases but OK and NO_ROOM *made is 0.
  */
 uint32_t talft_link(const uint8_t *map, size_t map_len, const talft_module *modules, size_t count, uint8_t *out,

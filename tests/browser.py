@@ -37,7 +37,7 @@ class Browser:
         while b"\0" not in self.kept:
             some = self.take.read1(1 << 20)
             if not some:
-                sys.exit("browser: it has gone away")
+                sys.exit("browser: it exited")
             self.kept += some
         text, self.kept = self.kept.split(b"\0", 1)
         return json.loads(text)

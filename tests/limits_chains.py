@@ -1,11 +1,11 @@
-"""Chains of nodes, each the type of a register."""
+"""Chains of nodes that the code types of blocks refer to."""
 from limits_objects import *
 from limits_rows import *
 
 
-# Chains of nodes, which are the type of a register in a block that jumps to itself.
+# The last node of these chains is the expression of two registers in a block that jumps to itself.
 def own(nodes, top, ints=1, memory=0, before=b"", version=1):
-    """Block 0 halts. The type of block 1 has the node `top` for a green and a blue register; it jumps to itself. The nodes
+    """Block 0 halts. Block 1 jumps to itself; in its type, a green and a blue register have the node `top`. The nodes
     begin with the memory variable and the integer variables."""
     rows_of_type = register_row(0, GREEN, top) + register_row(32, BLUE, top)
     block = before + mov(1, GREEN, 2, code(1)) + mov(33, BLUE, 2, code(1)) + jump(GREEN, 1) + jump(BLUE, 33, 0, ints, memory)
@@ -22,12 +22,12 @@ def chain(name, what, make, full=1048576, unit="nodes", power=1, answers=None):
 
 
 def pairs_of(op, version=1):
-    """Each node applies the operation to the one before it, taken twice."""
+    """Each node applies the operation to the one before it, as both operands."""
     return lambda n: own(variables(1) + b"".join(operation(op, k - 1, k - 1, 1) for k in range(2, n)), n - 1, version=version)
 
 
 def remainders(n):
-    """Each node is the remainder of the one before it by 1,024."""
+    """Each node is the one before it modulo 1,024."""
     return own(variables(1) + b"".join(remainder(k - 1, 1024, 1) for k in range(2, n)), n - 1, version=2)
 
 

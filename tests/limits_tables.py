@@ -43,7 +43,8 @@ def many_types(count, registers, queue):
 
 
 def largest(n, version=1, length=32):
-    """All tables but those of rows are filled to n / 65,536 of their limits; the last blocks jump without need."""
+    """Each table is filled to n / 65,536 of its limit, except that the first type has no rows. The last eighth of the
+    blocks are blue jumps, whose substitutions fill the table of substitution rows."""
     types, regs, queues = many_types(n // 16, 64, 8)
     jumps = n // 8
     return spell(memory() + words_from(1, 16 * n - 1), HALT * (n - jumps) + b"".join(

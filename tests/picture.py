@@ -37,7 +37,7 @@ def main(path):
     if inner := re.search(rb"data:image/png;base64,([^'\"]*)", data):
         data = base64.b64decode(inner[1])
     if data[:8] != b"\x89PNG\r\n\x1a\n":
-        sys.exit(f"{path}: it is no PNG")
+        sys.exit(f"{path}: not a PNG")
     parts = list(chunks(data))
     wide, high, depth, kind = struct.unpack(">IIBB", parts[0][1][:10])
     size = {2: 3, 6: 4}[kind]

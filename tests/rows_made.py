@@ -33,7 +33,7 @@ SOURCES = [
     b"cell a[3] = 0; var i; while (i < 4) { a[i] = i ^ 5; i = i + 1; }",
 ]
 
-# Modules for links. The first jumps to its second block, which is the one instruction `halt`.
+# Modules for links. The first jumps to its second block, which consists of `halt` alone.
 MODULES = {
     "m": "node 0 memory|type 0 0|block 0|mov r1 G 5 code:0|mov r33 B 5 code:0|jmp_G r1|jmp_B r33 0|block 0|halt",
     # Its second block keeps a register as green `int` 5.

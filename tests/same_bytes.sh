@@ -37,7 +37,7 @@ export -f built
 as=
 if [ "$(id -u)" = 0 ]; then
   chown -R nobody "$two" "$room/another"
-  # The kit keeps its proofs for its own user. Another user's PATH has nothing that only that user can run.
+  # The kit keeps proofs for each user separately. The other user gets a PATH with only what every user can run.
   [ "$way" != --packages ] || as='env PATH=/usr/local/bin:/usr/bin:/bin setpriv --reuid=nobody --clear-groups'
 fi
 # The kit runs the tests of crates as nobody, who must be able to read them.

@@ -79,7 +79,7 @@ def read_rows(rows):
 
 
 def put_table(document, table):
-    """Replaces the table in the document whose first column has the same name."""
+    """Replaces the document's table whose first column has this heading."""
     head = table[0].split("|")[1]
     with open(document, encoding="utf-8") as text:
         lines = text.read().split("\n")

@@ -104,7 +104,7 @@ def main():
             count += 1
             print(f"{found[0][2]}: " + ", ".join(f"{path}:{line}" for path, line, _ in found))
     if count:
-        print(f"{count} statements stand in more than one file")
+        print(f"{count} statements occur in more than one file")
     sys.exit(count != 0)
 
 

@@ -85,7 +85,7 @@ def main():
                     file.write(changed(text))
             told, status = said(top)
             if wanted not in told or status != 1:
-                print(f"{name} is not missed: {told}")
+                print(f"{name} goes unnoticed: {told}")
             with open(place, "w", encoding="utf-8") as file:
                 file.write(text)
         for name, path, wanted in MORE:
@@ -94,7 +94,7 @@ def main():
                 pass
             told, status = said(top)
             if wanted not in told or status != 1:
-                print(f"{name} is not missed: {told}")
+                print(f"{name} goes unnoticed: {told}")
             os.remove(place)
 
 

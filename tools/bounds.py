@@ -38,7 +38,7 @@ def tail(count, drawn, share):
 
 def upper(count, drawn, doubt=DOUBT):
     """The upper bound on a share by Clopper and Pearson (1934): the share at which `count` or fewer occur with
-    probability `doubt`. For a sample without repetition, as tools/faults draws it, the bound is at least as safe."""
+    probability `doubt`. For a sample without replacement, as tools/faults draws it, the bound is at least as safe."""
     if drawn == 0 or count >= drawn:
         return 1.0
     low, high = count / drawn, 1.0

@@ -30,8 +30,8 @@ class Once(argparse.Action):
 class Parser(argparse.ArgumentParser):
     """Parses the arguments of a tool.
 
-    `others` are prefixes of options for another program. `instead` says what to do about an argument too many, and
-    `elsewhere` what to do instead of options that other programs have, by their names."""
+    `others` are prefixes of options for another program. `instead` says what to do about a surplus argument;
+    `elsewhere` says, by their names, what to do instead of options that other programs have."""
 
     def __init__(self, name, about, more, others=(), instead=None, elsewhere=None, **rest):
         super().__init__(prog=name, description=about, epilog=more,

@@ -73,7 +73,7 @@ ended() {
   run=$!
   for ((n = 0; n < 300; n++)); do grep -qs 000001 given || sleep 0.1; done
   refuses 'a second run during the first' \
-    "campaign: $signal.$engine: this campaign is running already: wait for it, or give another --dir" \
+    "campaign: $signal.$engine: this campaign is already running: wait for it, or give another --dir" \
     campaign "${words[@]}"
   kill -"$signal" "$run"
   wait "$run" 2>errors

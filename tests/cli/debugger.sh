@@ -130,8 +130,8 @@ says 'no index' 'break 0:9' '`0:9`: unknown index 9: block 0 has 0 to 6'
 says 'no block' 'break 7:0' '`7:0`: unknown block 7: the blocks are 0 to 0'
 says 'a line without an instruction' 'break 15' 'no instruction is on line 15: this is the next one, on line 16'
 says 'a breakpoint twice' 'break 0:2\nbreak 0:2' '`0:2` is breakpoint 1 already'
-says 'a watch twice' 'watch r1\nwatch r1' '`r1` is watched already, by watch 1'
-says 'a plan twice' 'plan 4:r1:6\nplan 4:r1:6' '`4:r1:6` is planned already'
+says 'a watch twice' 'watch r1\nwatch r1' '`r1` is already watched, by watch 1'
+says 'a plan twice' 'plan 4:r1:6\nplan 4:r1:6' '`4:r1:6` is already planned'
 says 'half a condition' 'break 0:1 if r1 == 5 and' \
   '`r1 == 5 and`: missing comparison: expected WORD OP WORD, where OP is one of == != <= >= < >, and WORD a register, '\
 'a cell, or a number'

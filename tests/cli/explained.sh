@@ -64,7 +64,7 @@ detected='five.obj: detected at step 11: `st_B r32 r33`: r33 is 5, and the oldes
 explained 'a run that is detected' 1 '' "$detected" run five.obj --fault 4:r1:6
 explained 'a recovery' 0 'out 5\nagain 0\n' "$detected" recover five.obj --fault 4:r1:6
 explained 'a counter that was struck' 1 '' \
-  'five.obj: detected at step 4: the green program counter is 9, the blue one is 3\n' trial five.obj --fault 4:pcg:9
+  'five.obj: detected at step 4: the green program counter is 9, but the blue one is 3\n' trial five.obj --fault 4:pcg:9
 explained 'a run that is cut' 9 '' 'five.obj: still running after 11 steps: raise `--steps`\n' run five.obj --steps 11
 explained 'a fault after the end' 0 'out 5\n' \
   'five.obj: the fault struck nothing: the run had ended after 14 steps, before step 4000\n' run five.obj --fault 4000:r1:6
@@ -127,7 +127,7 @@ explained 'a block that a module does not have' 13 'link 7 2\n' \
   'block.map:2:1: error: the module has no such block\n export next 9\n ^~~~~~~~~~~~~\n  blocks of said-count.obj: 0 to 3\n' link block.map
 printf 'module said-count.obj\nimport show 1\nmodule said-show.obj\nexport show 0\n' >stub.map
 explained 'an import of a block that is not a stub' 13 'link 8 2\n' \
-  'stub.map:2:1: error: the imported block is not a stub: a stub is the one instruction `halt`\n import show 1\n ^~~~~~~~~~~~~\n  stubs of said-count.obj: 2 3\n' link stub.map
+  'stub.map:2:1: error: the imported block is not a stub: a stub is a single `halt`\n import show 1\n ^~~~~~~~~~~~~\n  stubs of said-count.obj: 2 3\n' link stub.map
 printf 'module said-count.obj\nexport next 1\nimport shwo 3\nmodule said-show.obj\nexport show 0\n' >name.map
 explained 'a name that nothing exports' 13 'link 9 3\n' \
   'name.map:3:1: error: no line exports this name\n import shwo 3\n ^~~~~~~~~~~~~\n  exported names: `next` `show`\n' link name.map
@@ -138,7 +138,7 @@ printf 'module said-count.obj\nmodule unlike.obj\n' >cells.map
 "$top/talft" dis five.obj | sed 's/^cell out int 0/cell other int 0/' >unlike.asm
 "$top/talft" asm unlike.asm >unlike.obj 2>errors
 explained 'a module with other cells' 13 'link 3 1\n' \
-  'unlike.obj: error: its cells differ from those of the first module\n  cell 0 has another name, type or initial word\n' link cells.map
+  'unlike.obj: error: its cells differ from those of the first module\n  cell 0 has a different name, type or initial word\n' link cells.map
 printf 'module said-count.obj\nexport a 1\nimport b 1\n' >named.map
 explained 'a block named twice' 13 'link 2 3\n' \
   'named.map:3:1: error: this block is exported or imported already\n import b 1\n ^~~~~~~~~~\n  line 2 names this block\n' link named.map
@@ -302,7 +302,7 @@ nop|1: error: unknown instruction `nop`: leave the line out
 hlt|1: error: unknown instruction `hlt`: write `halt`
 push r1|1: error: unknown instruction `push`: there is no stack: `st_G` and `st_B` store, and `ld_G` and `ld_B` load
 cmp r1 r2|1: error: unknown instruction `cmp`: there are no flags: `eq` and `ltu` write 1 or 0 into a register
-beq r1 r2 4|1: error: unknown instruction `beq`: `eq` and `ltu` compare, and `bz_G` and `bz_B` branch where a register is 0
+beq r1 r2 4|1: error: unknown instruction `beq`: `eq` and `ltu` compare, and `bz_G` and `bz_B` branch if a register is 0
 lw r1 0(r2)|1: error: unknown instruction `lw`: write `ld_G` for green or `ld_B` for blue
 sw r1 0(r2)|1: error: unknown instruction `sw`: write `st_G` for green or `st_B` for blue
 rem r1 r2 r3|1: error: unknown instruction `rem`: there is no division; `idx` takes a number modulo the length of an array
@@ -462,18 +462,18 @@ while IFS='|' read -r line message; do
   "$top/talft" debug five.obj >with 2>said <habit.script
   report "the message about the command \`$line\`" "standard input:1:$message/bad command" "$(head -n 1 said)/$(cat with)"
 done <<'END'
-print r1|1: error: unknown command `print`: `reg R` and `cell NAME` show a word; `tools/debugger` knows `print`
-p r1|1: error: unknown command `p`: `reg R` and `cell NAME` show a word; `tools/debugger` knows `print`
+print r1|1: error: unknown command `print`: `reg R` and `cell NAME` show a word; `tools/debugger` has `print`
+p r1|1: error: unknown command `p`: `reg R` and `cell NAME` show a word; `tools/debugger` has `print`
 quit|1: error: unknown command `quit`: a session ends when its input ends
 q|1: error: unknown command `q`: a session ends when its input ends
-info registers|1: error: unknown command `info`: `where`, `reg R`, `cell NAME` and `queue` show the state; `tools/debugger` knows `info`
-list|1: error: unknown command `list`: `talft dis OBJECT` writes the instructions; `tools/debugger` knows `disassemble`
-x/4 out|1: error: unknown command `x/4`: `cell NAME` shows the word of a cell; `tools/debugger` knows `x`
+info registers|1: error: unknown command `info`: `where`, `reg R`, `cell NAME` and `queue` show the state; `tools/debugger` has `info`
+list|1: error: unknown command `list`: `talft dis OBJECT` writes the instructions; `tools/debugger` has `disassemble`
+x/4 out|1: error: unknown command `x/4`: `cell NAME` shows the word of a cell; `tools/debugger` has `x`
 backtrace|1: error: unknown command `backtrace`: `where` shows the place: there are no calls
 continue|1: error: unknown command `continue`: `go N` takes N steps, up to a breakpoint
 next|1: error: unknown command `next`: `step N` takes N steps, and an instruction takes two
 help|1: error: unknown command `help`: a script has `step`, `go`, `back`, `zap`, `reg`, `queue`, `cell`, `where` and `break`
-undo|1: error: unknown command `undo`: `tools/debugger` knows this command
+undo|1: error: unknown command `undo`: `tools/debugger` has this command
 regs|1: error: unknown command `regs`; did you mean `reg`?
 step\t1|5: error: words are separated by one space, not by a tab
 zap  r1 6|5: error: words are separated by one space

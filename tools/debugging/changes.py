@@ -119,7 +119,7 @@ def exactly(timeline, before, after, strikes, name, old, new):
 
 
 def pieces(timeline, start, end, strikes, name):
-    """(from, to, word before, words) for each piece of a run in which a cell is stored, and the stop if there is one.
+    """(from, to, word before, words) for each piece of a run that stores to a cell, and the stop if there is one.
 
     Only a commit changes a cell, and each commit is an output. So pieces of any length show all stores."""
     width = max(1, -(-(end - start) // PIECES))

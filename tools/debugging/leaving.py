@@ -16,7 +16,7 @@ def end_with_parent():
 
 
 def leave_on_signals():
-    """Makes a closed terminal and `kill` end the tool like an exit: calls are ended, and the terminal is restored."""
+    """Makes the tool exit cleanly on `kill` or when its terminal closes: calls are ended, the terminal is restored."""
     def leave(number, _):
         # A second signal must not interrupt the handling of the first.
         for other in (signal.SIGTERM, signal.SIGHUP):

@@ -65,7 +65,7 @@ class Listing:
         self.code.append(Instruction(" ".join(words), len(self.code) + 1, block, index, number))
 
     def said(self):
-        """The lines that say something, with single spaces."""
+        """The lines that are neither empty nor comments, with single spaces."""
         return [" ".join(line.split()) for line in self.lines if line.split() and line.split()[0][0] != "#"]
 
     def at(self, address):

@@ -126,7 +126,7 @@ def of_green_store(state, words, named, target):
     """The rows of `st_G` in "Stores"."""
     if len(state.queue) < QUEUE_LENGTH:
         return None
-    return Detection("eight green stores are pending already",
+    return Detection("eight green stores are already pending",
                      [Compared("queue", f"{len(state.queue)} pairs", f"at most {QUEUE_LENGTH}", False)])
 
 
@@ -145,7 +145,7 @@ def of_green_jump(state, words, named, target):
     d = state.word("d")
     if d == 0:
         return None
-    return Detection("a green jump is pending already: d is not 0", [Compared("d", f"d = {target(d)}", "0", False)])
+    return Detection("a green jump is already pending: d is not 0", [Compared("d", f"d = {target(d)}", "0", False)])
 
 
 def of_blue_jump(state, words, named, target):

@@ -116,7 +116,7 @@ class Panes:
     def cells_shown(self, most):
         """(name, word) of `most` cells: the displayed and watched ones, those that changed last, and the first.
 
-        The last word stored in a cell is an output, so not every cell of many is read for each screen."""
+        The last word stored in a cell is an output, so a screen need not read every cell."""
         session, known = self.session, self.session.target.listing.cells
         watched = [site for _, site in session.watched()]
         wanted = [name for name in self.commands.displayed + watched if name in known][:most]

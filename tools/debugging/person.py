@@ -276,7 +276,7 @@ class Session:
         """Plans a strike STEP:SITE:WORD, which is made each time the session passes the step."""
         strike = self.read_strike(text)
         if strike in self.strikes:
-            raise Refused(f"{quoted(text)} is planned already")
+            raise Refused(f"{quoted(text)} is already planned")
         self.keep()
         self.add_strike(strike)
         if strike.step <= self.position:
@@ -337,7 +337,7 @@ class Session:
             raise Refused(f"`{name}`: parts of the queue cannot be watched") if name in SITES else self.unknown(name)
         if sites in self.watches.values():
             number = next(number for number, watched in self.watches.items() if watched == sites)
-            raise Refused(f"`{name}` is watched already, by watch {number}")
+            raise Refused(f"`{name}` is already watched, by watch {number}")
         number = self.number()
         self.watches[number] = sites
         return number

@@ -88,7 +88,7 @@ def follow(timeline, position, here, strikes, places, limit, plan):
 
 
 def marks(strikes, start, end):
-    """The positions of strikes and right before them, to distinguish an instruction's change from a strike's."""
+    """The positions of strikes and those right before them, to distinguish an instruction's change from a strike's."""
     return {at for s in strikes for at in (s.step - 1, s.step) if start < at <= end}
 
 

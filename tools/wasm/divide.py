@@ -1,4 +1,4 @@
-"""Division without a divide instruction: a 32-bit reciprocal by Newton's method, and estimates from below with it."""
+"""Division without a divide instruction: a 32-bit reciprocal, by Newton's method, estimates quotients from below."""
 from .words import M64
 
 
@@ -26,7 +26,7 @@ class Divide:
         return mk("add", r, -4 & M64)
 
     def _once_more(self, q, r, d):
-        """Adds 1 to the quotient, and subtracts d from the rest, if r is not below d."""
+        """Adds 1 to the quotient q, and subtracts d from the remainder r, if r is not below d."""
         mk = self.mk
         mask = mk("add", mk("ltu", r, d), M64)
         return mk("sub", q, mask), mk("sub", r, mk("and", mask, d))

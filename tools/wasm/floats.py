@@ -11,8 +11,8 @@ OWN = ("abs", "neg", "copysign")
 
 
 def builtin_name(name):
-    """The name of the function that compiler-rt has for an instruction, or a name of the same form; None for one
-    that needs no function."""
+    """The name of compiler-rt's function for an instruction, or a name in its style if it has none; None for an
+    instruction that needs no function."""
     kind, op = name.split(".")
     if op in OWN:
         return None
@@ -39,7 +39,7 @@ def builtin(module, name):
 
 
 def bits_of_power(form, power, plus=0):
-    """The bits of 2 to a power, plus a number of the same sign below it."""
+    """The bits of the number 2^power + plus, rounded down; `plus` is below 2^power."""
     _, _, fraction, bias = FORMS[form]
     return (power + bias << fraction) + (plus << fraction >> power)
 

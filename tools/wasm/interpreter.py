@@ -101,7 +101,7 @@ STORES = {0x36: 4, 0x37: 8, 0x38: 4, 0x39: 8, 0x3A: 1, 0x3B: 2, 0x3C: 1, 0x3D: 2
 
 
 class Interpreter:
-    """A module that runs. `stores` are the words of 8 bytes that changed: their addresses, and what they hold then."""
+    """A module that runs. `stores` has the address and the new value of each word of 8 bytes that a store wrote to."""
 
     def __init__(self, module, most=100_000_000, most_stores=None):
         self.module, self.left, self.most, self.most_stores = module, most, most, most_stores
@@ -179,7 +179,7 @@ class Interpreter:
             data = self.part(b"" if a in self.dropped else self.module.data[a].items, second, count)
         if to + count > len(self.memory):
             raise Trap("an access outside the memory")
-        # Byte by byte, each a store, and downwards if a copy goes up, as an object does it.
+        # Like an object: byte by byte, each byte a store, and downwards if the copy moves bytes up.
         downwards = op == 0xFC0A and to > second
         for at in range(count - 1, -1, -1) if downwards else range(count):
             self.memory[to + at] = data[at]

@@ -8,8 +8,8 @@ FULL = (0, M64)
 
 class Loop:
     """`steps`: for each counter what a turn adds to it, and the mask of its width; `tests`: for each edge on which
-    the loop continues, its test, and whether the loop ends if that is 0; `own`: the range of a counter that is
-    compared itself."""
+    the loop continues, its test, and whether the loop ends if that is 0; `own`: for each counter that a test
+    compares with a bound, the range that follows."""
 
     def __init__(self, head, body, latches):
         self.head, self.body, self.latches = head, body, latches

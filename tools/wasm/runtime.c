@@ -1,4 +1,4 @@
-// What clang may call without being told: moving and comparing bytes. A program that has its own keeps it.
+// The functions that clang may call on its own: they move and compare bytes. A program's own versions replace them.
 #define WEAK __attribute__((weak))
 typedef __SIZE_TYPE__ size;
 

@@ -47,7 +47,7 @@ def ones_of_product(oa, ob, _):
     return smear(oa * ob) & M64 & -(low_bit(oa) * low_bit(ob))
 
 
-# What a result may have, of the bits that the operands may have, and the second operand.
+# The bits of a result that may be 1, from those of both operands and from the second operand itself.
 ONES = {"and": lambda oa, ob, _: oa & ob, "or": lambda oa, ob, _: oa | ob, "xor": lambda oa, ob, _: oa | ob,
         "add": ones_of_sum, "sub": lambda oa, ob, _: M64 & -low_bit(oa | ob), "mul": ones_of_product,
         "ltu": lambda oa, ob, _: 1, "eq": lambda oa, ob, _: 1,

@@ -1,4 +1,4 @@
--- The tables still hold what the lines so far say after a line that closes the part before it.
+-- After a line that closes the part before it, the tables still hold what the lines so far say.
 use Rattle.std.proofs.Common.{◌≡◌, ℕ, ◌+◌, true, false, [], ◌∷◌, ◌++◌, length, Some, refl, ap, sym, ◌∙◌, arith}
 use Rattle.std.specs.List.{flat_map}
 use Rattle.ft_types.specs.declared.object.Block.{Block}

@@ -44,7 +44,7 @@ zip_on [] vs (l ∷ ls) ms h i = absurd h
 zip_on (w ∷ ws) vs [] ms h i = absurd h
 zip_on (w ∷ ws) vs (l ∷ ls) ms h i = (h.0, zip_on ws vs ls ms h.1 i)
 
--- if words spell lines, then any lines that they spell together with further words begin with those lines
+-- if some words spell lines, whatever they spell together with further words begins with those lines
 zip_apart : (ws vs : List (List (List ℕ))) (ls ms : List Line) → AllZip IsForm ws ls → AllZip IsForm (ws ++ vs) ms →
     (ns : List Line) × (ms ≡ ls ++ ns) × AllZip IsForm vs ns
 zip_apart [] vs [] ms h i = (ms, refl, i)

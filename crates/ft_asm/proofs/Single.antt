@@ -113,7 +113,7 @@ one_first text n m f g = elim (apart f.before g.before f.after g.after f.line g.
 one_number : (text : List ℕ) (n m : ℕ) → First text n → First text m → n ≡ m
 one_number text n m f g = f.here ∙ ap (λ ls. suc (length ls)) (one_first text n m f g).0 ∙ sym g.here
 
--- if all lines begin a text, none is the first at fault
+-- if some text that reads as an object begins with all lines, none is the first at fault
 no_first : (text : List ℕ) (n : ℕ) → First text n → ¬ (Begin (lines_of text))
 no_first text n f b = f.none (begin_prefix (lines_of text) (f.before ++ f.line ∷ []) f.after (f.split
     ∙ sym (append_assoc f.before (f.line ∷ []) f.after)) b)

@@ -119,7 +119,7 @@ zip_weights (ws ∷ wss) (l ∷ ls) h =
     let rest = zip_weights wss ls h.1 in
     omega arith
 
--- what a text says weighs at most as much as the text has bytes
+-- the weight of what a text says is at most the number of its bytes
 text_weight : (text : List ℕ) (l : Listing) → AllZip IsForm (said_in (lines_of text)) (listing_lines l) →
     all_weights (listing_lines l) ≤ length text
 text_weight text l h =
@@ -176,7 +176,7 @@ parts_weigh (p ∷ ps) =
     ∙ length-append (flat_map rows_of p.codes) (flat_map rows_of (flat_map codes_of ps)) in
     omega arith
 
--- the counts of a listing are at most its weight
+-- each count of a listing is at most n
 record AreCounted (l : Listing) (n : ℕ) : Type 0 where
   cells : length l.cells ≤ n
   names : length (flat_map name_of l.cells) ≤ n
@@ -326,7 +326,7 @@ listing_fits l n few a h =
       entry = parts.1.0;
     }
 
--- the object that a text of at most 134,217,728 bytes reads as fits
+-- if a text has at most 134,217,728 bytes, the object that it reads as fits
 pub reading_fits : (text : List ℕ) (o : Object) → length text ≤ 134217728 → Reads text o → Fits o
 reading_fits text o few r =
     let weight = text_weight text r.listing r.said in

@@ -70,7 +70,7 @@ pub extern "C" fn talft_open(
 
 /// Takes at most `steps` steps of the run that a handle holds, and fewer if the run is done or detected, or the array
 /// is full. The outputs of these steps go into the array. Returns 0 for a run that is done; 1 for one that is detected;
-/// 9 if all steps were taken, or 2^64 - 1 in all; 14 if the array is full; or 17 for an empty handle.
+/// 9 if all steps were taken (or 2^64 - 1 in all); 14 if the array is full; or 17 for an empty handle.
 #[unsafe(no_mangle)]
 pub extern "C" fn talft_advance(
     alloc: Global,

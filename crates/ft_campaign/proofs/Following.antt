@@ -101,7 +101,7 @@ module _ {T : Type 0} (outlet : Ghosts T) (o : Object) (s s' : State) (w w' : Li
       (sym a.status_is ∙ span_running o n (most - n) s w (ap (λ k. (span o k s w).state.status) (rest_of n most few)
       ∙ running))
 
-  -- an outlet that always goes on hears all steps of a run that is still running after them
+  -- an outlet that always goes on sees all steps of a run that is still running after them
   pub runs_to_end : (pause : Pause) → Goes outlet o s w t s' w' t' n pause → goes_on pause ≡ true → n ≤ most →
       (span o most s w).state.status ≡ Running → (pause ≡ pauses.Running → n ≡ most) → n ≡ most
   runs_to_end pauses.Running a is few running all = all refl

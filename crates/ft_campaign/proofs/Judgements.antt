@@ -23,7 +23,7 @@ use Rattle.ft_campaign.proofs.Meetings.{has_met}
 pub refuted : {F : Type 0} (b : Bool) → Decides b F → b ≡ false → ¬ F
 refuted b d e f = (let t : b ≡ true = d.1 f in let bad : true ≡ false = sym t ∙ e in cc)
 
--- the outputs so far are `at` in number
+-- there are `at` outputs so far
 begun_long : (ys xs : List Output) (at : ℕ) → Begins ys at xs → length xs ≡ at
 begun_long ys xs at h = let few = h.few in ap length h.front ∙ length-take-le at ys few
 

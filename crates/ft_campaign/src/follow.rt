@@ -48,8 +48,8 @@ fn is_next(whole: &[Output], at: &mut usize, output: Output) -> bool
     }
 }
 
-/// The outputs of the run without a fault, and how many of them the struck run has had. It does not go on after an
-/// output that is not the next of them.
+/// The outputs of the run without a fault, and how many of them the struck run has had. As an outlet, it stops the run
+/// at an output that is not the next one.
 #[derive(Drop)]
 pub(crate) struct Expected<'a> {
     pub(crate) whole: &'a [Output],

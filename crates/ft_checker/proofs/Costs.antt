@@ -1,4 +1,4 @@
--- How many steps a check takes at most.
+-- Why a check stays within its bound on steps.
 use Rattle.std.proofs.Common.{ℕ, suc, zero, ◌≡◌, ◌+◌, ◌*◌, ◌≤◌, List, [], ◌∷◌, ◌++◌, length, take, slice_get, Option}
 use Rattle.std.proofs.Common.{Some, refl, sym, ap, ◌∙◌, subst, arith}
 use Rattle.std.specs.Option.{option_map, unwrap_or}

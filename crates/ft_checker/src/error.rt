@@ -8,9 +8,9 @@ use thiserror::Error;
 /// both counted from 0, with its first failing premise. Or memory ran out.
 #[derive(Clone, Copy, Debug, PartialEq, Eq, Error)]
 pub enum CheckError {
-    #[error("a run may not begin with the entry block's code type")]
+    #[error("a run cannot begin with the entry block's code type")]
     EntryType,
-    #[error("the initial word of cell {cell} has another type")]
+    #[error("the initial word of cell {cell} does not have the cell's type")]
     CellType { cell: u32 },
     #[error("instruction {index} of block {block}: {why}")]
     Refused { block: u32, index: u32, why: Why },

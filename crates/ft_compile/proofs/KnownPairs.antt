@@ -17,7 +17,7 @@ use Rattle.ft_compile.proofs.PremiseRows.{ty, typed_same, typed_other}
 
 -- PAIRS
 
--- types both registers of a pair
+-- sets the types of both registers of a pair
 abbrev pub both : ℕ → Basic → Polynomial → Context → Context
 both p b x c = with_type (blue p).number (ty Blue b x) (with_type (green p).number (ty Green b x) c)
 

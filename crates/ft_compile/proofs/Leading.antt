@@ -75,7 +75,7 @@ halt_row : (o : Object) (c : Context) → c.d ≡ d_zero → c.queue ≡ [] → 
 unfolding need for_zero is_empty
 halt_row o c d q = rw (d, q) refl
 
--- instructions whose rules lead on, followed by instructions whose rules apply
+-- instructions whose rules continue, followed by instructions whose rules apply
 passes_applies : (o : Object) (c d : Context) (is js : List Instr) → Passes o c is d → Applies o d js →
     Applies o c (is ++ js)
 passes_applies o c d [] js p a = subst (λ e. Applies o e js) (sym p) a

@@ -1,4 +1,4 @@
--- If an object stands for a program, outputs have the same lines by the object's cell names as by the program's.
+-- If an object stands for a program, outputs have the same lines with the object's cell names as with the program's.
 use Rattle.std.proofs.Common.{◌≡◌, ℕ, ◌+◌, ◌*◌, ◌-◌, ◌≤◌, List, [], ◌∷◌, None, refl, sym, ap, ◌∙◌, subst, slice_get}
 use Rattle.std.proofs.Common.{map}
 use Rattle.std.specs.Option.{unwrap_or}

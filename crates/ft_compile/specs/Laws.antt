@@ -58,7 +58,7 @@ CompiledObjectsAreModules = (text : List ℕ) (p : Program) (o : Object) → IsP
 abbrev pub SchedulesOfCompiledObjectsAreModules : Type 0
 SchedulesOfCompiledObjectsAreModules = (text : List ℕ) (p : Program) (o s : Object) → IsProgramOf text p → IsEmitted p o → ComesFrom o s → IsModule s.cells s
 
--- the lines of these outputs, one for each, by the names of an object's cells
+-- the lines of these outputs, one for each, with the names of an object's cells
 abbrev pub object_lines : Object → List Output → List (List ℕ)
 object_lines o xs = map (line_at o) xs
 
@@ -66,7 +66,7 @@ object_lines o xs = map (line_at o) xs
 abbrev pub LinesBegin : List (List ℕ) → List (List ℕ) → Type 0
 LinesBegin front all = (rest : List (List ℕ)) × (front ++ rest ≡ all)
 
--- if an object stands for a program, outputs have the same lines by the object's cell names as by the program's
+-- if an object stands for a program, outputs have the same lines with the object's cell names as with the program's
 abbrev pub LinesAreByTheProgramsNames : Type 0
 LinesAreByTheProgramsNames = (p : Program) (o : Object) → StandsFor p o → (xs : List Output) → object_lines o xs ≡ output_lines p.names xs
 

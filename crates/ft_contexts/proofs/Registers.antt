@@ -32,7 +32,7 @@ get_same : (m : TypedRegisters) (n : ℕ) (t : Typed) → finite.get (finite.ins
 get_same m n t = finite.get-insert nat_cmp_total m n t n ∙ ap (λ b. cond b (Some t) (finite.get m n)) (unsigned_tied n n
     ∙ eq-eqb n n refl)
 
--- what is known of register n if this was noted of it last
+-- what was noted last of register n is what is known of it
 get_known : (x : Option Typed) (m : TypedRegisters) (n : ℕ) → finite.get m n ≡ None → finite.get (with_known n x m) n
     ≡ x
 get_known None m n h = h
@@ -73,7 +73,7 @@ pub known_of : (fs : List Normal) (xs : List (Option RegForm)) (r : ℕ) → fin
     ≡ option_map (typed_in fs) (get_or xs r None)
 known_of fs xs r = get_at fs 0 xs r r (omega arith)
 
--- each register after one was noted anew
+-- what is known of each register after one entry of the array is set
 get_set : (fs : List Normal) (xs : List (Option RegForm)) (r : ℕ) (k : RegForm) (q : ℕ) → r < length xs →
     finite.get (registers_in fs 0 (set xs r (Some k))) q
     ≡ finite.get (finite.insert (registers_in fs 0 xs) r (typed_in fs k)) q

@@ -18,7 +18,7 @@ use ft_queue::StoreQueue;
 use ft_script::{Command, Register};
 use ft_types::Program;
 
-/// The number of the cell with a name, if there is one, found by linear search.
+/// The number of the cell with this name, if there is one, found by linear search.
 fn named_cell<P: Program>(program: &P, name: &[u8]) -> Option<u32>
     requires { IsSpellable (P.object program.now) }
     ensures found { result ≡ named_cell (P.object program.now) name.now }
@@ -161,7 +161,7 @@ impl<'w> Debugger<'w> {
         put_queue(self.present.machine.queue(), out)
     }
 
-    /// Shows the cell with a name.
+    /// Shows the cell with this name.
     fn answer_cell<P: Program, K: Sink>(
         &self,
         program: &P,

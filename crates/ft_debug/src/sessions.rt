@@ -43,8 +43,8 @@ fn answer_all<P: Program, K: Sink>(
 /// only before the first put.
 ///
 /// A line of the script is `step N`, `go N`, `back N`, `zap SITE V`, `reg R`, `queue`, `cell NAME`, `where` or `break B
-/// I`; N is at most 1,000,000. The present state and the last 4,096 before it are kept: only they, the commands and
-/// room for 64 breakpoints take memory. A step costs one machine step and one copy of a state.
+/// I`; N is at most 1,000,000. The session keeps the current state and the last 4,096 before it; only these, the
+/// commands and room for 64 breakpoints take memory. A step costs one machine step and one copy of a state.
 pub fn session<P: Program, K: Sink>(
     alloc: Global,
     program: &P,

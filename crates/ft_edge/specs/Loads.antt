@@ -11,7 +11,7 @@ use Rattle.ft_edge.specs.declared.shelf.LoadFault.{LoadFault}
 abbrev pub Files : Type 0
 Files = FinMap (slice_cmp nat_cmp) (List ℕ)
 
--- the file of this name is longer than the limit
+-- the file with this name is longer than the limit
 pub record IsLonger (files : Files) (name : List ℕ) (limit : ℕ) : Type 0 where
   pub bytes : List ℕ
   pub found : get files name ≡ Some bytes

@@ -34,8 +34,7 @@ impl<R: Files> Model for FolderShelf<R> {
     ghost view = { λ s. record { count = s.failures; failed_name = known_text s.failed } };
 }
 
-/// Allocates memory for `size` bytes, or for `limit` if that is less, and for one more byte, so that a read can find
-/// the end.
+/// Allocates memory for `size` bytes, or for `limit` if that is less, plus one byte, so that a read can find the end.
 fn reserve_whole(into: &mut Vec<u8>, limit: usize, size: usize) -> Result<(), LoadFault>
     ensures { into.new.items ≡ into.old.items }
 {
@@ -45,7 +44,7 @@ fn reserve_whole(into: &mut Vec<u8>, limit: usize, size: usize) -> Result<(), Lo
     }
 }
 
-/// Makes room for at most one piece after the filled part of the vector, if there is none: up to one byte past the size
+/// Makes room past the filled part of the vector, if there is none: at most one piece, at most one byte past the size
 /// if less than that is filled, and never more than one byte past the limit.
 fn make_room(into: &mut Vec<u8>, filled: usize, limit: usize, size: usize) -> Result<(), LoadFault>
     requires few { filled ≤ limit }
@@ -67,7 +66,7 @@ fn make_room(into: &mut Vec<u8>, filled: usize, limit: usize, size: usize) -> Re
     }
 }
 
-/// Reads once, into the room of the vector past its filled part.
+/// Reads once, into the vector's room past its filled part.
 fn read_more<F: Read>(
     file: &mut F,
     filled: usize,

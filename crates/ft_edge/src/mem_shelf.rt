@@ -80,7 +80,7 @@ impl MemShelf {
         Ok(())
     }
 
-    /// Counts a load of this name that failed.
+    /// Counts a failed load of this name.
     fn failure(&mut self, name: String) -> LoadFault
         ensures failure { result ≡ LoadFault.Failed }
         ensures after { self.new ≡ after_failure_at self.old (string_bytes name) }
@@ -92,7 +92,7 @@ impl MemShelf {
     }
 }
 
-/// The bytes of the newest file of a name.
+/// The bytes of the newest file with this name.
 fn find_bytes<'a>(files: &'a VecDeque<Stored>, name: &str) -> Option<&'a [u8]>
     ensures { option_map (λ x. x.now) result
         ≡ get (from_entries {R = slice_cmp nat_cmp} (map entry_of files.now.items)) name.now }
@@ -111,7 +111,7 @@ impl Shelf for MemShelf {
 
     ghost log = { λ shelf. record { files = Some shelf.files; asked = None; failures = shelf.calls.failures; failed_name = shelf.failed_name } };
 
-    /// Loads the file of a name. A name that the shelf does not hold is a failure. A load that runs out of memory is
+    /// Loads the file with this name. If the shelf has none, that is a failure. A load that runs out of memory is
     /// numbered like any other, but does not count as a failure.
     fn load(&mut self, name: &str, limit: usize, into: &mut Vec<u8>) -> Result<Load, LoadFault>
         requires { into.old.items ≡ [] }

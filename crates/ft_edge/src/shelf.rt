@@ -31,7 +31,7 @@ pub trait Shelf {
     // What the shelf records: the files, the loads made, how many of them failed, and the name of the last that did.
     ghost log: { Self → ShelfLog };
 
-    /// Loads the file of a name into an empty vector, if the file has at most `limit` bytes. After any result but
+    /// Loads the file with this name into an empty vector, if the file has at most `limit` bytes. After any result but
     /// `Whole`, the vector is empty.
     fn load(&mut self, name: &str, limit: usize, into: &mut Vec<u8>) -> Result<Load, LoadFault>
         requires { into.old.items ≡ [] }

@@ -53,7 +53,7 @@ all_of o strike w steps status taken count room le (cut is s all) other =
     record { outputs = ap (outputs_after o strike w) all; status = ap (status_after o strike w) all }
 all_of o strike w steps status taken count room le (full is s all left) other = absurd (other is)
 
--- the run of an accepted object, as far as it was taken
+-- the run of an accepted object, as far as it went
 pub runs_into : (o : Object) (strike : Option Strike) (w : List Wild) (steps status taken count : ℕ) (s : Status)
     (new : List CellOutput) → IsSpellable o → IsAccepted o → Takes o strike w steps taken s count new
     → ((count room : ℕ) → count ≤ room → taken ≤ steps → (s ≡ Running → count < room → taken ≡ steps) →

@@ -27,7 +27,7 @@ struck_cells strike k cells s t struck has a =
 -- steps from the start, with no strike within them
 module _ (o : Object) (strike : Option Strike) (w : List Wild) (s0 : State) (w0 : List Wild) (begun : s0
     ≡ start o) (answers : w0 ≡ w) where
-  -- before each of these steps
+  -- before each of these steps, the run had not stopped and the array had room
   pub might_first : (n c : ℕ) (s1 : State) (w1 : List Wild) (old mid new : List CellOutput) → length new ≡ length old →
       ((j : ℕ) → j < n → Spares strike j) → Fills o s0 w0 n s1 w1 0 c old mid → GoesUntil o strike w n (length new)
   might_first n c s1 w1 old mid new same spares a k less =
@@ -69,7 +69,7 @@ module _ (o : Object) (strike : Option Strike) (w : List Wild) (before : ℕ) (s
       ap (λ (x : Ran). x.state.status)
       (sym (run_second o strike w s1 s2 w1 before (suc m) state_is wild_is struck spares (omega arith)))
 
-  -- before each of these steps, whose outputs are in an array after those before the strike
+  -- likewise for these steps, whose outputs are in an array after those before the strike
   pub might_second : (m c1 c2 : ℕ) (s3 : State) (w3 : List Wild) (mid new : List CellOutput) → length new ≡ length mid →
       c1 ≡ length (run o strike w before).outputs → Fills o s2 w1 m s3 w3 c1 c2 mid new
       → (k : ℕ) → k < m → MayGoOn (run o strike w (before + k)).state.status

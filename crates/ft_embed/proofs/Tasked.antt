@@ -28,7 +28,7 @@ use Rattle.ft_embed.proofs.Taken.{status_on, struck_cells}
 not_at : (x : Strike) (k j : ℕ) → x.step ≤ k → k < j → x.step ≡ j → ⊥
 not_at x k j by above is = omega (arith, by, above, is)
 
--- a strike that has come does not come again
+-- a strike at step k or earlier strikes no later step
 spares_later : (strike : Option Strike) (k : ℕ) → IfSome strike (IsBy k) → (j : ℕ) → k < j → Spares strike j
 spares_later None k by j above s = refl
 spares_later (Some x) k by j above s = spared x j (not_at x k j by above) s
@@ -100,7 +100,7 @@ module _ (r : TaskRun) (s1 s2 : State) (w1 w2 : List Wild) (m count : ℕ) (old 
     stand = a.outputs;
   }
 
-  -- before each of these steps
+  -- before each of these steps, the run had not stopped and the array had room
   might : length new ≡ length old → GoesOnUntil r.object r.strike r.taken m (length new)
   might same j below =
       let x = a.before j below in

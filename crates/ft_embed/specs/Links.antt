@@ -1,4 +1,4 @@
--- What a link returns for the text of a link map and the modules in an array of the caller.
+-- What a link returns for the text of a link map and the modules in the caller's array.
 use Rattle.std.specs.Prelude.{◌≡◌, ◌⊎◌, ℕ, ◌+◌, ◌<◌, ◌≤◌, if◌then◌else◌, List, [], ◌∷◌, ◌++◌, length, Option, Some, None}
 use Rattle.std.specs.Str.{bytes_eq}
 use Rattle.ft_types.specs.declared.object.Object.{Object}

@@ -1,4 +1,4 @@
--- Outputs in an array of the caller.
+-- Outputs in the caller's array.
 use Rattle.std.specs.Prelude.{◌≡◌, ◌≢◌, ℕ, ◌+◌, ◌-◌, ◌<◌, ◌≤◌, List, ◌++◌, length, take, map, Option, None}
 use Rattle.ft_isa.specs.declared.output.Output.{Output}
 use Rattle.ft_isa.specs.declared.plan.Strike.{Strike}
@@ -88,7 +88,7 @@ pub record RunsInto (o : Object) (strike : Option Strike) (w : List Wild) (steps
 abbrev pub not_begun : Ran
 not_begun = record { steps = 0; count = 0; restarts = 0; again = 0 }
 
--- what is reported of a run that was not restarted
+-- what is reported about a run that was not restarted
 abbrev pub IsOnce : Ran → Type 0
 IsOnce ran = (ran.restarts ≡ 0) × (ran.again ≡ 0)
 

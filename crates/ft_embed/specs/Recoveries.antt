@@ -1,4 +1,4 @@
--- Recoveries whose outputs go into an array of the caller.
+-- Recoveries whose outputs go into the caller's array.
 use Rattle.std.specs.Prelude.{◌≡◌, ◌≢◌, ℕ, ◌<◌, ◌≤◌, List, length, take, map, Option, Some, None}
 use Rattle.ft_isa.specs.declared.plan.Strike.{Strike}
 use Rattle.ft_isa.specs.declared.plan.Wild.{Wild}

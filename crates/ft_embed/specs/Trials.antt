@@ -1,4 +1,4 @@
--- Campaigns whose verdicts go into an array of the caller.
+-- Campaigns whose verdicts go into the caller's array.
 use Rattle.std.specs.Prelude.{◌≡◌, ℕ, ◌*◌, ◌<◌, ◌≤◌, List, length, take, map, count_by}
 use Rattle.ft_isa.specs.declared.plan.Strike.{Strike}
 use Rattle.ft_isa.specs.declared.plan.Wild.{Wild}

@@ -1,4 +1,4 @@
-//! Assembles and disassembles into a buffer of the caller.
+//! Assembles and disassembles into the caller's buffer.
 ghost use Rattle.std.specs.Prelude.{◌≡◌, ◌≢◌, ℕ, List};
 ghost use Rattle.ft_asm.specs.Reads.{text_of};
 ghost use Rattle.ft_asm.specs.Refusals.{IsAssembly, IsRefusal};

@@ -1,4 +1,4 @@
-//! Compiles sources into a buffer of the caller.
+//! Compiles sources into the caller's buffer.
 ghost use Rattle.std.specs.Prelude.{◌≡◌, ◌≢◌, IfOk, IfErr};
 ghost use Rattle.ft_scope.specs.Outcome.{IsRefusalOf};
 ghost use Rattle.ft_syntax.specs.declared.source_error.SourceError.TheVariants as errors;

@@ -1,4 +1,4 @@
-//! Takes steps of a machine and puts their outputs into an array of the caller.
+//! Takes steps of a machine and puts their outputs into the caller's array.
 ghost use Rattle.std.specs.Prelude.{◌≡◌, ◌≤◌, ◌<◌, ◌+◌, ◌++◌, ◌∷◌, [], length, map, take};
 ghost use Rattle.std.specs.Option.{option_to_list};
 ghost use Rattle.ft_types.specs.Spellable.{IsSpellable};

@@ -1,4 +1,4 @@
-//! Writes bytes into a buffer of the caller.
+//! Writes bytes into the caller's buffer.
 ghost use Rattle.std.specs.Prelude.{◌≡◌, ◌≢◌, ◌⊎◌};
 ghost use Rattle.ft_embed.specs.Texts.{HandsOver};
 ghost use Rattle.ft_embed.specs.Verdicts.{nothing as nothing_told};

@@ -1,4 +1,4 @@
-//! The checker, the machine and the compiler, on bytes, texts and arrays of a caller.
+//! The checker, the machine and the compiler, on a caller's bytes, texts and arrays.
 //!
 //! The crate repeats the promises of lower crates in terms that C can use. A check is exact
 //! (`specs/Verdicts.antt`). The outputs of a run are those of the definition, and one fault is masked or

@@ -1,4 +1,4 @@
-//! Links modules into a buffer of the caller.
+//! Links modules into the caller's buffer.
 ghost use Rattle.std.specs.Prelude.{◌≡◌, ◌≢◌, ◌≤◌, ◌⊎◌, [], length, IfErr, IfOk, OnOk};
 ghost use Rattle.std.specs.Option.{option_map};
 ghost use Rattle.ft_types.specs.Spellable.{IsSpellable};

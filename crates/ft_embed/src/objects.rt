@@ -1,4 +1,4 @@
-//! Upgrades or schedules objects into a buffer of the caller, and writes the names of their cells.
+//! Writes upgraded objects, schedules and the names of cells into the caller's buffer.
 ghost use Rattle.std.specs.Prelude.{◌≡◌, ◌≢◌, ◌≤◌, ℕ, List, length, IfOk, IfErr};
 ghost use Rattle.ft_types.specs.Spellable.{IsSpellable};
 ghost use Rattle.ft_typing.specs.Accepted.{IsAccepted, refusal};

@@ -1,4 +1,4 @@
-//! Recovers accepted objects, with the outputs in an array of the caller.
+//! Recovers accepted objects, and puts the outputs into the caller's array.
 ghost use Rattle.std.specs.Prelude.{◌≡◌, ◌≢◌, ◌⊎◌, ℕ, List, Option, true, false};
 ghost use Rattle.ft_isa.specs.declared.plan.Strike.{Strike as Fault};
 ghost use Rattle.ft_isa.specs.declared.plan.Wild.{Wild as Answer};

@@ -1,4 +1,4 @@
-//! Runs accepted objects, with the outputs in an array of the caller.
+//! Runs accepted objects, and puts the outputs into the caller's array.
 ghost use Rattle.std.specs.Prelude.{◌≡◌, ◌≢◌, ◌⊎◌, ◌≤◌, ◌<◌, ℕ, length, IfOk, List, Option};
 ghost use Rattle.ft_isa.specs.declared.plan.Strike.{Strike as Fault};
 ghost use Rattle.ft_isa.specs.declared.plan.Wild.{Wild as Answer};

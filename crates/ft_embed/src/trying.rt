@@ -1,4 +1,4 @@
-//! Tries faults on accepted objects, with the verdicts in an array of the caller.
+//! Tries faults on accepted objects, and puts the verdicts into the caller's array.
 ghost use Rattle.std.specs.Prelude.{◌≡◌, ◌≢◌, ◌≤◌, ◌<◌, ◌⊎◌, ◌*◌, ℕ, List, length, IfOk};
 ghost use Rattle.ft_isa.specs.declared.plan.Wild.{Wild as Answer};
 ghost use Rattle.ft_types.specs.Spellable.{IsSpellable};

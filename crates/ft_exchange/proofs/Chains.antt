@@ -42,7 +42,7 @@ use Rattle.ft_exchange.proofs.Lockstep.{next_of, sides}
 
 -- WHERE RUNS MEET
 
--- a state is a meeting point if it has stopped, or is at a fixed instruction or at none
+-- a state is a meeting point if it has stopped, or is at a fixed instruction or at no instruction
 abbrev meets_by : Status → Option Instr → Bool
 meets_by Running (Some i) = is_fixed i
 meets_by Running None = true
@@ -191,7 +191,7 @@ fetched_few : (u : Option Instr) → fetched_one u ≤ 1
 fetched_few None = omega arith
 fetched_few (Some i) = omega arith
 
--- a place with at most f steps to the last instruction of its block
+-- a place with at most f steps to the end of its block
 pub record Ahead (o : Object) (t : State) (P : Place) (f : ℕ) : Type 0 where
   pub at : IsPlace o P
   pub enough : 2 * length (block_instrs o at.number) ≤ f + fetched_one t.fetched + 2 * P.index
@@ -262,7 +262,7 @@ module _ (o : Object) (spelled : IsSpellable o) (acc : IsAccepted o) where
       ahead_executed t w P f a h (e ∙ h.there) (ap is_fixed same ∙ free.free))
       fits.fetched
 
-  -- at an instruction, at least one step is ahead
+  -- from any place, at least one step is left to the end of its block
   ahead_some : (t : State) (P : Place) → Ahead o t P 0 → ⊥
   ahead_some t P a =
       let h = here o P acc a.at in

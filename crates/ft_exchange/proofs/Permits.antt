@@ -96,11 +96,11 @@ or_right_false : (a b : Bool) → not (a || b) ≡ true → b ≡ false
 or_right_false true b e = cc
 or_right_false false b e = not-true b e
 
--- an instruction that leaves a written register alone doesn't read it
+-- an instruction that leaves a register alone doesn't read it
 pub not_read : (i : Instr) (w : Option ℕ) (r : ℕ) → w ≡ Some r → leaves_alone i w ≡ true → reads i r ≡ false
 not_read i w r e h = or_left_false (reads i r) (is_register (written i) r) (subst (λ u. leaves_alone i u ≡ true) e h)
 
--- an instruction that leaves a written register alone doesn't write it
+-- an instruction that leaves a register alone doesn't write it
 pub not_written : (i : Instr) (w : Option ℕ) (q r : ℕ) → w ≡ Some r → written i ≡ Some q → leaves_alone i w ≡ true →
     (q == r) ≡ false
 not_written i w q r e f h = subst (λ u. is_register u r

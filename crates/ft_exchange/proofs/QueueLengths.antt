@@ -15,7 +15,7 @@ use Rattle.ft_typing.specs.RowTests.{known, others}
 use Rattle.ft_typing.proofs.TypingRows.{Holds, row_holds}
 use Rattle.ft_exchange.specs.Exchange.{queue_after}
 
--- the length of the static queue, as it is counted
+-- the static queues before and after an instruction have the lengths that counting stores gives
 abbrev pub Counts : Context → Instr → Context → Type 0
 Counts c i d = (is : List Instr) → queue_after (length c.queue) (i ∷ is) ≡ queue_after (length d.queue) is
 
@@ -56,7 +56,7 @@ counts o c d i h = λ is. let queue : c.queue ≡ d.queue = ap (queue_after_row 
 pub counted : (o : Object) (c d : Context) (i : Instr) → row o c i ≡ Goes d → Counts c i d
 counted o c d i e = counts o c d i (row_holds o c i (Goes d) e (λ p f. cc))
 
--- an instruction whose effect is the end of the block is fixed
+-- an instruction whose effect ends the block is fixed
 fixed_end : (o : Object) (c : Context) (i : Instr) → effect o c i ≡ Ends → is_fixed i ≡ true
 fixed_end o c (JmpB rd u) e = refl
 fixed_end o c Halt e = refl

@@ -60,7 +60,7 @@ not_both i t l = (let n : is_trailing i ≡ false = ap (λ b. not (is_fixed i) &
     and_false true = refl
     and_false false = refl
 
--- so no exchange is permitted right after another, at the next place
+-- so two exchanges at neighbouring places are not both permitted
 not_next : (o : Object) (b k l : ℕ) → IsPermitted o b k → IsPermitted o b l → l ≡ suc k → ⊥
 not_next o b k l p q e =
     let both : Some p.second ≡ Some q.first = sym p.second_there ∙ ap (slice_get (block_instrs o b)) (sym e)

@@ -1,4 +1,4 @@
--- The typing row of an instruction that writes a register, in terms of what it makes known of that register.
+-- The typing row of an instruction that writes a register, in terms of the type that it gives the register.
 use Rattle.std.proofs.Common.{◌≡◌, ℕ, zero, suc, Bool, true, false, ◌==◌, Option, Some, None, refl, sym, ap, ◌∙◌, subst}
 use Rattle.std.proofs.Common.{eq-eqb, if◌then◌else◌}
 use Rattle.std.proofs.lemmas.Bool.{or_left, or_right}
@@ -23,7 +23,7 @@ use Rattle.ft_typing.specs.RowWords.{run_form, seen_memory}
 use Rattle.ft_typing.specs.TypingRow.{row}
 use Rattle.ft_isa.specs.Instructions.{written, reads}
 
--- what each kind of instruction makes known of the register that it writes, from what is known of those that it reads
+-- the type that each kind of instruction gives the register that it writes, from the types of those that it reads
 of_op_reg : Op → Option Typed → Option Typed → Option Typed
 of_op_reg op (Some s) (Some t) = if same_colour t.colour s.colour
     then Some (record { colour = s.colour; basic = int; form = norm_op op s.form t.form }) else None
@@ -52,7 +52,7 @@ of_idx first m b None = None
 of_idx first m None (Some s) = None
 of_idx first m (Some b) (Some s) = Some (record { colour = s.colour; basic = ref b; form = run_form first m s.form })
 
--- what an instruction that writes a register makes known of it, if its row continues
+-- the type that an instruction gives the register that it writes, if its row continues
 pub gives : Object → Context → Instr → Option Typed
 gives o c (OpReg op rd rs rt) = of_op_reg op (typed c rs.number) (typed c rt.number)
 gives o c (OpWord op rd rs value) = of_op_word op value (typed c rs.number)
@@ -71,7 +71,7 @@ pub record Gave (r : ℕ) (c : Context) (u : Option Typed) (x : Outcome) : Type 
   pub failing : Premise
   pub row_is : x ≡ write_row r c u failing
 
--- a write that a test decides
+-- a write whose row continues only if a test passes
 gave_if : (r : ℕ) (c : Context) (p : Premise) (t : Typed) (b : Bool) →
     Gave r c (if b then Some t else None) (if b then Goes (with_type r t c) else Fails p)
 unfolding write_row
@@ -181,7 +181,7 @@ gives_same o c d (Idx rd rs first n) h m = ap (of_idx first n (run_type o first 
     (h rs.number (eq-eqb rs.number rs.number refl))
 gives_same o c d i h m = refl
 
--- of the object, it depends only on the types of runs and of the words that are moved
+-- it depends on the object only through the types of runs and of the words that are moved
 pub gives_there : (o x : Object) (c : Context) (i : Instr) →
     ((first m : ℕ) → run_type x first m ≡ run_type o first m) →
     ((rd : Reg) (v : Coloured) (y : Basic) → i ≡ Mov rd v y → has_type x v.word y ≡ has_type o v.word y) → gives x c i

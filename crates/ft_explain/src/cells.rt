@@ -63,7 +63,7 @@ fn say_unlike_cell<P: Program, Q: Program>(
     requires there { IsSpellable (Q.object first.now) }
 {
     if let Some(k) = unlike_cell(program, first) {
-        return page.say(format_args!("  cell {k} has another name, type or initial word\n"));
+        return page.say(format_args!("  cell {k} has a different name, type or initial word\n"));
     }
     let count = program.counts().cells;
     let wanted = first.counts().cells;

@@ -55,7 +55,7 @@ fn say_counters(page: &mut Page, machine: &Machine) -> Result<(), NoMemory> {
             "both program counters are {green}, where there is no instruction"
         ));
     }
-    page.say(format_args!("the green program counter is {green}, the blue one is {blue}"))
+    page.say(format_args!("the green program counter is {green}, but the blue one is {blue}"))
 }
 
 /// Says why a blue store detected a fault.

@@ -8,7 +8,7 @@ use ft_edge::{Failed, Sink};
 use ft_text::{Line, ROOM};
 
 /// A sink that passes each piece on to another sink and remembers the last piece if it has at most `ROOM` bytes, as the
-/// line of a refusal has. A put allocates no memory.
+/// line of a refusal does. A put allocates no memory.
 #[derive(Drop)]
 pub struct LastLine<K: Sink> {
     sink: K,

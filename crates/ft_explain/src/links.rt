@@ -157,7 +157,7 @@ fn line_words(number: u64, line: &[u8]) -> &'static str {
         2 if line.starts_with(b"import ") => "this block is exported or imported already",
         2 => "this name is exported already, or this block is imported already",
         7 => "the module has no such block",
-        8 => "the imported block is not a stub: a stub is the one instruction `halt`",
+        8 => "the imported block is not a stub: a stub is a single `halt`",
         9 => "no line exports this name",
         _ => "the imported block and the exported one do not have the same code type",
     }
@@ -179,11 +179,11 @@ fn module_words(number: u64, module: u64) -> &'static str {
 fn code_words(instr: Instr) -> &'static str {
     match instr {
         Instr::JmpG { .. } =>
-            "no `mov` of this block gives its target register the address of a block",
+            "its target register does not hold a block address from a `mov` in this block",
         Instr::BzG { .. } =>
-            "no `mov` of this block gives its target register the address of a block, or it tests such an address",
+            "its target register does not hold a block address from a `mov` in this block, or it tests such an address",
         Instr::JmpB { .. } | Instr::BzB { .. } =>
-            "no `mov` of this block gives its target register the address of a block, or it passes such an address on",
+            "its target register does not hold a block address from a `mov` in this block, or it passes such an address on",
         _ => "it reads the address of a block, but is not a jump or branch to it",
     }
 }

@@ -1,4 +1,4 @@
-//! Finds the modules because of which a link is refused, and explains why.
+//! Finds the modules that cause a link to be refused, and explains why.
 ghost use Rattle.std.specs.Prelude.{◌≡◌, ◌<◌};
 ghost use Rattle.ft_types.specs.Spellable.{IsSpellable};
 

@@ -33,7 +33,7 @@ fn states(instr: Instr) -> &'static str {
     match instr {
         Instr::JmpB { .. } => "no `jmp_G` is pending",
         Instr::BzB { .. } => "no `bz_G` is pending",
-        Instr::Halt => "a green jump or branch waits for its blue one",
+        Instr::Halt => "a green jump or branch is still waiting for its blue one",
         _ => "another green jump or branch waits for its blue one",
     }
 }
@@ -49,7 +49,7 @@ fn ends(instr: Instr) -> &'static str {
 /// What is wrong with the pending stores.
 fn queues(instr: Instr) -> &'static str {
     match instr {
-        Instr::Halt => "a green store waits for its blue one",
+        Instr::Halt => "a green store is still waiting for its blue one",
         _ => "the pending stores are not those that the target's code type expects",
     }
 }
@@ -63,7 +63,7 @@ pub(crate) fn premise(number: u64, instr: Instr) -> &'static str {
         4 => "its address register does not hold the address of a cell (`ref`)",
         5 => "its target register does not hold the address of a block (`code`)",
         6 => states(instr),
-        7 => "eight stores are pending already",
+        7 => "eight stores are already pending",
         8 => "no green store is pending",
         9 => "its address is not known to be that of the oldest pending store",
         10 => "its value is not known to be that of the oldest pending store",
@@ -74,6 +74,6 @@ pub(crate) fn premise(number: u64, instr: Instr) -> &'static str {
         15 => "the memory is not known to be what the target's code type expects",
         16 => "its substitution does not fit the integer variables of the target or of this block",
         17 => ends(instr),
-        _ => "the cells of its run do not all have the same type, or that type has 8 `ref`",
+        _ => "the cells of its run do not all have the same type, or that type has 8 `ref`s",
     }
 }

@@ -159,7 +159,7 @@ const TABLES: &[(&str, &str)] = &[
     ),
     (
         "node 0 word 1\ntype 0 0\nblock 0\nhalt\nentry 0\n",
-        "file:2:8: error: invalid `0`: this node is an integer, and a memory is needed here\n type 0 0\n        ^\n",
+        "file:2:8: error: invalid `0`: this node is an integer, but a memory is needed here\n type 0 0\n        ^\n",
     ),
     (
         "cell out int 0\ncell out int 1\nnode 0 memory\ntype 0 0\nblock 0\nhalt\nentry 0\n",
@@ -175,7 +175,7 @@ const TABLES: &[(&str, &str)] = &[
     ),
     (
         "node 0 memory\ntype 0 0\nreg r1 G int 0\nblock 0\nhalt\nentry 0\n",
-        "file:3:14: error: invalid `0`: this node is a memory, and an integer is needed here\n reg r1 G int 0\n              ^\n",
+        "file:3:14: error: invalid `0`: this node is a memory, but an integer is needed here\n reg r1 G int 0\n              ^\n",
     ),
     (
         "node 0 memory\nnode 0 word 1\ntype 0 0\nreg r2 G int 1\nreg r1 G int 1\nblock 0\nhalt\nentry 0\n",

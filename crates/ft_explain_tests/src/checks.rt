@@ -33,7 +33,7 @@ const REFUSED: &[Refused] = &[
     (
         N,
         &[],
-        "file: error: block 0, instruction 10: eight stores are pending already (premise 7)\n  st_G r0 r1\n  r0: G ref:int\n  r1: G int\n",
+        "file: error: block 0, instruction 10: eight stores are already pending (premise 7)\n  st_G r0 r1\n  r0: G ref:int\n  r1: G int\n",
     ),
     (
         P8,

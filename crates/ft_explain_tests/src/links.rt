@@ -62,7 +62,7 @@ const MAPS: &[(&str, &str, &str)] = &[
     (
         MAP,
         "link 8 2\n",
-        "map:2:1: error: the imported block is not a stub: a stub is the one instruction `halt`\n import go 1\n ^~~~~~~~~~~\n",
+        "map:2:1: error: the imported block is not a stub: a stub is a single `halt`\n import go 1\n ^~~~~~~~~~~\n",
     ),
     (
         MAP,
@@ -158,7 +158,7 @@ fn modules_are_found_and_what_could_be_meant(rt: HostRuntime) -> Result<(), Fail
         "map:3:1: error: the module has no such block\n export go 3\n ^~~~~~~~~~~\n  blocks of m: 0 to 0\n";
     check_told(&rt, "link map", 13, "link 7 3\n", files, text)?;
     let text =
-        "map:3:1: error: the imported block is not a stub: a stub is the one instruction `halt`\n export go 3\n ^~~~~~~~~~~\n  stubs of m: none\n";
+        "map:3:1: error: the imported block is not a stub: a stub is a single `halt`\n export go 3\n ^~~~~~~~~~~\n  stubs of m: none\n";
     check_told(&rt, "link map", 13, "link 8 3\n", files, text)?;
     let files: &[(&str, &[u8])] = &[("map", map.as_bytes()), ("a", A), ("m", b"halt\n")];
     let text =

@@ -33,7 +33,7 @@ const WORDS: &[(&str, &str)] = &[
     ),
     (
         "run file --fault 4:pcg:9",
-        "file: detected at step 4: the green program counter is 9, the blue one is 3\n",
+        "file: detected at step 4: the green program counter is 9, but the blue one is 3\n",
     ),
 ];
 

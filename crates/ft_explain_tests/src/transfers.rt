@@ -43,7 +43,7 @@ const REFUSED: &[Refused] = &[
     (
         P14,
         &[],
-        "file: error: block 0, instruction 6: a green store waits for its blue one (premise 14)\n  halt\n",
+        "file: error: block 0, instruction 6: a green store is still waiting for its blue one (premise 14)\n  halt\n",
     ),
     (
         P15,

@@ -1,4 +1,4 @@
--- A loop over records: whatever the remaining records give, all of them give.
+-- A loop over records: at each iteration, the result for the remaining records is the result for all of them.
 use Rattle.std.proofs.Common.{◌≡◌, ℕ, suc, List, [], ◌∷◌, ◌++◌, ◌+◌, ◌*◌, take, drop, Option, None, Some, sym, ap, ◌∙◌}
 use Rattle.std.proofs.Common.{append_assoc, arith}
 use Rattle.std.specs.Int.{Width}

@@ -62,7 +62,7 @@ pub(crate) fn read_u64(bytes: &[u8]) -> (u64, &[u8])
     (number, rest)
 }
 
-/// Appends bytes. Always inlined, since each call knows how many bytes there are.
+/// Appends bytes. Always inlined, since each caller knows how many bytes there are.
 #[inline(always)]
 pub fn put(out: &mut Vec<u8>, bytes: &[u8]) -> Result<(), NoMemory>
     ensures { OnOk result (Puts out.old.items out.new.items (bytes.now)) }

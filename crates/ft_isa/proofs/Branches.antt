@@ -1,4 +1,4 @@
--- What follows from the result of a test, of a map over an option, or of a choice by words.
+-- What follows from the result of a test, of a map over an option, or of a match on words.
 use Rattle.std.proofs.Common.{◌≡◌, ℕ, Bool, true, false, List, Option, Some, None, eqb, ◌⊎◌, refl, sym, subst, inl, inr}
 use Rattle.std.proofs.Common.{if◌then◌else◌}
 use Rattle.std.specs.Option.{option_map}
@@ -38,7 +38,7 @@ of_letter {A} P b c made after o here other e =
 pub same_word : (w v : List ℕ) → bytes_eq w v ≡ true → w ≡ v
 same_word w v e = (bytes_eq-Decides w v).0 e
 
--- the result of a choice by words comes from this word or from a later one
+-- the result of a match on words comes from this word or from a later one
 pub chosen : {A : Type 0} (P : List ℕ → A → Type 0) (v w : List ℕ) (x y : Option A) → ((a : A) → x ≡ Some a → P v a) →
     ((a : A) → y ≡ Some a → P w a) → (a : A) → (if bytes_eq w v then x else y) ≡ Some a → P w a
 chosen P v w x y h i a e = elim (of_branch (bytes_eq w v) x y a e) [

@@ -143,7 +143,7 @@ passed_text_push (first ∷ done) answer =
     ap (λ ds. answer_text first ++ codes "," ++ ds) (passed_text_push done answer)
     ∙ sym (append_assoc (answer_text first ++ codes ",") (passed_text done) (answer_text answer ++ codes ","))
 
--- a comma before each answer is one in front, and one after each answer but the last
+-- with a comma before each answer, there is one in front and one after each answer but the last
 more_answers_push : (done : List Wild) (answer : Wild) → more_answers_text (done ++ answer ∷ []) ≡ codes ","
     ++ (passed_text done ++ answer_text answer)
 more_answers_push [] answer = append-nil (codes "," ++ answer_text answer)

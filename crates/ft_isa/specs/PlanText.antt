@@ -55,7 +55,7 @@ abbrev pub answer_text : Wild → List ℕ
 answer_text (Word word) = decimal word
 answer_text Stop = codes "stop"
 
--- wild answers, each after a comma
+-- wild answers, each preceded by a comma
 abbrev pub more_answers_text : List Wild → List ℕ
 more_answers_text [] = []
 more_answers_text (answer ∷ answers) = codes "," ++ answer_text answer ++ more_answers_text answers

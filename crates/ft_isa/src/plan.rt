@@ -27,7 +27,7 @@ pub struct Strike {
     pub value: u64,
 }
 
-/// The answer to a wild load, a load at an address that has no cell.
+/// The answer to a wild load, a load from an address that has no cell.
 #[derive(Clone, Copy, Debug, PartialEq, Eq)]
 pub enum Wild {
     /// The load gives this word.

@@ -4,7 +4,7 @@ use Rattle.std.specs.Ordering.{nat_cmp, ordering_then, is_eq}
 use Rattle.std.specs.declared.cmp.Ordering.{Ordering}
 use Rattle.std.specs.declared.cmp.Ordering.TheVariants.{Less, Equal, Greater}
 
--- a condition whose first branch is `true` is a disjunction
+-- a conditional whose first branch is `true` is a disjunction
 pub cond_is_or : (b x : Bool) → cond b true x ≡ (b || x)
 cond_is_or true x = refl
 cond_is_or false x = refl

@@ -31,7 +31,7 @@ other_names : (asks : List Ask) (a : Ask) → has_name asks a.name ≡ false →
 other_names asks a h = λ k d lt e. true≢false (sym ((bytes_eq-Decides _ _).1 e)
     ∙ none_passes (λ (x : Ask). bytes_eq x.name a.name) asks h k d lt)
 
--- if none names this block, each names a different one
+-- if no export or import names this block, each names a different one
 other_blocks : (asks : List Ask) (a : Ask) → has_block asks a.module a.block ≡ false →
     All (λ (x : Ask). NameTwoBlocks x a) asks
 other_blocks asks a h = λ k d lt e. true≢false (sym (and_from _ _ (eq-eqb _ _ e.same_module) (eq-eqb _ _ e.same_block))

@@ -32,7 +32,7 @@ abbrev pub begins_name : List ℕ → Bool
 begins_name [] = false
 begins_name (byte ∷ bytes) = is_letter byte && list_all is_word_byte bytes
 
--- a name: at most 32 such bytes
+-- a name: such a text of at most 32 bytes
 abbrev pub is_block_name : List ℕ → Bool
 is_block_name name = begins_name name && nat_le (length name) 32
 

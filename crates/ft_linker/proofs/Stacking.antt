@@ -42,7 +42,7 @@ all_next modules m o k old new e f g h = record {
   substs = laid_next _ modules m o k old.substs.items new.substs.items e f g.substs h.substs;
 }
 
--- the rows of a kind up to and including a module are at most those of all modules
+-- up to and including a module, there are at most as many rows of a kind as in all modules
 pub before_low : (offset : Before → ℕ) (size : Object → ℕ) →
     ((k : Before) (o : Object) → offset (after_module k o) ≡ offset k + size o) →
     (k : Before) (modules : List Object) (m : ℕ) (o : Object) → slice_get modules m ≡ Some o →

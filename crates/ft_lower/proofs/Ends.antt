@@ -9,8 +9,8 @@ use Rattle.ft_lower.specs.Flow.{Blocks, Place, FlowState, first, goes_to, with_p
 use Rattle.ft_lower.proofs.Runs.{Reaches, reach_trans}
 use Rattle.ft_lower.proofs.Expressions.{Like, put_first, reach_act}
 
--- the flow reaches place p in a state like the program's, in at most twice the work minus c steps, and in at least as
--- many steps as turns were taken
+-- the flow reaches place p in a state like the program's; it takes at least as many steps as the program takes turns,
+-- and at most 2w - c steps, where w is the work done
 pub record EndsAt (bs : Blocks) (n c : ℕ) (p : Place) (s : State) (f : FlowState) (t : State) : Type 0 where
   pub end : FlowState
   pub taken : ℕ

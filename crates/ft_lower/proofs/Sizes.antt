@@ -16,7 +16,7 @@ use Rattle.ft_lower.specs.Well.{is_last}
 use Rattle.ft_lower.specs.Lowered.{read, expression_steps, write, block_count, statement_steps, zeros, program_steps}
 use Rattle.ft_lower.specs.Lowered.{blocks_onto, lowered}
 
--- two rows become as many instructions as both become by themselves
+-- two rows become as many instructions together as separately
 pub row_size-append : (a b : List Step3) → row_size (a ++ b) ≡ row_size a + row_size b
 row_size-append [] b = omega arith
 row_size-append (i ∷ a) b = omega (arith, row_size-append a b)

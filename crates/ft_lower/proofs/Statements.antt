@@ -129,7 +129,7 @@ module _ (bs : Blocks) (n m : ℕ) where
   work_of (Cell c) v e s = omega arith
   work_of (Run c k) v e s = omega arith
 
-  -- an assignment takes at least as many steps as turns
+  -- an assignment takes at least as many steps as it uses turns
   left_of : (to : Slot) (v : ℕ) (e : Expression Slot) (s : State) →
       s.left ≤ (assigned to v (evaluated e s)).left + (expression_nodes e + 1)
   left_of (Var x) v e s = omega arith

@@ -1,4 +1,4 @@
--- The rows of the table of steps, as a bank's methods choose between them.
+-- How a bank's methods choose between the rows of the table of steps.
 use Rattle.std.proofs.Common.{◌≡◌, ℕ, Bool, true, false, ◌&&◌, List, [], ◌∷◌, length, drop, ◌++◌, Option, Some, None}
 use Rattle.std.proofs.Common.{ap, sym, ◌∙◌, refl, nat_lt}
 use Rattle.std.specs.Prelude.{if◌then◌else◌, ◌==◌}

@@ -31,7 +31,7 @@ further : (n before most : ℕ) → n ≤ before → before ≤ most → n ≤ m
 further n before most few le = omega (arith, few, le)
 
 module _ {T : Type 0} (outlet : Ghosts T) (o : Object) (strike : Option Strike) (w : List Wild) where
-  -- a run up to its strike, which it may not reach
+  -- a run up to its strike, or to its end if that comes first
   module _ (s0 s' : State) (w0 w' : List Wild) (t t' : T) (before n : ℕ) (pause : Pause) (begun : s0
       ≡ start o) (answers : w0 ≡ w) (spares : (j : ℕ) → j < before → Spares strike j)
       (few : n ≤ before) (a : Goes outlet o s0 w0 t s' w' t' n pause) where

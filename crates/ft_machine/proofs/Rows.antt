@@ -1,4 +1,4 @@
--- The rows of the table of steps, as the code chooses between them.
+-- How the code chooses between the rows of the table of steps.
 use Rattle.std.proofs.Common.{◌≡◌, ◌≢◌, ℕ, ◌≤◌, Bool, true, false, ◌&&◌, List, length, None, ap, sym, subst, ◌∙◌, refl}
 use Rattle.std.proofs.Common.{nat_lt}
 use Rattle.std.specs.Prelude.{if◌then◌else◌, ◌==◌}

@@ -117,7 +117,7 @@ impl Bank {
         self.write(rd, Coloured { colour, word })
     }
 
-    /// Writes the address of the cell of a run that a register selects, in the colour of that register.
+    /// Writes the address of the cell that a register selects in a run of cells, in the colour of that register.
     #[inline(always)]
     fn index(&mut self, rd: Reg, rs: Reg, first: u32, length: u32) -> Effect
         requires { 0 < length }
@@ -283,7 +283,8 @@ impl Bank {
 }
 
 /// The result of an operation on two words. Shifts are separate functions because their machine code needs a processor
-/// register that the loop over instructions uses. Naming each operation lets its code branch only once.
+/// register that the loop over instructions uses. Each arm names its operation, so that the compiled code branches only
+/// once.
 #[inline(always)]
 fn applied(op: Op, a: u64, b: u64) -> u64
     ensures { result ≡ apply op a b }
@@ -318,8 +319,8 @@ fn shifted_right(a: u64, b: u64) -> u64
     apply(Op::Shr, a, b)
 }
 
-/// The address of the cell of a run that a word selects. It is a separate function, like the shifts, because a division
-/// needs two processor registers.
+/// The address of the cell that a word selects in a run of cells. It is a separate function, like the shifts, because a
+/// division needs two processor registers.
 #[inline(never)]
 fn cell_in_run(first: u32, length: u32, word: u64) -> u64
     requires { 0 < length }

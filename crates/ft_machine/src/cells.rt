@@ -69,7 +69,7 @@ impl Cells {
         requires { IsTrue (is_cell self.old addr) }
         ensures { self.new ≡ with_cell self.old addr word }
     {
-        // The length of a vector is bounded, so the address of each cell fits.
+        // Reading the length tells the prover that it is bounded, so each cell's address fits in a word.
         let _count = self.words.len();
         let k = (addr - FIRST_CELL) as usize;
         self.words[k] = word;

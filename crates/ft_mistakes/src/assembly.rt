@@ -42,7 +42,7 @@ fn say_operand(
     say_rule(page, operand)
 }
 
-/// Says what to write instead of a name or register where a number is expected, or of a name where a register is.
+/// Says what to write if a name or register was given where a number is expected, or a name where a register is.
 fn say_instead(page: &mut Page, operand: Operand<'_>, text: &[u8]) -> Result<(), NoMemory> {
     let is_word = operand.form == "W";
     if is_word && is_register(operand.text) {

@@ -9,7 +9,7 @@ pub(crate) const COMMANDS: &[&str] = &[
 compile a source and write its object
 talft compile fibonacci.src >fibonacci.obj",
     "check OBJECT
-tell whether the typing rules accept an object
+report whether the typing rules accept an object
 talft check five.obj",
     "run OBJECT [--steps N] [--fault STEP:SITE:WORD] [--wild LIST]
 check an object and run it, with a fault or without
@@ -27,7 +27,7 @@ talft trial five.obj --steps 100",
 check an object and try each fault of a list on it
 talft campaign five.obj --faults five.faults",
     "survey OBJECT --faults FILE [--steps N] [--wild LIST]
-try each fault of a list on an object that need not be accepted
+try each fault of a list on an object without checking it
 talft survey mixed.obj --faults mixed.faults",
     "mean SOURCE [--turns N]
 write the output that a source specifies
@@ -48,7 +48,7 @@ talft asm five.asm >five.obj",
 write the assembly text of an object
 talft dis five.obj",
     "schedule OBJECT
-write the schedule of an object that is accepted
+check an object and write its schedule
 talft schedule five.obj >scheduled.obj",
     "link MAP
 link the modules of a link map and write the object

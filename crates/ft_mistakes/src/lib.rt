@@ -1,8 +1,8 @@
 //! Explains, for people, what is wrong with the words of a call, with a text, or with an object's bytes.
 //!
 //! Each explanation is written to a `Page`: the place in the file, the line there, what is wrong with it and
-//! what is expected. The crate runs nothing and checks no types; `ft_explain` does, and stands on this crate.
-//! It promises nothing about texts. Each call is safe and ends.
+//! what is expected. The crate runs nothing and checks no types; `ft_explain` does, and builds on this crate.
+//! It promises nothing about the wording. Each call is safe and terminates.
 #![tactic(auto)]
 
 mod assembly;

@@ -164,9 +164,9 @@ fn kind_words(breach: &Breach<'_>) -> &'static str {
     if breach.is_basic() {
         "a basic type has at most 8 `ref:`"
     } else if breach.is_memory() {
-        "this node is an integer, and a memory is needed here"
+        "this node is an integer, but a memory is needed here"
     } else {
-        "this node is a memory, and an integer is needed here"
+        "this node is a memory, but an integer is needed here"
     }
 }
 

@@ -47,13 +47,13 @@ use Rattle.ft_modules.proofs.SentOn.{like_through}
 
 -- ENTRY TYPES
 
--- register rows that agree with no rows are none
+-- a list of register rows that agrees with an empty list is empty
 no_rows : (o x : Object) (rs qs : List RegType) → rs ≡ [] → AllZip (SameRow o x) rs qs → qs ≡ []
 no_rows o x [] [] e l = refl
 no_rows o x [] (q ∷ qs) e l = absurd l
 no_rows o x (r ∷ rs) qs e l = cc
 
--- queue rows that agree with no rows are none
+-- a list of queue rows that agrees with an empty list is empty
 no_pairs : (o x : Object) (rs qs : List (ℕ × ℕ)) → rs ≡ [] → AllZip (SamePair o x) rs qs → qs ≡ []
 no_pairs o x [] [] e l = refl
 no_pairs o x [] (q ∷ qs) e l = absurd l
@@ -71,7 +71,7 @@ variable_shape : (x : Object) (y : Shape) → is_memory y ≡ true → memory_pa
 variable_shape x shape.Memory m e = refl
 variable_shape x y m e = cc
 
--- a code type that agrees with an entry type is one
+-- a code type that agrees with an entry type is an entry type
 entry_like : (o x : Object) (t u : ℕ) (y : CodeType) → IsSpellable o → IsSpellable x → LikeTypes o t x u →
     slice_get x.types u ≡ Some y → IsEntryType o t → IsEntryType x u
 entry_like o x t u y so sx l there e =

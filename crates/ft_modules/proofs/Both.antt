@@ -8,7 +8,7 @@ use Rattle.ft_typing.specs.Context.{Typed, FormPair, Context}
 use Rattle.ft_typing.specs.RowWords.{Outcome, Goes, Ends, Fails, need, for_typed, for_ref_over, for_code_over}
 use Rattle.ft_typing.specs.RowWords.{for_oldest}
 
--- both rules lead on, to contexts that R relates; or both end the block; or the first fails
+-- both rules continue, with contexts that R relates; or both end the block; or the first fails
 unfoldable pub Both : (Context → Context → Type 0) → Outcome → Outcome → Type 0
 Both R (Goes c) (Goes d) = R c d
 Both R (Goes c) Ends = ⊥
@@ -18,7 +18,7 @@ Both R Ends Ends = Unit {0}
 Both R Ends (Fails p) = ⊥
 Both R (Fails p) x = Unit {0}
 
--- both rules lead on to contexts that R relates
+-- both rules continue, with contexts that R relates
 pub both_goes : (R : Context → Context → Type 0) (c d : Context) → R c d → Both R (Goes c) (Goes d)
 unfolding Both
 both_goes R c d h = h

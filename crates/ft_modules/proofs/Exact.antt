@@ -42,7 +42,7 @@ unless_true false r e = cc
 true_unless : (b : Bool) (r : LinkRefusal) → b ≡ true → unless b r ≡ None
 true_unless b r e = ap (λ z. unless z r) e
 
--- if a search finds nothing, each element fails the test: by cases of the first one, given this for the rest
+-- if a search finds nothing, each element fails the test: by cases on the first one, given this for the rest
 pub none_first : {X : Type 0} (b : Bool) (p : X → Bool) (y : X) (ys : List X) (n : ℕ) (x : X) → p y ≡ b →
     cond b (Some y) (find p ys) ≡ None → slice_get (y ∷ ys) n ≡ Some x →
     (find p ys ≡ None → (m : ℕ) (z : X) → slice_get ys m ≡ Some z → p z ≡ false) → p x ≡ false
@@ -211,7 +211,7 @@ exported_by : (modules : List Object) (exports : List Ask) (i : Ask) (u : Option
 exported_by modules exports i None g e = cc
 exported_by modules exports i (Some a) g e = record { ask = a; found = g; like = unless_true _ _ e }
 
--- by the image of the first element
+-- an element of a filtered list is the image of an element: by cases on the image of the first, given this for the rest
 filter_first : {X Y : Type 0} (f : X → Option Y) (x : X) (xs : List X) (n : ℕ) (y : Y) (u : Option Y) → f x ≡ u →
     slice_get (cons_option u (filter_map f xs)) n ≡ Some y →
     ((m : ℕ) (z : Y) → slice_get (filter_map f xs) m ≡ Some z → (k : ℕ) × (w : X) × (slice_get xs k ≡ Some w)

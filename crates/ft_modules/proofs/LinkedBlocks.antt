@@ -91,13 +91,13 @@ both_ends R Ends Ends h e = refl
 both_ends R Ends (Fails p) h e = absurd h
 both_ends R (Fails p) z h e = cc
 
--- the second rule leads on, to a context that R relates to the first
+-- the second rule continues, with a context that R relates to the first
 pub record GoesBeside (R : Context → Context → Type 0) (c : Context) (z : Outcome) : Type 0 where
   pub context : Context
   pub goes : z ≡ Goes context
   pub beside : R c context
 
--- it does if the first rule leads on
+-- it does if the first rule continues
 pub both_go : (R : Context → Context → Type 0) (y z : Outcome) (c : Context) → Both R y z → y ≡ Goes c →
     GoesBeside R c z
 unfolding Both
@@ -113,7 +113,7 @@ pub record Walked (o : Object) (e : Entered) (k : ℕ) (i : Instr) (is : List In
   pub first : is_traced o e i ≡ true
   pub rest : code_walk o (entered_after i e) (suc k) is ≡ None
 
--- a walk that does not fail does both, by the test of the instruction
+-- a walk that does not fail passes both: by the result of the test of the instruction
 walked_by : (o : Object) (e : Entered) (k : ℕ) (i : Instr) (is : List Instr) (b : Bool) → is_traced o e i ≡ b →
     (if b then code_walk o (entered_after i e) (suc k) is else Some k) ≡ None → Walked o e k i is
 walked_by o e k i is true f h = record { first = f; rest = h }

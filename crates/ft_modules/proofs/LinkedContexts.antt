@@ -1,5 +1,5 @@
 -- A module's contexts correspond to those of the linked object: they are equal except for entered registers and the
--- state of d, in which the code address and its code type are what the module's address is sent to.
+-- state of d, where the linked object has the code address that the module's is sent to, and its code type.
 use Rattle.std.proofs.Common.{◌≡◌, ℕ, Bool, true, false, cond, not, length, nat_le, ◌==◌, Option, Some, None, is_some}
 use Rattle.std.proofs.Common.{refl, subst}
 use Rattle.std.specs.List.{list_all}
@@ -43,7 +43,7 @@ pub record AreSent (o x : Object) (to : ℕ → ℕ × ℕ) : Type 0 where
   pub cells : x.cells ≡ o.cells
   pub sends : (w t : ℕ) → code_type_at o w ≡ Some t → Sends o x to w t
 
--- two substitutions that do the same
+-- two substitutions with the same effect
 pub record SameSubst (o x : Object) (u q : Subst) : Type 0 where
   pub forms : replacement o u ≡ replacement x q
   pub count : length (rows_of o u) ≡ length (rows_of x q)
@@ -126,13 +126,13 @@ pub record Target (o : Object) (to : ℕ → ℕ × ℕ) (e : Entered) (c b : Co
   pub entered : finite.get e r.number ≡ Some code_type
   pub is : IsEntered o to code_type (typed c r.number) (typed b r.number)
 
--- a register is one, by the code type with which it is entered
+-- an entered register is a target register: by the code type with which it is entered
 target_by : (o : Object) (to : ℕ → ℕ × ℕ) (e : Entered) (c b : Context) (r : Reg) (u : Option ℕ) → finite.get e r.number
     ≡ u → RegistersBeside o to u (typed c r.number) (typed b r.number) → is_some u ≡ true → Target o to e c b r
 target_by o to e c b r None g h t = cc
 target_by o to e c b r (Some u) g h t = record { code_type = u; entered = g; is = h }
 
--- a register is one if the walk takes it as a target
+-- a register that the walk takes as a target is a target register
 pub target_there : (o : Object) (to : ℕ → ℕ × ℕ) (e : Entered) (c b : Context) (r : Reg) → Beside o to e c b →
     is_entered e r ≡ true → Target o to e c b r
 target_there o to e c b r h t = target_by o to e c b r (finite.get e r.number) refl (h.registers r.number) t
@@ -148,7 +148,7 @@ pub record FreeTarget (o : Object) (to : ℕ → ℕ × ℕ) (e : Entered) (c b 
   pub free : are_free e (reg_rows o code_type) ≡ true
   pub is : IsEntered o to code_type (typed c r.number) (typed b r.number)
 
--- the target of a blue jump that the walk passes is one
+-- a blue jump that the walk passes has such a target
 pub free_target_there : (o : Object) (to : ℕ → ℕ × ℕ) (e : Entered) (c b : Context) (r : Reg) → Beside o to e c b →
     is_free_target o e (finite.get e r.number) ≡ true → FreeTarget o to e c b r
 free_target_there o to e c b r h t =

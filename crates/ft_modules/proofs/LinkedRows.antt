@@ -62,7 +62,7 @@ memory_after_same : (o x : Object) (p : Replacement) (n m : ℕ) → SameMemory 
 unfolding memory_form_after
 memory_after_same o x p n m h = ap (λ (e : Memory). norm_memory_under e p.integers p.memory) h
 
--- a register is as one row requires exactly if it is as a row that agrees requires
+-- a register meets the requirements of a row exactly if it meets those of a row that agrees with it
 like_row : (o x : Object) (p : Replacement) (y : Option Typed) (r q : RegType) → SameRow o x r q → is_like o p y r
     ≡ is_like x p y q
 unfolding is_like
@@ -104,7 +104,7 @@ queue_same o x p (e ∷ es) (r ∷ rs) (q ∷ qs) l =
     λ i. same_polynomial e.0 (after_same o x p r.0 q.0 a.address i)
     && same_polynomial e.1 (after_same o x p r.1 q.1 a.value i) && queue_same o x p es rs qs l.1 i
 
--- substitutions that do the same fit code types that agree
+-- of substitutions with the same effect, both or neither fit code types that agree
 annotated_same : (o x : Object) (n : ℕ) (u q : Subst) (t k : ℕ) → SameSubst o x u q → ints_of o t ≡ ints_of x k →
     is_annotated o n u t ≡ is_annotated x n q k
 unfolding is_annotated

@@ -55,7 +55,7 @@ pub typed_moves : (o : Object) (c : Context) (is : List Instr) (n : ℕ) (i : In
     ≡ Some i → (rd : Reg) (v : Coloured) (b : Basic) → i ≡ Mov rd v b → HasType o v.word b
 typed_moves o c is n i a e rd v b f = moves_typed o c is n rd v b a (e ∙ ap Some f)
 
--- the substitution of an instruction, after a first one or none
+-- the substitution of a later instruction obeys the rules, whether or not the first instruction carries one
 covered_by : (nodes : List Node) (rows first n : ℕ) (i j : Instr) (is : List Instr) (u : Subst) →
     ((f : ℕ) → Cover nodes rows f (substs_of is) → slice_get is n ≡ Some i → IsSubst nodes rows u.first u) →
     (s : Option Subst) → Cover nodes rows first (before s (substs_of is)) → slice_get is n ≡ Some i →

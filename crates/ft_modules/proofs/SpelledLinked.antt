@@ -115,7 +115,7 @@ raised_code_type t u k ns ms y le few s h = record {
   memory = raised_name ns ms k (length ns) (length ms) y.ints true y.memory s few h.memory;
 }
 
--- raised code types have as many rows
+-- raised code types have the same number of rows
 pub raised_count : (f : CodeType → ℕ) (k : ℕ) (ts : List CodeType) → ((t : CodeType) → f (raised_type k t) ≡ f t) →
     sum_by f (map (raised_type k) ts) ≡ sum_by f ts
 raised_count f k [] h = refl
@@ -133,7 +133,7 @@ laid_sum part f size h k (o ∷ os) = sum_by-append f (part k o) (laid part (aft
 
 -- BLOCKS
 
--- blocks are in order from a lower least place too
+-- blocks that are in order from a least place are also in order from a lower one
 blocks_lower : (end least l : ℕ) (bs : List Block) → l ≤ least → AreBlocks end least bs → AreBlocks end l bs
 blocks_lower end least l [] le h = tt
 blocks_lower end least l (b ∷ bs) le h = (omega (arith, le, h.0), h.1, h.2)

@@ -57,7 +57,7 @@ tree_raised ns ms k n y a b s e = tree_below ns ms k (suc n) n y a b s (omega ar
 
 -- CODE TYPES
 
--- a relation of each element to its image holds of a list and its images
+-- if a relation holds between each element and its image, it holds between a list and its images
 zip_map : {X : Type 0} (R : X → X → Type 0) (f : X → X) (xs : List X) →
     ((n : ℕ) (y : X) → slice_get xs n ≡ Some y → R y (f y)) → AllZip R xs (map f xs)
 zip_map R f [] h = tt
@@ -168,7 +168,7 @@ module _ (o x : Object) (k : Before) (cs : List Change) (spelled : IsSpellable o
   scopes_raised b (n ∷ ns) h = λ i. nat_le (same_scope 128 false (length o.nodes) n (h 0 n refl) i) b
       && scopes_raised b ns (λ j m e. h (suc j) m e) i
 
-  -- a raised substitution does the same
+  -- a raised substitution has the same effect
   pub subst_raised : (u : Subst) → u.first ≤ u.past → u.past ≤ length o.substs → IsNodeIn o.nodes 128 true u.memory →
       SameSubst o x u (raised_subst k u)
   unfolding replacement valuation_by

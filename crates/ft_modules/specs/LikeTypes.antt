@@ -1,4 +1,4 @@
--- When code types of two objects agree: as many variables, the same rows, and the same trees.
+-- When code types of two objects agree: the same number of variables, the same rows, and the same trees.
 use Rattle.std.specs.Prelude.{◌≡◌, ℕ}
 use Rattle.std.specs.List.{AllZip}
 use Rattle.ft_static.specs.NodeTree.{trees, integer_at, memory_at}

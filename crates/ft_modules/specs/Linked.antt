@@ -149,7 +149,7 @@ instrs_part k o = map (raised_instr k) o.instrs
 abbrev pub substs_part : Before → Object → List ℕ
 substs_part k o = map (λ n. k.nodes + n) o.substs
 
--- the entry: the first module's entry block, or the exported block if that one is imported
+-- the entry: the first module's entry block, or if that is imported, the exported block
 abbrev pub entry_by : List Object → ℕ → Option Link → ℕ
 entry_by modules entry None = entry
 entry_by modules entry (Some l) = (before_module nothing_before modules l.to_module).blocks + l.to_block

@@ -42,7 +42,7 @@ pub atom_agree : (n : ℕ) (fs gs hs : List Form) → Agree n fs gs → (a : Sha
 atom_agree n fs gs hs h (Var i) l = refl
 atom_agree n fs gs hs h a l = grind (arith, polynomials_agree n fs gs h, updates_agree n fs gs h)
 
--- an atom's number that reaches at most n is the same atom over both lists
+-- an atom's number whose reach is at most n stands for the same atom over both lists
 with_atom_agree : (n : ℕ) (fs gs hs : List Form) → Agree n fs gs → (x : ℕ) → atom_reach hs x ≤ n → (m : Monomial) →
     with_atom fs x m ≡ with_atom gs x m
 with_atom_agree n fs gs hs h zero l m = refl
@@ -238,7 +238,7 @@ names_push es e h r k d l =
           (omega arith) (omega arith) e r)
     ]
 
--- a number whose integer reach is within the list is an integer's
+-- a number whose reach as an integer is within the list is the number of an integer's form
 pub integer_reached : (fs : List Form) (n i : ℕ) → n ≤ length fs → integer_reach fs i ≤ n → IsIntegerAt fs i
 integer_reached fs n i l r = go (slice_get fs i) refl r
   where
@@ -249,7 +249,7 @@ integer_reached fs n i l r = go (slice_get fs i) refl r
         Some (integer_form (polynomial_of (unwrap_or q (integer_form nought))))) (sym e)
     go (Some (memory_form u)) e r = absurd (omega arith)
 
--- a number whose memory reach is within the list is a memory's
+-- a number whose reach as a memory is within the list is the number of a memory's form
 pub memory_reached : (fs : List Form) (n i : ℕ) → n ≤ length fs → memory_reach fs i ≤ n → IsMemoryAt fs i
 memory_reached fs n i l r = go (slice_get fs i) refl r
   where
@@ -260,7 +260,7 @@ memory_reached fs n i l r = go (slice_get fs i) refl r
     go (Some (memory_form u)) e r = e ∙ ap (λ (q : Option Form).
         Some (memory_form (updates_of (unwrap_or q (integer_form nought))))) (sym e)
 
--- a number whose atom reach is within the list is an atom's
+-- a number whose reach as an atom is within the list is the number of an atom
 pub atom_reached : (fs : List Form) (n i : ℕ) → n ≤ length fs → atom_reach fs (suc i) ≤ n → IsAtomAt fs i
 atom_reached fs n i l r = go (slice_get fs i) refl r
   where

@@ -105,7 +105,7 @@ pub integer_within : (fs : List Normal) (f : Form) (p : Polynomial) → held fs 
 integer_within fs f p h = let x = integer_reaches fs f.0 p h in let w = slice_get_within fs f.0 (integer_form p) h in
     omega (arith, x, w)
 
--- a held integer is one among the forms of the entries
+-- an integer that is held is an integer among the forms of the entries
 pub integer_seen : (es xs : List Entry) (fs : List Normal) (f : Form) → forms_of es ≡ fs → xs ≡ es → IsInteger fs f →
     IsIntegerAt (forms_of xs) f.0
 integer_seen es xs fs f v e h = let g : forms_of xs ≡ fs = ap forms_of e ∙ v in rw g h.found

@@ -43,7 +43,7 @@ pub stands_from : (ns : List Node) (fs : List Normal) (ints : List Form) (memory
     Remembers ns fs ints memory m → Stands (polynomials fs ints) (updates_held fs memory) ns h fs (get nat_eq m.made)
 stands_from ns fs ints memory m h r = record { each = r.each }
 
--- conversely, forms of their trees are what a memo may remember, even after the list has grown
+-- conversely, a memo may remember the forms of the nodes' trees, even after the list has grown
 pub remembered : (ns : List Node) (fs gs : List Normal) (ints : List Form) (memory : Form) (m : Memo) (h : AreNodes ns)
     → Keeps fs gs → AreIntegers fs ints → IsMemory fs memory →
     Stands (polynomials fs ints) (updates_held fs memory) ns h gs (get nat_eq m.made) → Remembers ns gs ints memory m
@@ -56,7 +56,7 @@ remembered ns fs gs ints memory m h k i w s = record {
       ∙ ap (λ (v : Updates). Some (form_under (polynomials gs ints) v (tree_at ns n))) (sym u);
 }
 
--- what is known of a form that is that of a node's tree
+-- what is known of the form of a node's tree
 pub record Tells (ns : List Node) (fs gs : List Normal) (ints : List Form) (memory : Form) (n : ℕ) (f : Form) : Type 0
   where
     pub form : held gs f ≡ Some (form_under (polynomials fs ints) (updates_held fs memory) (tree_at ns n))

@@ -1,4 +1,4 @@
--- In an interner, equal forms have one number.
+-- In an interner, equal forms have the same number.
 use Rattle.std.proofs.Common.{◌≡◌, ◌↔◌, ◌==◌, List, Option, Some, sym, ap, ◌∙◌, subst, IsTrue, inl, inr}
 use Rattle.std.proofs.lemmas.Bool.Decides.{Decides-eqb}
 use Rattle.ft_static.specs.Form.{Form as Normal, integer_form, memory_form, form_denotation}
@@ -24,7 +24,7 @@ one_number es fs a b h v i = (
     d : IsDistinct fs
     d = subst IsDistinct v h.distinct
 
--- expressions with the same form denote the same
+-- expressions with the same form denote the same value
 pub one_form_denotes : (x y : Expression) (s : Valuation) (f g : Option Normal) → f ≡ g → f ≡ Some (norm x) → g
     ≡ Some (norm y) → HasWords x → HasWords y → IsLawful s → denotation x s ≡ denotation y s
 one_form_denotes x y s f g e h k a b lawful =

@@ -148,7 +148,7 @@ abbrev gives : List Form → Monomial → List Term → ℕ
 gives fs k [] = 0
 gives fs k (t ∷ ts) = share k (monomial_form fs t.atoms) t.coefficient + gives fs k ts
 
--- terms contribute to a monomial what their polynomial does
+-- terms contribute as much to a monomial as their polynomial does
 pub weigh_form : (fs : List Form) (k : Monomial) (ts : List Term) → weigh (share k) (polynomial_form fs ts) % 2 ^ 64
     ≡ gives fs k ts % 2 ^ 64
 weigh_form fs k [] = refl

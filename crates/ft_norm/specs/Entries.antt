@@ -101,7 +101,7 @@ abbrev pub part_reach : List Form → Bool → ℕ → ℕ
 part_reach fs true i = memory_reach fs i
 part_reach fs false i = integer_reach fs i
 
--- one more than the largest number that a node names, each of the required sort
+-- one more than the largest number that a node names; more than the list's length if a part is of the wrong sort
 abbrev pub reach : List Form → Shape → ℕ
 reach fs x = greatest_part (part_reach fs) x
 

@@ -27,10 +27,10 @@ use std::alloc::{AllocError, Global};
 use std::marker::Model;
 use std::sync::ledger::Ledger;
 
-/// How many places of words the interner remembers.
+/// The size of the cache that gives the place of a word's entry.
 const RECENT: usize = 64;
 
-/// The maximum number of forms, such that the count and each form's number plus one fit a `u32`.
+/// The maximum number of forms, chosen so that the count and each form's number plus one fit in a `u32`.
 const FORMS: usize = 4_294_967_294;
 
 /// Normal forms of integers and memories, in a list that only grows: a `Form` keeps its meaning in all later calls. It
@@ -40,7 +40,7 @@ const FORMS: usize = 4_294_967_294;
 pub struct Interner {
     pub(crate) alloc: Global,
     entries: IndexSet<Entry, Keys>,
-    /// The place where a word's entry may be, by the word modulo `RECENT`. It is tried before the table.
+    /// The place where a word's entry may be, indexed by the word modulo `RECENT`. It is tried before the table.
     recent: [u32; RECENT],
 }
 
@@ -97,7 +97,7 @@ impl Interner {
         Ok(form)
     }
 
-    /// The form of the integer variable of this number.
+    /// The form of the integer variable with this number.
     pub fn var(&mut self, i: u8) -> Result<Form, NoMemory>
         ensures kept { Keeps self.old self.new }
         ensures form { IfOk result (λ f. held self.new f ≡ Some (integer_form (alone (variable_atom i)))) }
@@ -134,7 +134,7 @@ impl Interner {
         Ok(form)
     }
 
-    /// The form of the remainder of an integer by a length.
+    /// The form of the remainder of an integer divided by a length.
     pub fn rem(&mut self, a: Form, length: u32) -> Result<Form, NoMemory>
         requires integer { IsInteger self.old a }
         requires some { 1 ≤ length }
@@ -220,14 +220,14 @@ impl Interner {
         memo.form(self, nodes, n, ints, memory, steps)
     }
 
-    /// Whether two forms, of either sort, are equal. If so, expressions with these forms denote the same.
+    /// Whether two forms, of either sort, are equal. If so, expressions with these forms denote the same value.
     pub fn same(&self, a: Form, b: Form) -> bool
         requires first { IsHeld self.now a }
         requires second { IsHeld self.now b }
         ensures exact { IsTrue result ↔ (held self.now a ≡ held self.now b) }
         ensures denotes { (x y : Expression) (s : Valuation) → IsTrue result → held self.now a ≡ Some (norm x) → held self.now b ≡ Some (norm y) → HasWords x → HasWords y → IsLawful s → denotation x s ≡ denotation y s }
     {
-        // The proof can use the invariant, that equal entries have one number, only where a field is read.
+        // The proof knows the invariant, that equal entries have the same number, only where a field is read.
         let _entries = &self.entries;
         a.0 == b.0
     }
@@ -314,7 +314,7 @@ impl Interner {
     }
 }
 
-/// The form of a node, given with the numbers of forms in place of its parts. A variable beyond `ints` is the word 0.
+/// The form of a node whose parts are given as the numbers of their forms. A variable beyond `ints` is the word 0.
 pub(crate) fn form_from<L: Ledger>(
     forms: &mut Interner,
     parts: Shape,

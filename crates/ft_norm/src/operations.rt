@@ -15,7 +15,7 @@ use ft_static::Shape;
 use std::alloc::AllocError;
 
 impl Interner {
-    /// The form of a sum. If one operand is 0, it is the other.
+    /// The form of a sum. If one operand is 0, it is that of the other operand.
     pub(crate) fn add(&mut self, a: Form, b: Form) -> Result<Form, AllocError>
         requires first { IsInteger self.old a }
         requires second { IsInteger self.old b }

@@ -119,7 +119,7 @@ fn add_terms(sum: &mut TermList, terms: Terms<'_>) -> Result<(), AllocError>
     Ok(())
 }
 
-/// A copy of these terms, with room for `more` others.
+/// A copy of these terms, with room for `more` further ones.
 fn copy_terms(alloc: Global, terms: Terms<'_>, more: usize) -> Result<TermList, AllocError>
     ensures { IfOk result (λ v. v.items ≡ terms_of terms.entry) }
 {
@@ -142,7 +142,7 @@ fn negated(term: Term) -> Term
     }
 }
 
-/// These terms with each coefficient negated, with room for `more` others.
+/// These terms with each coefficient negated, with room for `more` further ones.
 pub fn negated_terms(alloc: Global, terms: Terms<'_>, more: usize) -> Result<TermList, AllocError>
     ensures { IfOk result (λ v. v.items ≡ map negated_term (terms_of terms.entry)) }
 {

@@ -14,7 +14,7 @@ abbrev pub Judges : {X : Type 0} → Result X DecodeError → Option ObjectError
 Judges (Ok x) broken = broken ≡ None
 Judges (Err e) broken = IsError e broken
 
--- any error is that memory ran out
+-- the only possible error is that memory ran out
 abbrev pub OnlyMemory : {X : Type 0} → Result X DecodeError → Type 0
 OnlyMemory (Ok x) = Unit {0}
 OnlyMemory (Err (Object e)) = ⊥

@@ -26,8 +26,8 @@ fn read_object(alloc: Global, bytes: &[u8]) -> Result<Object, DecodeError>
     }
 }
 
-/// Returns the object that the bytes spell, or the first rule of the format that they break, with its place, or out of
-/// memory.
+/// Returns the object that the bytes spell, or the first rule of the format that they break, with its place, or
+/// `NoMemory`.
 pub fn decode(alloc: Global, bytes: &[u8]) -> Result<Object, DecodeError>
     // The result is the object that the bytes spell, in the version that they name.
     ensures spelled { IfOk result (Spells bytes.now (version_at bytes.now)) }

@@ -47,7 +47,7 @@ impl StoreQueue {
     pub fn copy_from(&mut self, other: &StoreQueue)
         ensures { self.new ≡ other.now }
     {
-        // This tells the proof that the other queue's pairs fit.
+        // Reading the length tells the prover that the other queue's pairs fit.
         let _len = other.pairs.len();
         let (front, back) = other.pairs.as_slices();
         self.pairs.clear();

@@ -40,7 +40,7 @@ counted_all now long h = omega (arith, h)
 
 module _ (o : Object) (strike : Option Strike) (w : List Wild) (s : State) (most n passed left now : ℕ)
     (old new : SinkLog) (small : most < 2 ^ 64) where
-  -- a run that no failed put ended
+  -- a run that was not ended by a failed put
   pub ran_past : (pause : Pause) → ¬ (pause ≡ pauses.Refused) → HasRun o strike w s most n pause →
       Passes o passed 0 (outputs_after o strike w n) (goes_on pause) left now old new → RunsTo o strike w most s now
   ran_past pause went r h =
@@ -66,7 +66,7 @@ module _ (o : Object) (strike : Option Strike) (w : List Wild) (s : State) (most
   puts_past pauses.Detected went r h = puts_whole pauses.Detected went r h.lines
   puts_past pauses.Refused went r h = absurd (went refl)
 
-  -- a run that a failed put ended
+  -- a run that was ended by a failed put
   pub breaks_past : (pause : Pause) → pause ≡ pauses.Refused → n ≤ most →
       Passes o passed 0 (outputs_after o strike w n) (goes_on pause) left now old new →
       BreaksOff (output_lines o (drop passed (outputs_after o strike w most))) old new
@@ -101,7 +101,7 @@ module _ (o : Object) (strike : Option Strike) (w : List Wild) (n : ℕ) (spella
   front = begins (outputs_after o strike w n) (outputs_after o None w n) (status_after o strike w n)
       (status_after o None w n) agrees
 
-  -- a run that is not detected ends as the run without a fault
+  -- a run that is not detected ends as the run without a fault does
   pub same_status : status_after o strike w n ≢ Detected → status_after o strike w n ≡ status_after o None w n
   same_status never = (same_run agrees never).1
 

@@ -1,4 +1,4 @@
--- Outputs of which the first ones are left out.
+-- Outputs with the first ones left out.
 use Rattle.std.proofs.Common.{◌≡◌, ℕ, zero, suc, ◌+◌, ◌-◌, ◌%◌, ◌^◌, ◌<◌, List, [], ◌∷◌, ◌++◌, length, Result, is_ok}
 use Rattle.std.proofs.Common.{true, refl, ap, sym, subst, ◌∙◌, arith}
 use Rattle.std.specs.Prelude.{drop}

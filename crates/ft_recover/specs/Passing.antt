@@ -17,8 +17,8 @@ use Rattle.ft_machine.specs.Drives.{output_lines, end_of_going}
 use Rattle.ft_recover.specs.declared.recover_end.RecoverEnd.{RecoverEnd}
 use Rattle.ft_recover.specs.declared.recover_end.RecoverEnd.TheVariants as ending
 
--- these outputs were counted, exactly if the count fits in a word, and unless a put failed a line was written for each
--- after the first `passed`; `left` more outputs are to be left out
+-- these outputs were counted in addition to `count`, and the sum is `now` if it fits in a word; unless a put failed, a
+-- line was written for each after the first `passed`; `left` more outputs are to be left out
 pub record Passes (o : Object) (passed count : ℕ) (outputs : List Output) (goes : Bool) (left now : ℕ) (old new : SinkLog) : Type 0 where
   pub left_is : left ≡ passed - length outputs
   pub count_is : count + length outputs < 2 ^ 64 → now ≡ count + length outputs

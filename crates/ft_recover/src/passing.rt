@@ -1,4 +1,4 @@
-//! An outlet that writes a line for each output but the first ones.
+//! An outlet that writes a line for each output except the first ones.
 ghost use Rattle.std.specs.Prelude.{◌≡◌};
 ghost use Rattle.ft_types.specs.Spellable.{IsSpellable};
 ghost use Rattle.ft_machine.specs.Drives.{IsOfCell};
@@ -9,7 +9,7 @@ use ft_isa::Output;
 use ft_machine::{Outlet, put_output};
 use ft_types::Program;
 
-/// Counts the outputs of a program, and writes a line for each but the first ones.
+/// Counts the outputs of a program, and writes a line for each except the first ones.
 #[derive(Drop)]
 pub(crate) struct Passing<'a, P, K> {
     /// The program.

@@ -327,7 +327,7 @@ pub fn apply_rule<P: Program, L: Ledger>(
     apply_rule_over(ctx, &mut shared, forms, program, instr, steps)
 }
 
-/// The same, with what the blocks share. Other instructions may have used it before.
+/// The same, with the data that the blocks share, which other instructions may have used before.
 pub fn apply_rule_over<P: Program, L: Ledger>(
     ctx: &mut Context,
     shared: &mut Shared,

@@ -1,4 +1,4 @@
-//! The row of `idx`: the address of a cell of a run.
+//! The row of `idx`: the address of a cell in a run.
 ghost use Rattle.std.specs.Prelude.{◌≡◌, ◌<◌, ◌≤◌, IfOk, IfSome, Some, length, map, slice_range};
 ghost use Rattle.std.specs.List.{list_all};
 ghost use Rattle.ft_isa.specs.BasicTypes.{ref};
@@ -85,7 +85,7 @@ fn array<P: Program>(program: &P, first: u32, count: u32) -> Result<Basic, RuleE
     }
 }
 
-/// The form of the address of the run's cell that a word selects, given the form of that word.
+/// The form of the address of the cell that a word selects in a run, given the form of that word.
 fn run_form(forms: &mut Interner, first: u32, count: u32, named: Form) -> Result<Form, NoMemory>
     requires named { IsInteger forms.old named }
     requires some { 1 ≤ count }
@@ -98,7 +98,7 @@ fn run_form(forms: &mut Interner, first: u32, count: u32, named: Form) -> Result
     forms.op(Op::Add, base, place)
 }
 
-/// The address of the cell of a run that a register selects.
+/// The address of the cell that a register selects in a run.
 pub fn index<P: Program>(
     context: &mut Context,
     program: &P,

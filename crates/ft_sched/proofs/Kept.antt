@@ -1,4 +1,4 @@
--- What is recorded of the waiting instructions, as one is added and as one is taken.
+-- What is recorded about the waiting instructions: after one more is added, and what look-ups find.
 use Rattle.std.proofs.Common.{◌≡◌, ℕ, suc, ◌+◌, ◌<◌, Bool, true, false, cond, not, ◌&&◌, ◌||◌, ◌==◌, nat_lt, List, []}
 use Rattle.std.proofs.Common.{◌∷◌, ◌++◌, length, drop, Option, Some, None, refl, sym, ap, ◌∙◌, subst, arith}
 use Rattle.std.specs.Prelude.{slice_index_or}
@@ -17,7 +17,7 @@ use Rattle.ft_sched.proofs.LastMet.{last_more, below_none, is_behind, marked_at}
 
 -- MARKS
 
--- the place of register q after a register, if one is given, is marked
+-- the place of register q after place p is recorded for a register, if one is given
 marked_one : (ps : List ℕ) (u : Option Reg) (p q : ℕ) → length ps ≡ 64 → slice_index_or (marked ps (number_of u) p) q 0
     ≡ cond (is_register (number_of u) q) p (slice_index_or ps q 0)
 marked_one ps None p q l = refl
@@ -188,7 +188,7 @@ either_any s t u (i ∷ is) h = (λ j. h i j || either_any s t u is h j)
     crossed false false true d = refl
     crossed false false false d = refl
 
--- whether an instruction leaves a written register alone, in terms of the registers that it reads and writes
+-- whether an instruction leaves a register alone, in terms of the registers that it reads and writes
 alone_by : Option ℕ → Option ℕ → Option ℕ → Option ℕ → Bool
 alone_by f s v None = true
 alone_by f s v (Some q) = not ((is_register f q || is_register s q) || is_register v q)
@@ -226,7 +226,7 @@ not_alone : (b : Bool) → not (true && not b) ≡ (false || b)
 not_alone true = refl
 not_alone false = refl
 
--- three tests: of what is read, of what both write, and of what the waiting one touches
+-- three tests become two: what both instructions write, the waiting one touches
 all_three : (a c t : Bool) → (c ≡ true → t ≡ true) → not (not (a || c) && not t) ≡ (a || t)
 all_three true c t h = refl
 all_three false false true h = refl

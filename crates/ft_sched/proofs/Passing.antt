@@ -180,7 +180,7 @@ permitted_in rows start e e' front xs ys k l h p =
           p.may;
     }
 
--- up to an instruction that doesn't lead
+-- no exchange is left up to and including an instruction that doesn't lead
 pub none_behind : (rows start : ℕ) (front : List Instr) (i : Instr) (rest : List Instr) → is_leading i ≡ false →
     HasNone rows start (length front) (front ++ i ∷ rest) → HasNone rows start (length front + 1) (front ++ i ∷ rest)
 none_behind rows start front i rest n h k p =
@@ -198,7 +198,7 @@ none_behind rows start front i rest n h k p =
     absurd (cc))
     (cases_lt (suc k) (length front))
 
--- up to an instruction that leads, and those that it passed
+-- no exchange is left up to a leading instruction and those that it passed
 pub none_passed : (rows start : ℕ) (front ws : List Instr) (i : Instr) (rest : List Instr) → list_all is_trailing ws
     ≡ true → is_leading i ≡ true → Stuck rows start front i →
     HasNone rows start (length front + length ws) (front ++ (ws ++ i ∷ rest)) →

@@ -6,8 +6,8 @@ use Rattle.ft_exchange.specs.Exchange.{written, leaves_alone, is_green_store, is
 use Rattle.ft_sched.specs.Registers.{writes, meets}
 use Rattle.ft_sched.specs.LastPlaces.{last_place}
 
--- what is recorded of a list whose waiting part begins at `front`: for each register, the last place of an instruction
--- that writes it, and of one that reads or writes it; and the last place of a blue store
+-- what is recorded about a list whose waiting part begins at `front`: for each register, the last place of an
+-- instruction that writes it, and of one that reads or writes it; and the last place of a blue store
 pub record IsKept (is : List Instr) (front : ℕ) (written_at touched_at : List ℕ) (blue_at : ℕ) : Type 0 where
   pub front_within : front ≤ length is
   pub writers : length written_at ≡ 64

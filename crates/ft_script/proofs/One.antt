@@ -127,7 +127,7 @@ same_kind line c d e h i = absurd (omega arith)
 one_text : (line : List ℕ) (c d : Command) → IsText c line → IsText d line → c ≡ d
 one_text line c d h i = same_kind line c d (sym (kind_is c line h) ∙ kind_is d line i) h i
 
--- a line is a command's text, or no command's
+-- a line is the text of the command that it gives, or of no command
 told : (line : List ℕ) (c : Command) → Gives line c → IsText c line ⊎ ((c ≡ Bad) × ((d : Command) → ¬ (IsText d line)))
 told line Bad h = inr (refl, h)
 told line (Step n) h = inl h

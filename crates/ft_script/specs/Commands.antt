@@ -13,7 +13,7 @@ use Rattle.ft_script.specs.declared.register.Register.TheVariants as registers
 pub data Command : Type 0 where
   -- n steps, or fewer if the machine stops
   Step : ℕ → Command
-  -- n steps, or fewer if the machine stops or comes to a breakpoint
+  -- n steps, or fewer if the machine stops or reaches a breakpoint
   Go : ℕ → Command
   -- n steps back
   Back : ℕ → Command
@@ -27,7 +27,7 @@ pub data Command : Type 0 where
   Cell : List ℕ → Command
   -- where the machine is
   Where : Command
-  -- a breakpoint: a block, and an instruction of it
+  -- a breakpoint: a block, and an instruction in it
   Break : ℕ → ℕ → Command
   -- any other line
   Bad : Command

@@ -7,7 +7,7 @@ use ft_isa::Site;
 pub enum Command<'s> {
     /// Takes this many steps, or fewer if the machine stops.
     Step(u64),
-    /// Takes this many steps, or fewer if the machine stops or comes to a breakpoint.
+    /// Takes this many steps, or fewer if the machine stops or reaches a breakpoint.
     Go(u64),
     /// Goes back this many steps.
     Back(u64),
@@ -21,7 +21,7 @@ pub enum Command<'s> {
     Cell(&'s [u8]),
     /// Shows where the machine is.
     Where,
-    /// Sets a breakpoint: an instruction of a block.
+    /// Sets a breakpoint at an instruction of a block.
     Break { block: u64, index: u64 },
     /// Any other line.
     Bad,

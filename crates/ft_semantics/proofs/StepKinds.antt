@@ -17,7 +17,7 @@ use Rattle.ft_types.specs.declared.object.Object.{Object}
 use Rattle.ft_types.specs.Objects.{instr_at}
 
 -- P is the claim about a step, taken as a function of the answers to wild loads. It must hold for a step without an
--- output to any state with the same cells, for a commit, and for the load of each instruction that is a load.
+-- output to any state with the same cells, for a commit, and for the load that each load instruction makes.
 module _ (s : State) (P : (List Wild → Stepping) → Type 0) (quiets : (t : State) → t.cells ≡ s.cells →
     P (quiet t)) (committed : (a v : ℕ) → commits a v s ≡ true → P (commit a v s)) where
   by_test : (b : Bool) (x y : List Wild → Stepping) → (b ≡ true → P x) → P y → P (λ w. if b then x w else y w)

@@ -1,4 +1,4 @@
--- A product of two monomials contains each atom as often as the two together.
+-- An atom occurs in the product of two monomials as often as in the two together.
 use Rattle.std.proofs.Common.{◌≡◌, ℕ, suc, ◌+◌, refl, ap, ◌∙◌, arith}
 use Rattle.std.specs.declared.cmp.Ordering.{Ordering}
 use Rattle.std.specs.declared.cmp.Ordering.TheVariants.{Less, Equal, Greater}

@@ -1,4 +1,5 @@
--- Expressions of either sort denote what their forms do, and a node's form is computed from those of its parts.
+-- An expression of either sort denotes the same value as its form, and a node's form is computed from those of its
+-- parts.
 use Rattle.std.proofs.Common.{◌≡◌, ◌↔◌, true, ℕ, List, map, Some, slice_get, sym, ap, ◌∙◌}
 use Rattle.ft_static.specs.Expression.{Expression, integer, memory, Valuation, IsLawful, HasWords, denotation}
 use Rattle.ft_static.specs.Expression.{denoted_word, denoted_memory}
@@ -13,7 +14,7 @@ use Rattle.ft_static.proofs.NodeTrees.{tree_at-row}
 use Rattle.ft_static.proofs.FormRows.{norm_value, value_norm_memory}
 use Rattle.ft_static.proofs.Under.{form_of-map}
 
--- a form denotes what its expression does
+-- a form denotes the same value as its expression
 pub norm_denotes : (e : Expression) (s : Valuation) → IsLawful s → HasWords e → form_denotation (norm e) s
     ≡ denotation e s
 norm_denotes (integer e) s lawful h = ap denoted_word (norm_value e s lawful h)

@@ -123,7 +123,7 @@ value_sel (update a v u) p s lawful = if_cases (λ t. value_polynomial t s
     (λ h. value_alone (sel_atom (update a v u) p) s (value_updates_are_words (update a v u) s lawful _)))
 
 mutual
-  -- the form of an integer whose numbers are words denotes what the integer does
+  -- the form of an integer whose numbers are words denotes the same value as the integer
   pub norm_value : (e : Integer) (s : Valuation) → IsLawful s → AreWords e → value_polynomial (norm_integer e) s
       ≡ value e s
   norm_value (word w) s lawful h = value_constant w s ∙ mod-eq_of_lt h
@@ -154,7 +154,7 @@ module _ (ps : List Polynomial) (u : Updates) (s : Valuation) (lawful : IsLawful
   abbrev pub MemoryDenotes : Memory → Type 0
   MemoryDenotes m = value_updates (norm_memory_under m ps u) s ≡ memory_value m (valuation_under ps u s)
 
-  -- the form of an expression under forms denotes what the expression does in the valuation that these forms give
+  -- the form of an expression under forms denotes the value that the expression has in the valuation that they give
   pub value_under : OfAll (λ e. AreWords e → Denotes e) (λ m. AreWordsOfMemory m → MemoryDenotes m)
   value_under = by_parts_where AreWords Denotes AreWordsOfMemory MemoryDenotes words_of_parts split whole stored
     where

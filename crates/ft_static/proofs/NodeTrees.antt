@@ -35,7 +35,7 @@ OfMemoryParts P M m = Unit {0}
 abbrev pub OfAll : (Integer → Type 0) → (Memory → Type 0) → Type 0
 OfAll P M = ((e : Integer) → P e) × ((m : Memory) → M m)
 
--- induction: what holds of every expression whose parts have it holds of all expressions
+-- induction: a property that an expression has whenever its parts do holds of all expressions
 module _ (P : Integer → Type 0) (M : Memory → Type 0) (f : (e : Integer) → OfParts P M e → P e)
     (g : (m : Memory) → OfMemoryParts P M m → M m) where
   mutual

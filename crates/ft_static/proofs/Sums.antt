@@ -115,7 +115,7 @@ value_total (plus m c p) q s = value_total p (add_term m c q) s
     ∙ (ap (λ t. (value_polynomial p s + t) % 2 ^ 64) (value_add_term m c q s)
     ∙ onto_sums (2 ^ 64) (c * value_monomial m s) (value_polynomial p s) (value_polynomial q s))
 
--- an atom alone denotes what the atom does, if that is a word
+-- the polynomial of a single atom denotes the atom's value, if that is a word
 pub value_alone : (a : Atom) (s : Valuation) → value_atom a s < 2 ^ 64 → value_polynomial (alone a) s ≡ value_atom a s
 value_alone a s h = simp (mul-one, one-mul, add-zero, mod-mod) (mod-eq_of_lt h)
 

@@ -51,7 +51,7 @@ module _ (es : List Integer) (m : Memory) where
     abbrev pub MemoryHasValue : Memory → Type 0
     MemoryHasValue k = memory_value (substitute_memory k es m) s ≡ memory_value k (valuation_after es m s)
 
-    -- it denotes what the expression does in the valuation after the substitution
+    -- it denotes the value that the expression has in the valuation after the substitution
     pub value-substitute : OfAll HasValue MemoryHasValue
     value-substitute = by_parts HasValue MemoryHasValue whole stored
       where

@@ -14,7 +14,7 @@ use Rattle.ft_static.specs.declared.node.Shape.{Shape}
 use Rattle.ft_static.specs.declared.node.Shape.TheVariants as shape
 
 mutual
-  -- what a polynomial is built over
+  -- what polynomials are built from
   pub data Atom : Type 0 where
     variable_atom : ℕ → Atom
     operation_atom : Op → Polynomial → Polynomial → Atom

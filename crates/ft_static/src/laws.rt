@@ -48,7 +48,7 @@ pub fn forms_are_in_order()
 /// At each monomial, the coefficient of a sum of polynomials in order is the sum of their coefficients modulo 2^64. If
 /// their degrees add up to at most 4, the coefficient of their product is the sum, modulo 2^64, of the products of
 /// coefficients over all pairs of monomials whose product is that monomial. Polynomials in order with the same
-/// coefficients are the same. The product of two monomials contains each atom as often as the two together.
+/// coefficients are the same. An atom occurs in the product of two monomials as often as in the two together.
 pub fn forms_are_known_by_coefficients()
     ensures sum { (k : Monomial) (p q : Polynomial) → IsProper p → IsProper q → coefficient k (total p q) ≡ (coefficient k p + coefficient k q) % 2 ^ 64 }
     ensures product { (k : Monomial) (p q : Polynomial) → degree p + degree q ≤ 4 → IsProper p → IsProper q → coefficient k (add_products p q nought) ≡ share_of_products k p q % 2 ^ 64 }
@@ -57,8 +57,8 @@ pub fn forms_are_known_by_coefficients()
 {}
 
 /// Two expressions are the same exactly if their normal forms are equal. If the numbers in an expression are words, its
-/// form denotes what the expression does, under every valuation of the integer variables and of the memory by words. So
-/// two such expressions that are the same denote the same value.
+/// form denotes the same value as the expression, under every valuation of the integer variables and of the memory by
+/// words. So two such expressions that are the same denote the same value.
 pub fn forms_denote_as_expressions()
     ensures same_forms { (a b : Expression) → same a b ≡ true ↔ norm a ≡ norm b }
     ensures denotes { (e : Expression) (s : Valuation) → IsLawful s → HasWords e → form_denotation (norm e) s ≡ denotation e s }
@@ -80,8 +80,8 @@ pub fn rows_denote()
 {}
 
 /// The form of an expression after a substitution is its form under the substituted forms. If the numbers in the
-/// expression are words, that form denotes, under every valuation by words, what the expression does in the valuation
-/// that the substitution gives. Under the variables' own forms, an expression has its normal form.
+/// expression are words, that form denotes, under every valuation by words, the value that the expression has in the
+/// valuation that the substitution gives. Under the variables' own forms, an expression has its normal form.
 pub fn substitution_is_on_forms()
     ensures integer_forms { (e : Integer) (es : List Integer) (k : Memory) → norm_integer (substitute e es k) ≡ norm_under e (map norm_integer es) (norm_memory k) }
     ensures memory_forms { (m : Memory) (es : List Integer) (k : Memory) → norm_memory (substitute_memory m es k) ≡ norm_memory_under m (map norm_integer es) (norm_memory k) }

@@ -3,7 +3,7 @@
 //! The crate defines nodes and the rules that a list of nodes obeys (`specs/NodeRules.antt`):
 //! a node refers only to lower nodes, so each stands for one tree (`specs/NodeTree.antt`). It defines
 //! what trees denote (`specs/Expression.antt`) and their normal forms (`specs/NormalForm.antt`), and
-//! promises in `laws` that forms denote what their expressions do.
+//! promises in `laws` that a form denotes the same value as its expression.
 #![tactic(auto)]
 
 mod examples;

@@ -1,4 +1,4 @@
--- A machine that reads the lexemes one by one and keeps everything that is open on a stack. Only private clauses cite
+-- A machine that reads the lexemes one by one and keeps a stack of everything that is open. Only private clauses cite
 -- it.
 use Rattle.std.specs.Prelude.{ℕ, Bool, true, false, List, [], ◌∷◌, ◌++◌, Option, Some, None, Ok, Err}
 use Rattle.ft_isa.specs.declared.op.Op.{Op}

@@ -42,7 +42,7 @@ memory_words : (e : Expression) → HasWords e → AreWordsOfMemory (memory_part
 memory_words (integer e) h = tt
 memory_words (memory m) h = h
 
--- the form of a node denotes what its tree does
+-- the form of a node denotes the same value as its tree
 pub integer_form_denotes : (o : Object) (n : ℕ) (v : Valuation) → AreNodes o.nodes → IsLawful v →
     value_polynomial (integer_form_of o n) v ≡ value (integer_at (trees o.nodes) n) v
 unfolding integer_form_of
@@ -55,7 +55,7 @@ unfolding memory_form_of
 memory_form_denotes o n v h lawful = value_norm_memory (memory_at (trees o.nodes) n) v lawful
     (memory_words (tree_at o.nodes n) (has_words o.nodes n h))
 
--- the forms of rows denote what their trees do
+-- the forms of rows denote the same values as their trees
 rows_denote : (o : Object) (rows : List ℕ) (v : Valuation) → AreNodes o.nodes → IsLawful v →
     map (λ (p : Polynomial). value_polynomial p v) (map (integer_form_of o) rows)
     ≡ map (λ (e : Integer). value e v) (map (integer_at (trees o.nodes)) rows)

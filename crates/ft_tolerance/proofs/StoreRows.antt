@@ -26,12 +26,12 @@ use Rattle.ft_types.proofs.Maps.{get-insert}
 use Rattle.ft_tolerance.proofs.Premises.{After, after_goes, after_need, after_typed, after_ref, after_oldest}
 use Rattle.ft_tolerance.proofs.RegisterRows.{GoesOn, updated, cell_fits, refers}
 
--- polynomials that the test finds equal denote the same
+-- polynomials that the test finds equal denote the same value
 pub same_denotes : (p q : Polynomial) (v : Valuation) → same_polynomial p q ≡ true → value_polynomial p v
     ≡ value_polynomial q v
 same_denotes p q v e = ap (λ (z : Polynomial). value_polynomial z v) ((equal_polynomials p q).0 e)
 
--- a word that has a type also has each type that this type is seen as
+-- a word that has a type also has each type that this type is accepted as
 pub has_seen : (o : Object) (w : ℕ) (a b : Basic) → is_seen_as a b ≡ true → HasType o w a → HasType o w b
 has_seen o w a b e h = ⊎_elim (λ (s : a ≡ b). subst (HasType o w) s h) (λ (s : b ≡ int). subst (HasType o w) (sym s) tt)
     ((is_seen_as_decides a b).0 e)

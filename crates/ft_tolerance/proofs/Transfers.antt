@@ -146,7 +146,7 @@ queue_leads o u v (p ∷ ps) (r ∷ rs) (x ∷ q) nodes lawful l f =
       queue_leads o u v ps rs q nodes lawful a.1 f.1,
     )
 
--- cells that fit a memory form fit each form that denotes the same
+-- cells that fit a memory form fit each form that denotes the same memory
 same_cells : (o : Object) (v v' : Valuation) (m m' : Updates) (cells : Cells) → value_updates m v
     ≡ value_updates m' v' → FitsCells o v m cells → FitsCells o v' m' cells
 unfolding FitsCells

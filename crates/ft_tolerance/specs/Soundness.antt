@@ -12,7 +12,8 @@ use Rattle.ft_semantics.specs.Step.{step, is_code, is_wild}
 use Rattle.ft_semantics.specs.Run.{state_after, wild_after, status_after}
 use Rattle.ft_tolerance.specs.TypedState.{Place, next_place, place, Fits, IsPlace}
 
--- the next step of a running state meets no fetch outside the code, no wild load, and no full or empty queue in a store
+-- the next step of a running state makes no fetch outside the code, no wild load, no green store into a full queue and
+-- no blue store from an empty one
 pub record IsUntroubled (o : Object) (s : State) : Type 0 where
   pub fetch : s.fetched ≡ None → (s.pc_green ≡ s.pc_blue) × (is_code o s.pc_green ≡ true)
   pub load : (c : Colour) (rd rs : Reg) → s.fetched ≡ Some (Ld c rd rs) → is_wild c s (word s rs) ≡ false

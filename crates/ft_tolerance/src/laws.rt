@@ -20,7 +20,8 @@ ghost use Rattle.ft_tolerance.specs.TypedState.{Fits, IsPlace, Place};
 
 /// Every row of the table of steps preserves typing: from every running state that fits a place of an accepted
 /// object, whatever answers to wild loads are left, the step ends the run or leads to a state that fits the next place.
-/// It meets no wild load, no full or empty queue in a store, and no fetch outside the code.
+/// It makes no fetch outside the code, no wild load, no green store into a full queue and no blue store from an empty
+/// one.
 pub fn rows_keep_what_fits()
     ensures { (o : Object) (p : Place) (s : State) (w : List Wild) → IsSpellable o → IsAccepted o → IsPlace o p → s.status ≡ Running → Fits o p s → Keeps o p s w }
 {}

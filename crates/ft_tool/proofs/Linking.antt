@@ -102,13 +102,13 @@ ends_unaccepted modules o checks.NoMemory h a is = absurd is
 
 -- FILES
 
--- the file of a module ends the link: by the object that its bytes spell
+-- the file of a module ends the link because of the object that its bytes spell
 pub ends_with_object : (told : Option Files) (modules : List Object) (name : Word) (bytes : List ℕ) →
     LoadsObject told name (Ok bytes) → (a : Answer) → EndsAtObject modules (object_of bytes) a →
     EndsWithFile told modules name a
 ends_with_object told modules name bytes h a is = (bytes, (h.0, no_module (object_of bytes) (version_at bytes, h.1) is))
 
--- or by the rule that its bytes break
+-- or because of the rule that its bytes break
 pub ends_with_fault : (told : Option Files) (modules : List Object) (name : Word) (e : ObjectFault) →
     LoadsObject told name (Err e) → (a : Answer) → IsRefusedBy e a → EndsWithFile told modules name a
 ends_with_fault told modules name (Refused e) h a is = (h.0, (h.1.0, no_object e h.1.1 is))

@@ -19,7 +19,7 @@ use Rattle.ft_tool.specs.Replies.{IsFile, IsToldFile}
 use Rattle.ft_tool.specs.Told.{OfFiles, OfScript}
 use Rattle.ft_tool.specs.Files.{Gives}
 
--- the empty list is bytes, and so is a zero before bytes
+-- an empty list consists of bytes, and so does a list of bytes with a zero in front
 pub no_bytes : AreBytes []
 no_bytes i = omega arith
 
@@ -33,7 +33,7 @@ within_bytes [] h i = omega arith
 within_bytes (x ∷ xs) h zero = h 0 (omega arith)
 within_bytes (x ∷ xs) h (suc i) = within_bytes xs (λ j below. h (suc j) (omega (arith, below))) i
 
--- there are byte lists longer than any number
+-- for each number there is a longer list of bytes
 pub longer_bytes : (n : ℕ) → (bytes : List ℕ) × (AreBytes bytes × (n < length bytes))
 longer_bytes zero = (0 ∷ [], (zero_first [] no_bytes, omega arith))
 longer_bytes (suc n) = let h = longer_bytes n in (0 ∷ h.0, (zero_first h.0 h.1.0, omega (arith, h.1.1)))

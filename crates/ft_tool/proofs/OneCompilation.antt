@@ -72,7 +72,7 @@ pub two_objects : (p : Program) (a b : Answer) → CompilesProgram p a → Compi
 two_objects p a b x y = one.compiled_both (ap (λ (r : Answer). r.status) x.answer)
     (ap (λ (r : Answer). r.status) y.answer)
 
--- with equal lines before both, one of two lists is still a prefix of the other
+-- if one of two lists is a prefix of the other, it still is with equal lines in front of both
 begins_both : (x y : List ℕ) (xs ys : List (List ℕ)) → x ≡ y → LinesBegin xs ys ⊎ LinesBegin ys xs →
     LinesBegin (x ∷ xs) (y ∷ ys) ⊎ LinesBegin (y ∷ ys) (x ∷ xs)
 begins_both x y xs ys e (inl h) = inl (h.0, ap (λ z. z ∷ (xs ++ h.0)) e ∙ ap (λ zs. y ∷ zs) h.1)

@@ -5,7 +5,7 @@ use Rattle.ft_types.specs.declared.object.Object.{Object}
 use Rattle.ft_types.specs.Objects.{IsCounted, regs_of, queue_of}
 use Rattle.ft_types.specs.Spellable.{IsSpellable}
 
--- a spellable object is counted
+-- each list of a spellable object has fewer than 2^32 entries
 pub spellable_counted : (o : Object) → IsSpellable o → IsCounted o
 spellable_counted o h = record {
   cells = omega (arith, h.few_cells);

@@ -127,7 +127,7 @@ none_first refuse k (y ∷ ys) h =
 
 -- THE WHOLE OBJECT
 
--- a cell is not refused exactly when its initial word has its type
+-- a cell escapes refusal exactly when its initial word has its type
 cell_typed : (o : Object) (k : ℕ) (x : Cell) → Decides (has_type o x.init x.basic) (cell_refusal o k x ≡ None)
 cell_typed o k x = (λ e. rw e refl, λ e. by_test (has_type o x.init x.basic) e)
   where
@@ -135,7 +135,7 @@ cell_typed o k x = (λ e. rw e refl, λ e. by_test (has_type o x.init x.basic) e
     by_test true e = refl
     by_test false e = cc
 
--- a block is not refused exactly when its walk refuses nothing
+-- a block escapes refusal exactly when its walk refuses nothing
 walk_of_block : (o : Object) (b : ℕ) (w : Option (ℕ × Premise)) → option_map (λ r. Refused b r.0 r.1) w ≡ None ↔ w
     ≡ None
 walk_of_block o b None = (λ e. refl, λ e. refl)

@@ -48,7 +48,7 @@ judged_is o c (t ∷ ts) e = need_or (premise_of t) (holds o c t) (judged o c ts
 need_next : (p : Premise) (b : Bool) {x y : Outcome} → x ≡ y → need p b x ≡ need p b y
 need_next p b e = ap (need p b) e
 
--- testing two conditions of one premise at once is testing them in turn
+-- testing two conditions of one premise at once is the same as testing them in turn
 need_both : (p : Premise) (a b : Bool) {x y : Outcome} → x ≡ y → need p (a && b) x ≡ need p a (need p b y)
 unfolding need
 need_both p true b e = ap (need p b) e

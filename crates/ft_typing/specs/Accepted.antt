@@ -96,8 +96,8 @@ cell_refusal o k x = if has_type o x.init x.basic then None else Some (CellType 
 abbrev pub block_refusal : Object → ℕ → Block → Option Refusal
 block_refusal o b x = option_map (λ r. Refused b r.0 r.1) (walk o (start_context o x.code_type) 0 (block_instrs o b))
 
--- why an object is refused, if it is: EntryType, otherwise CellType with the lowest such cell, otherwise Refused with
--- the first such block and index
+-- why an object is refused, if it is: first EntryType, then CellType with the lowest refused cell, then Refused with
+-- the first refused block and the index in it
 abbrev pub refusal : Object → Option Refusal
 refusal o =
     if is_entry_type o (block_type o o.entry)

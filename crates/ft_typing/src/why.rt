@@ -10,11 +10,11 @@ pub enum Why {
     #[error("a register that is read has no type")]
     Untyped,
     /// A register that the rule reads, or the word of an operation, does not have the colour that the rule requires.
-    #[error("a register or a word has another colour")]
+    #[error("a register or a word has the wrong colour")]
     Colour,
     /// The stored value's type is not accepted as the cell's type, or the word of a `mov` does not have the claimed
     /// type.
-    #[error("a word has another basic type")]
+    #[error("a word has the wrong basic type")]
     BasicType,
     /// The address register's basic type is not a `ref`.
     #[error("the address is not a ref")]
@@ -23,7 +23,7 @@ pub enum Why {
     #[error("the target is not code")]
     NotCode,
     /// d is not in the state that the rule requires.
-    #[error("d is in another state")]
+    #[error("d is in the wrong state")]
     StateOfD,
     /// The static queue has 8 pairs.
     #[error("eight stores are pending")]
@@ -59,7 +59,7 @@ pub enum Why {
     #[error("the substitution does not fit the target or this block")]
     Annotation,
     /// A blue jump or `halt` is not the last instruction of its block, or the last instruction is neither.
-    #[error("the block does not end here")]
+    #[error("a block must end with a blue jump or halt, and only there")]
     BlockEnd,
     /// The cells of a run are not all of one basic type, or that type has 8 refs.
     #[error("the cells of a run are not of one type to which a ref can refer")]

@@ -268,7 +268,7 @@ impl<'a> Program for View<'a> {
         self.header.entry
     }
 
-    // Callers take the instruction apart at once: built out of line, each read would store and load all fields.
+    // Inlined because callers take the instruction apart at once: otherwise each read would store and load all fields.
     #[inline(always)]
     fn instr(&self, i: u32) -> Instr {
         self.fetch(self.code(), i as usize * INSTR_BYTES)

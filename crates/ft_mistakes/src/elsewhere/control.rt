@@ -16,7 +16,7 @@ pub(super) const ROWS: &[Row] = &[
     ),
     (
         "beq bne blt bltu bgt bgtu ble bleu bge bgeu beqz bnez bnz cbz cbnz je jne jz jnz jl jg jle jge ja jb jae jbe",
-        "`eq` and `ltu` compare, and `bz_G` and `bz_B` branch where a register is 0",
+        "`eq` and `ltu` compare, and `bz_G` and `bz_B` branch if a register is 0",
     ),
     (
         "cmp cmpl cmpq cmn test tst",

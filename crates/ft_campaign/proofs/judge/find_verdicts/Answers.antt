@@ -18,7 +18,7 @@ sum_more : (f : Strike → ℕ) (xs : List Strike) (i : ℕ) (x : Strike) → i 
 sum_more f xs i x lt is = ap (sum_by f) (take_more xs i x lt) ∙ sum_by_push f (take i xs) (get_or xs i x)
     ∙ ap (λ y. sum_by f (take i xs) + f y) (sym is)
 
--- the steps from a fault's snapshot to the last step are a bound on its cost
+-- the number of steps from a fault's snapshot to the last step bounds its cost
 whole : (o : Object) (w : List Wild) (n : ℕ) (x : Strike) → IsCost o w n x (n - first x)
 whole o w n x = upto n (last refl) refl
 

@@ -20,7 +20,7 @@ error_turns : (x : Outcome) (e : RuleError) (k : ℕ) (others : List Instr) (nex
 error_turns x (Refused why) k others next later h = row_fails x _ k others next h
 error_turns x NoMemory k others next later h = tt
 
--- so is one by which the row exits
+-- likewise for a result that is such an error
 exit_turns : (x : Outcome) (r : Result Bool RuleError) (e : RuleError) (k : ℕ) (others : List Instr) (next : Context →
     Option (ℕ × Premise)) (later : Option (ℕ × Premise)) → IsErrAnd r (λ f. f ≡ e) → IsRefusal x e →
     Turns (after_row x k others next) k later r

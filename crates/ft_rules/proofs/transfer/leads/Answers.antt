@@ -21,7 +21,8 @@ use Rattle.ft_contexts.proofs.Kept.{memory_stays, owned_kept, forms_kept, variab
 use Rattle.ft_contexts.proofs.Kept.{replacement_stays}
 use Rattle.ft_rules.proofs.transfer.leads.Goals as goal
 
--- an annotated substitution has a row for each of the target's variables, within the scope of the block's own
+-- a substitution that meets Annotation has a row for each of the target's variables, within the scope of the block's
+-- own variables
 annotated_parts : (o : Object) (ints : ℕ) (u : Subst) (t : ℕ) → is_annotated o ints u t ≡ true →
     (length (rows_of o u) ≡ ints_of o t) × (list_all (λ n. nat_le (scope_of o n) ints) (rows_of o u) ≡ true)
     × (nat_le (scope_of o u.memory) ints ≡ true)
@@ -39,7 +40,7 @@ as_many o fs v u ints t e h =
     sym (length-map v.integers (polynomial fs)) ∙ ap (λ (x : Replacement). length x.integers) e
     ∙ length-map (rows_of o u) (integer_form_of o) ∙ (annotated_parts o ints u t h).0
 
--- equal replacements and equal contexts are equally alike
+-- the tests give the same results for equal replacements and equal contexts
 registers_so : (o : Object) (b : Bool) (x y : Replacement) (k l : Context) (rows : List RegType) → b
     ≡ are_like o x k rows → x ≡ y → k ≡ l → b ≡ are_like o y l rows
 registers_so o b x y k l rows h e f = h ∙ ap (λ (z : Replacement). are_like o z k rows) e
