@@ -141,7 +141,7 @@ explained 'a module with other cells' 13 'link 3 1\n' \
   'unlike.obj: error: its cells differ from those of the first module\n  cell 0 has a different name, type or initial word\n' link cells.map
 printf 'module said-count.obj\nexport a 1\nimport b 1\n' >named.map
 explained 'a block named twice' 13 'link 2 3\n' \
-  'named.map:3:1: error: this block is exported or imported already\n import b 1\n ^~~~~~~~~~\n  line 2 names this block\n' link named.map
+  'named.map:3:1: error: this block is already exported or imported\n import b 1\n ^~~~~~~~~~\n  line 2 names this block\n' link named.map
 printf 'module said-count.obj\nmodule mixed.obj\n' >mixed.map
 explained 'a module that is not accepted' 8 'check block 0 index 3 premise 2\n' \
   'mixed.obj: error: block 0, instruction 3: its two operands do not have the same colour (premise 2)\n  add r33 r1 B 0\n  r1: G int\n' \
@@ -298,7 +298,7 @@ la r1 out|1: error: unknown instruction `la`: write `mov` with the address of th
 ret|1: error: unknown instruction `ret`: there are no calls: `jmp_G` and `jmp_B` jump to an address in a register
 CALL main|1: error: unknown instruction `CALL`: there are no calls: `jmp_G` and `jmp_B` jump to an address in a register
 jal main|1: error: unknown instruction `jal`: there are no calls: `jmp_G` and `jmp_B` jump to an address in a register
-nop|1: error: unknown instruction `nop`: leave the line out
+nop|1: error: unknown instruction `nop`: delete the line
 hlt|1: error: unknown instruction `hlt`: write `halt`
 push r1|1: error: unknown instruction `push`: there is no stack: `st_G` and `st_B` store, and `ld_G` and `ld_B` load
 cmp r1 r2|1: error: unknown instruction `cmp`: there are no flags: `eq` and `ltu` write 1 or 0 into a register

@@ -31,7 +31,7 @@ use Rattle.ft_asm.specs.Operands.{reg_word, colour_word, base_word, refs_word, b
 use Rattle.ft_asm.specs.Forms.{number_of, if_below, below, reg_in, colour_in, plain_basic, base_in, one_more_ref}
 use Rattle.ft_asm.specs.Forms.{basic_in, rows_in}
 
--- a reader reads the word of each value that fits as that value, and no other word
+-- a reader reads the word of each value that fits as that value, and reads no other word
 pub record IsField {A : Type 0} (read : List ℕ → Option A) (word : A → List ℕ) (Fits : A → Type 0) : Type 0 where
   pub sound : (w : List ℕ) (a : A) → read w ≡ Some a → Fits a × (w ≡ word a)
   pub complete : (a : A) → Fits a → read (word a) ≡ Some a

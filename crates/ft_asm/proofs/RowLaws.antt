@@ -159,7 +159,7 @@ module _ {A : Type 0} (form_of : A → Form) (Also : A → Type 0) where
         also = subst Also made.is own.1;
       }
 
-  -- if P holds of whatever a row reads, and of the other result, it holds of whatever the table reads
+  -- if P holds of whatever a row reads, and of `other`, it holds of whatever the table reads
   pub among_sound : {B : Type 0} (P : List ℕ → B → Type 0) (read : Row A → Option B) →
       ((r : Row A) → IsRight r → (b : B) → read r ≡ Some b → P r.first b) → (rs : List (Row A)) →
       AllByRecursion IsRight rs → (w : List ℕ) (other : Option B) → ((b : B) → other ≡ Some b → P w b) →

@@ -142,7 +142,7 @@ module _ (o : Object) (x : Strike) (w : List Wild) (n s : ℕ) (q : State) (l : 
           back : (s d : ℕ) → 0 < d → s + d - 1 + 1 ≡ s + d
           back s d some = omega arith
 
-      -- a run with an output that is not the other's is corrupt
+      -- a run whose outputs are not a prefix of the other's is corrupt
       pub went_apart : is_struck o (Some x) w n ≡ true → 0 < t.done →
           ¬ (IsPrefix (take at whole ++ (span o t.done q l).outputs) whole) → IsVerdict o x w n verdicts.Corrupt
       went_apart struck some bad = apart_corrupt o x w n struck (λ p.

@@ -23,7 +23,7 @@ struct Moment<'a, 'w> {
     count: usize,
 }
 
-/// A snapshot of a moment.
+/// Copies this state of the run into a snapshot.
 fn snapshot_of<'w, P: Program>(
     alloc: Global,
     program: &P,
@@ -73,8 +73,8 @@ fn keep_snapshot<'w, P: Program>(
     Ok(())
 }
 
-/// How many steps to take at once from step `k`, with step `n` as the limit: both of an instruction if nothing is
-/// fetched and no snapshot is due in between, otherwise one. `kept` is the number of snapshots.
+/// How many steps to take at once from step `k`, with step `n` as the limit: a fetch and its instruction, if nothing is
+/// fetched yet and no snapshot is due in between; otherwise one. `kept` is the number of snapshots.
 fn steps_at_once(machine: &Machine, k: u64, n: u64, kept: usize) -> u64
     requires before { k < n }
     requires kept { k < 1024 * kept }

@@ -24,7 +24,7 @@ pub fn verdicts_are_one()
     ensures { (o : Object) (x : Strike) (w : List Wild) (n : ℕ) (u v : Verdict) → IsVerdict o x w n u → IsVerdict o x w n v → u ≡ v }
 {}
 
-/// A text is at most one fault list, has at most one refusal besides out of memory, and is never both a list and
+/// A text is at most one fault list, has at most one refusal apart from `NoMemory`, and is never both a list and
 /// refused.
 pub fn one_text_has_one_list()
     ensures list { (text : List ℕ) (xs ys : List Strike) → IsFaultList text xs → IsFaultList text ys → xs ≡ ys }

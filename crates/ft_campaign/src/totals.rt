@@ -81,7 +81,7 @@ fn count_corrupt(verdicts: &[Verdict]) -> u32
     verdicts.iter().filter(|v| is_corrupt(**v)).count() as u32
 }
 
-/// How many of the verdicts there are of each kind.
+/// How many verdicts there are of each kind.
 pub fn totals_of(verdicts: &[Verdict]) -> Totals
     requires { length verdicts.now ≤ 65536 }
     ensures { result ≡ totals_of verdicts.now }

@@ -76,13 +76,13 @@ asked_for words options v operand given other split only h =
     sym (ap (λ u. request_of u h.operand h.given) verbs ∙ ap (λ x. request_of v x h.given) (seconds _ _ _ _ _ _ same)
     ∙ ap (request_of v operand) given_is) ∙ h.request_is
 
--- with a list of faults or without, the request is not for the usage line
+-- whether or not a fault list is given, the request is not for the usage line
 no_usage_of : (f : Word → Request) (x : Option Word) → ((w : Word) → Some (f w) ≡ Some Usage → ⊥) → option_map f x
     ≡ Some Usage → ⊥
 no_usage_of f None h e = absurd (cc)
 no_usage_of f (Some w) h e = h w e
 
--- likewise with a number of turns or without
+-- likewise for a number of turns
 no_usage_of_number : (x : Option ℕ) → option_map Demonstrates x ≡ Some Usage → ⊥
 no_usage_of_number None e = absurd (cc)
 no_usage_of_number (Some n) e = absurd (cc)

@@ -1,4 +1,4 @@
--- The walk that traces code addresses passes each block of an object of well formed blocks, so the object is a module.
+-- The walk that traces code addresses passes each block of an object of well-formed blocks, so the object is a module.
 use Rattle.std.proofs.Common.{◌≡◌, ◌≢◌, ℕ, zero, suc, ◌<◌, ◌≤◌, Bool, true, false, cond, not, ◌==◌, List, [], ◌∷◌, ◌++◌}
 use Rattle.std.proofs.Common.{length, ◌⊎◌, inl, inr, Option, Some, None, is_some, refl, sym, ap, ◌∙◌, subst, arith}
 use Rattle.std.proofs.Common.{slice_get, map}

@@ -151,7 +151,7 @@ abbrev pub HaveSome : Blocks → Type 0
 HaveSome [] = Unit {0}
 HaveSome (x ∷ xs) = (0 < row_size x) × HaveSome xs
 
--- each well formed block has an instruction
+-- each well-formed block has an instruction
 pub fine_have_some : (vars cells blocks b : ℕ) (xs : Blocks) → RowsAreFine vars cells blocks b xs → HaveSome xs
 fine_have_some vars cells blocks b [] h = tt
 fine_have_some vars cells blocks b (x ∷ xs) h = (

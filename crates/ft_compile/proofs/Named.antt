@@ -170,7 +170,7 @@ module _ (F : List Node) where
             (new_named w2.nodes scope t false s refl);
       }
 
-  -- a well formed step keeps the invariant
+  -- a well-formed step keeps the invariant
   pub step_lawful : (vars scope cells blocks : ℕ) (k : Known) (w : Noted) (i : Step3) → scope ≤ 128 → cells ≤ 1024 →
       StepFits cells blocks i → All (λ p. p < 32) (pairs_of i) → ReadsKnown vars k i →
       Starts (step_noted vars scope w i).nodes F → IsLawful scope k w →

@@ -1,4 +1,4 @@
--- The object of well formed blocks carries them, and is spellable and accepted.
+-- The object of well-formed blocks carries them, and is spellable and accepted.
 use Rattle.std.proofs.Common.{◌≡◌, ◌≢◌, ℕ, zero, suc, ◌+◌, ◌<◌, ◌≤◌, true, false, List, [], ◌∷◌, length, Some, refl}
 use Rattle.std.proofs.Common.{sym, ap, ◌∙◌, subst, arith, slice_get, map}
 use Rattle.std.specs.Prelude.{All, slice_range}
@@ -306,6 +306,6 @@ module _ (names : List (List ℕ)) (inits : List ℕ) (vars : ℕ) (bs : Blocks)
     instrs = instrs_many;
   }
 
--- the object of well formed blocks carries them, and is spellable and accepted
+-- the object of well-formed blocks carries them, and is spellable and accepted
 pub emission : EmittedObjectsAreAccepted
 emission = emission_of

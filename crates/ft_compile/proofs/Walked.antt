@@ -102,7 +102,7 @@ blocks_grow vars b w [] = grows_refl w
 blocks_grow vars b w (x ∷ xs) = grows_trans w (block_noted vars b w x) _ (block_grows vars b w x)
     (blocks_grow vars (suc b) (block_noted vars b w x) xs)
 
--- WELL FORMED BLOCKS, ONE AFTER ANOTHER
+-- WELL-FORMED BLOCKS, ONE AFTER ANOTHER
 
 -- the steps of block b are well formed, in a flow of this many blocks
 pub record RowIsFine (vars cells blocks b : ℕ) (x : List Step3) : Type 0 where
@@ -133,7 +133,7 @@ rows_from vars cells blocks b (x ∷ xs) e w p =
           (w (suc j) (omega arith))) (λ k d h. p (suc k) d (omega arith)),
     )
 
--- the blocks of a well formed flow are
+-- the blocks of a well-formed flow are
 pub well_rows : (vars cells : ℕ) (bs : Blocks) → IsWell vars cells bs → RowsAreFine vars cells (length bs) 0 bs
 well_rows vars cells bs h = rows_from vars cells (length bs) 0 bs h.ended (λ j lt. let z : j ≡ 0 + j = omega arith in
     subst (λ n. RowIsWell vars cells (length bs) (known_first vars n) (block_of bs j)) z (h.rows j lt)) h.pairs
@@ -349,7 +349,7 @@ module _ (F : List Node) (R : List ℕ) where
       (begun_lawful F vars b w few s (starts_trans w.nodes v.nodes F wg.nodes hn) h.fine)
       (record { rows = h.covered.rows; chain = h.covered.chain }))
 
--- the notes of well formed blocks are sound
+-- the notes of well-formed blocks are sound
 pub noted_sound : (vars cells : ℕ) (bs : Blocks) → cells ≤ 1024 → vars ≤ 32 → IsWell vars cells bs →
     let v = blocks_noted vars 0 (at_first vars) bs in IsSound v.nodes v.rows v
 noted_sound vars cells bs small few h =

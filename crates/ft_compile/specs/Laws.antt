@@ -38,7 +38,7 @@ pub record IsEmission (names : List (List ℕ)) (inits : List ℕ) (bs : Blocks)
   pub carries : Carries o (length inits) bs
   pub instrs : length o.instrs ≡ blocks_size bs
 
--- the object of well formed blocks over at most 32 variables is such an object
+-- the object of well-formed blocks over at most 32 variables is such an object
 abbrev pub EmittedObjectsAreAccepted : Type 0
 EmittedObjectsAreAccepted = (names : List (List ℕ)) (inits : List ℕ) (vars : ℕ) (bs : Blocks) → AreCells names inits → vars ≤ 32 → IsWell vars (length inits) bs → IsEmission names inits bs (emitted names inits vars bs)
 

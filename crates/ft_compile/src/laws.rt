@@ -7,7 +7,7 @@ pub fn carried_blocks_run_as_meant()
     ensures { CarriedBlocksRunAsMeant }
 {}
 
-/// The object of well formed blocks, over at most 1,024 cells with valid names, carries these blocks, and is spellable
+/// The object of well-formed blocks, over at most 1,024 cells with valid names, carries these blocks, and is spellable
 /// and accepted.
 pub fn emitted_objects_are_accepted()
     ensures { EmittedObjectsAreAccepted }

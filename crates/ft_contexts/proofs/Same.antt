@@ -1,4 +1,4 @@
--- Forms are held as the same exactly when they are equal.
+-- Two `Form`s stand for the same normal form exactly when their polynomials or updates are equal.
 use Rattle.std.proofs.Common.{◌≡◌, ◌↔◌, Bool, true, false, List, Some, refl, ap, sym, ◌∙◌, IsTrue}
 use Rattle.ft_static.specs.Form.{Form as Normal, integer_form, memory_form, Polynomial, Updates, same_polynomial}
 use Rattle.ft_static.specs.Form.{same_updates}
@@ -13,7 +13,7 @@ same_tests true false P h k = sym (k.1 (h.0 refl))
 same_tests false true P h k = h.1 (k.0 refl)
 same_tests false false P h k = refl
 
--- two integers are held as the same exactly when their polynomials are equal
+-- two integers' `Form`s stand for the same normal form exactly when their polynomials are equal
 pub held_integers : (fs : List Normal) (a b : Form) → IsInteger fs a → IsInteger fs b →
     (same_polynomial (polynomial fs a) (polynomial fs b) ≡ true) ↔ (held fs a ≡ held fs b)
 held_integers fs a b h k =
@@ -24,7 +24,7 @@ held_integers fs a b h k =
           ∙ k.found in cc),
     )
 
--- two memories are held as the same exactly when their updates are equal
+-- two memories' `Form`s stand for the same normal form exactly when their updates are equal
 pub held_memories : (fs : List Normal) (a b : Form) → IsMemory fs a → IsMemory fs b →
     (same_updates (updates_held fs a) (updates_held fs b) ≡ true) ↔ (held fs a ≡ held fs b)
 held_memories fs a b h k =

@@ -15,7 +15,7 @@ use std::alloc::Global;
 use std::sync::ledger::Ledger;
 
 /// What the blocks of an object share: their variables; and room for what a transfer substitutes for its target's
-/// variables, with the forms made of nodes under that substitution.
+/// variables, with the forms made for nodes under that substitution.
 #[derive(Drop)]
 pub struct Shared {
     pub own: OwnVariables,
@@ -27,7 +27,7 @@ impl Shared {
     ghost use Rattle.ft_types.specs.declared.object.Object.{Object};
     ghost use Rattle.ft_contexts.specs.Contexts.{HoldsOwn, HoldsVariables, RemembersUnder, replacement_in};
 
-    /// No form of a node has been made yet, and nothing is substituted for variables.
+    /// No node has a form yet, and nothing is substituted for variables.
     pub fn new(alloc: Global, forms: &mut Interner) -> Result<Shared, NoMemory>
         ensures kept { Keeps forms.old forms.new }
         ensures own { (o : Object) → IfOk result (λ s. HoldsOwn o forms.new s.own) }

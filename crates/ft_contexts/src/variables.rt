@@ -86,7 +86,7 @@ impl OwnVariables {
     ghost use Rattle.ft_types.specs.declared.object.Object.{Object};
     ghost use Rattle.ft_contexts.specs.Contexts.{HoldsOwn};
 
-    /// No form of a node has been made yet.
+    /// No node has a form yet.
     pub fn new(alloc: Global, forms: &mut Interner) -> Result<OwnVariables, NoMemory>
         ensures kept { Keeps forms.old forms.new }
         ensures own { (o : Object) → IfOk result (HoldsOwn o forms.new) }

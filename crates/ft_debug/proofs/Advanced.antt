@@ -112,7 +112,7 @@ walk_stays o w halts zero s e = refl
 walk_stays o w halts (suc n) s e = stays_if (halts (present o w s).state) (is_running (present o w s).state.status)
     (after_lines (step_lines o (present o w s)) (walks o w halts n (further s))) (stays s) s e
 
--- any other machine takes a step, and walks on
+-- any other machine takes a step, and the walk goes on
 pub walk_takes : (o : Object) (w : List Wild) (halts : State → Bool) (n : ℕ) (s : Session) → 0 < n →
     (not (halts (present o w s).state) && is_running (present o w s).state.status) ≡ true
     → walks o w halts n s ≡ after_lines (step_lines o (present o w s)) (walks o w halts (n - 1) (further s))

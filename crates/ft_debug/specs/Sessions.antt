@@ -171,7 +171,7 @@ further s = record s { position = s.position + 1; low = max s.low (s.position + 
 abbrev pub step_lines : Object → Shown → List (List ℕ)
 step_lines o now = map (line_at o) (option_to_list (step o now.state now.wild).output)
 
--- a running machine takes a step, and then `more` is done; a stopped one stays
+-- a running machine takes a step, and then `more` is done; a stopped one stays as it is
 abbrev pub takes_step : Object → List Wild → (Session → Reply) → Session → Reply
 takes_step o w more s = if is_running (present o w s).state.status then after_lines (step_lines o (present o w s)) (more (further s)) else stays s
 

@@ -124,7 +124,7 @@ opening_applies n c is rest =
     (with_type 32 (known Blue (ref int) place) (with_type 0 (known Green (ref int) place) c))) refl
     (next_row (opened c) refl rest)))
 
--- the part from a list's first value to its last is the list
+-- the slice from a list's first value to its last is the list
 whole_range : (is : List Instr) → slice_range is 0 (length is) ≡ is
 whole_range is = grind (arith, common_steps)
 

@@ -35,7 +35,7 @@ turns_bare (suc n) i = turns_bare n (suc i)
 small : (w : ℕ) → w ≤ 2000000 → IsWord w
 small w le = omega (arith, le)
 
--- what holds by recursion holds of all
+-- `AllByRecursion` implies `All`
 all_in_turn : {X : Type 0} (P : X → Type 0) (xs : List X) → AllByRecursion P xs → All P xs
 all_in_turn P [] h = All-nil P
 all_in_turn P (x ∷ xs) h = All-cons P x xs h.0 (all_in_turn P xs h.1)

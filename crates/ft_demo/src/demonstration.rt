@@ -102,7 +102,7 @@ fn spelled_sample(alloc: Global, turns: u32) -> Result<Vec<u8>, NoMemory>
     Ok(bytes)
 }
 
-/// The object in bytes that break no rule of the format.
+/// The view of bytes that break no rule of the format.
 fn view_of(bytes: &[u8]) -> View<'_>
     requires { broken bytes.now ≡ None }
     ensures { result ≡ bytes.now }

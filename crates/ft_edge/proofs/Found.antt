@@ -7,7 +7,7 @@ use Rattle.std.specs.FinMap.{find}
 use Rattle.ft_edge.specs.declared.mem_shelf.Stored.{Stored}
 use Rattle.ft_edge.specs.Stored.{entry_of}
 
--- the first file is the result if its name matches, otherwise the rest decides
+-- the first file is the result if its name matches; otherwise the other files decide
 pub find_entry : (q : List ℕ) (s : Stored) (rest all : List Stored) (b : Bool) → all ≡ s ∷ rest → b
     ≡ pointwise nat_eq q (string_bytes s.name)
     → find (slice_cmp nat_cmp) q (map entry_of all)

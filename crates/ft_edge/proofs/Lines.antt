@@ -73,7 +73,7 @@ breaks_then xs ys old mid new h i = record {
   fails = subst (λ log. FailsPut i.line log new) (ap (with_lines i.done) h ∙ lines_more xs i.done old) i.fails;
 }
 
--- a put failed, and more lines should have followed
+-- a put failed, with more lines still to come
 pub breaks_before : (xs more : List (List ℕ)) (old new : SinkLog) → BreaksOff xs old new →
     BreaksOff (xs ++ more) old new
 breaks_before xs more old new h = record {

@@ -44,8 +44,8 @@ fn reserve_whole(into: &mut Vec<u8>, limit: usize, size: usize) -> Result<(), Lo
     }
 }
 
-/// Makes room past the filled part of the vector, if there is none: at most one piece, at most one byte past the size
-/// if less than that is filled, and never more than one byte past the limit.
+/// If the vector has no room past its filled part, adds some: at most one piece, never beyond `limit` + 1 bytes, and
+/// not beyond `size` + 1 while fewer than `size` are filled.
 fn make_room(into: &mut Vec<u8>, filled: usize, limit: usize, size: usize) -> Result<(), LoadFault>
     requires few { filled ≤ limit }
     requires part { filled ≤ length into.old.items }

@@ -1,7 +1,7 @@
 //! The outside world: files on a shelf, a script to read and an output to write, each with a count of failures.
 //!
-//! The crate promises how a call changes content that is known, that a load, a put or a take fails only if its count
-//! rises or memory runs out, and exactly what each in-memory implementation returns. Its definitions:
+//! The crate promises how each call changes known content; that a load, a put or a take fails only if its count of
+//! failures rises or memory runs out; and exactly what each in-memory implementation returns. Its definitions:
 //! `specs/Causes.antt` and `specs/Loads.antt` for the traits, `specs/Calls.antt` and the `Memory` files for the
 //! in-memory implementations, and `specs/Streams.antt` for those over the system.
 #![tactic(auto)]

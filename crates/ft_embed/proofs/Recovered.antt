@@ -47,7 +47,7 @@ outputs_count o strike w steps taken s count new a = sym (length-take-le count n
 
 module _ (o : Object) (strike : Option Strike) (w : List Wild) (steps : ℕ) (spellable : IsSpellable o)
     (accepted : IsAccepted o) where
-  -- the run without the fault could also take each step that a run could take
+  -- the run without the fault could also take each step that the struck run could take
   clean_until : (taken room : ℕ) → GoesUntil o strike w taken room → GoesUntil o None w taken room
   clean_until taken room h n below =
       let x = h n below in

@@ -134,7 +134,7 @@ number_after o i s p = number_further _ p
 abbrev pub ran : State → List Output → Ran
 ran s os = record { state = s; wild = []; outputs = os }
 
--- a state that both share: not between the two, and not about to execute the first
+-- a state that both runs share: not between the two instructions, and not about to execute the first
 pub record Clear (n : ℕ) (s : State) : Type 0 where
   pub not_between : s.status ≡ Running → s.pc_green ≢ suc (suc n)
   pub not_fetched : s.status ≡ Running → (i : Instr) → s.fetched ≡ Some i → s.pc_green ≢ suc n

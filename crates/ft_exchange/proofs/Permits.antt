@@ -1,4 +1,4 @@
--- What a permitted exchange says of its two instructions.
+-- What a permitted exchange implies about its two instructions.
 use Rattle.std.proofs.Common.{◌≡◌, ℕ, Bool, true, false, not, ◌||◌, ◌==◌, Option, Some, refl, subst, eqb-true}
 use Rattle.std.proofs.lemmas.Bool.{and_parts, not-true}
 use Rattle.ft_isa.specs.declared.colour.Colour.{Colour}
@@ -55,7 +55,7 @@ leading i h = by_kind (kind_of i) h
     by_kind (store Blue rd rs) h = cc
     by_kind {i = i} (write r f w) h = leading_write r w (λ k rd rs e. leading_load i k rd rs h e)
 
--- what a permitted exchange says
+-- what a permitted exchange implies
 pub record Permits (n : ℕ) (first second : Instr) : Type 0 where
   pub trails : Trailing first
   pub leads : Leading second

@@ -1,4 +1,4 @@
--- How rows change the length of the static queue; and only fixed instructions end a block.
+-- How rows change the length of the static queue, and why only fixed instructions end a block.
 use Rattle.std.proofs.Common.{◌≡◌, suc, ◌+◌, Bool, true, cond, not, List, [], ◌∷◌, ◌++◌, length, refl, ap, arith}
 use Rattle.std.specs.List.{count_by}
 use Rattle.std.proofs.lemmas.List.Sums.{sum_by-cons}

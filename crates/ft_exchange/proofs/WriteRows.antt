@@ -66,7 +66,7 @@ unfoldable pub write_row : ℕ → Context → Option Typed → Premise → Outc
 write_row r c (Some t) p = Goes (with_type r t c)
 write_row r c None p = Fails p
 
--- a row that continues after a write
+-- an outcome is the row of a write that gives register r this type, if any
 pub record Gave (r : ℕ) (c : Context) (u : Option Typed) (x : Outcome) : Type 0 where
   pub failing : Premise
   pub row_is : x ≡ write_row r c u failing
@@ -147,7 +147,7 @@ gave o c (Idx rd rs first m) r e = gave_there _ _ _ _ _ e
     (gave_idx first m rd.number c (run_type o first m) (typed c rs.number))
 gave o c i r e = cc
 
--- what a write whose row continued gave
+-- a write whose row continued, and the type that it gave its register
 pub record Wrote (r : ℕ) (c d : Context) (u : Option Typed) : Type 0 where
   pub what : Typed
   pub given : u ≡ Some what

@@ -41,7 +41,7 @@ has_room first second n = not (is_blue_store first && is_green_store second) || 
 
 -- EXCHANGES
 
--- whether two neighbours of one block may be exchanged, if the static queue has n pairs before the first: the first is
+-- whether two neighbours in a block may be exchanged, if the static queue has n pairs before the first: the first is
 -- trailing and the second leading (so neither is a jump, a branch or `halt`), neither writes a register that the other
 -- reads or writes, and there is room in the static queue
 abbrev pub may_exchange : ℕ → Instr → Instr → Bool

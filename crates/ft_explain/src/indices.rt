@@ -107,7 +107,7 @@ fn length_of(source: &[u8], name: &[u8]) -> Option<u64> {
     None
 }
 
-/// Says that an index is beyond its array, and which cell it selects.
+/// Says that an index is past the end of its array, and which cell it selects.
 fn say_beyond(
     page: &mut Page,
     name: &str,
@@ -125,7 +125,7 @@ fn say_beyond(
     place.show(page, index.number.length)
 }
 
-/// Reports an index if it is beyond its array; otherwise returns false.
+/// Reports an index if it is past the end of its array; otherwise returns false.
 fn say_if_beyond(
     page: &mut Page,
     name: &str,
@@ -144,7 +144,7 @@ fn say_if_beyond(
     }
 }
 
-/// Reports the first constant index beyond its array.
+/// Reports the first constant index past the end of its array.
 fn say_first(page: &mut Page, name: &str, source: &[u8]) -> Result<(), NoMemory> {
     let mut lexer = Lexer::new(source);
     let mut seen = NOTHING;
@@ -164,7 +164,7 @@ fn say_first(page: &mut Page, name: &str, source: &[u8]) -> Result<(), NoMemory>
     Ok(())
 }
 
-/// For an accepted source, reports where a constant index is beyond its array.
+/// For an accepted source, reports where a constant index is past the end of its array.
 pub(crate) fn note_indices<S: Shelf>(
     page: &mut Page,
     name: &str,

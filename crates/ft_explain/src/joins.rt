@@ -18,14 +18,14 @@ struct Asked<'m> {
     block: u32,
 }
 
-/// The export or import that the rest of a line, after its first word, asks for.
+/// The export or import that a line describes, given the rest of the line after its first word.
 fn asked_of(rest: &str) -> Option<Asked<'_>> {
     let (name, block) = rest.split_once(' ')?;
     let block = u32::try_from(read_number(block.as_bytes())?).ok()?;
     Some(Asked { name, block })
 }
 
-/// The export or import that a line asks for.
+/// The export or import that a line describes.
 fn asked_by(line: &str) -> Option<Asked<'_>> {
     let (_, rest) = line.split_once(' ')?;
     asked_of(rest)
@@ -43,12 +43,12 @@ fn line_at(map: &str, wanted: u64) -> Option<&str> {
     None
 }
 
-/// The export or import that the line with this number, counted from 1, asks for.
+/// The export or import that the line with this number, counted from 1, describes.
 fn asked_in(map: &str, wanted: u64) -> Option<Asked<'_>> {
     asked_by(line_at(map, wanted)?)
 }
 
-/// The number of the first line that begins with this word and asks for this name.
+/// The number of the first line that begins with this word and gives this name.
 fn line_with(map: &str, word: &str, name: &str) -> Option<u64> {
     let mut number: u64 = 1;
     for line in map.lines() {

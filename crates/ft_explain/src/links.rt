@@ -154,8 +154,8 @@ fn say_misplaced(page: &mut Page, line: &str, modules: u64) -> Result<(), NoMemo
 fn line_words(number: u64, line: &[u8]) -> &'static str {
     match number {
         1 => "this line is not allowed here",
-        2 if line.starts_with(b"import ") => "this block is exported or imported already",
-        2 => "this name is exported already, or this block is imported already",
+        2 if line.starts_with(b"import ") => "this block is already exported or imported",
+        2 => "this name is already exported, or this block is already imported",
         7 => "the module has no such block",
         8 => "the imported block is not a stub: a stub is a single `halt`",
         9 => "no line exports this name",

@@ -42,7 +42,7 @@ fn states(instr: Instr) -> &'static str {
 fn ends(instr: Instr) -> &'static str {
     match instr {
         Instr::JmpB { .. } | Instr::Halt => "it ends the block, but instructions follow it there",
-        _ => "it is the last instruction of its block, and a block ends with `jmp_B` or `halt`",
+        _ => "it is the last instruction of its block, but a block must end with `jmp_B` or `halt`",
     }
 }
 

@@ -14,7 +14,7 @@ const TEXTS: &[(&str, &str)] = &[
     ),
     (
         "NOP\n",
-        "file:1:1: error: unknown instruction `NOP`: leave the line out\n NOP\n ^~~\n",
+        "file:1:1: error: unknown instruction `NOP`: delete the line\n NOP\n ^~~\n",
     ),
     (
         "rev r1 r2\n",

@@ -22,12 +22,12 @@ const MAPS: &[(&str, &str, &str)] = &[
     (
         "module m\nexport go 0\nexport go 1\n",
         "link 2 3\n",
-        "map:3:1: error: this name is exported already, or this block is imported already\n export go 1\n ^~~~~~~~~~~\n  line 2 exports this name\n",
+        "map:3:1: error: this name is already exported, or this block is already imported\n export go 1\n ^~~~~~~~~~~\n  line 2 exports this name\n",
     ),
     (
         "module m\nexport go 0\nimport go 0\n",
         "link 2 3\n",
-        "map:3:1: error: this block is exported or imported already\n import go 0\n ^~~~~~~~~~~\n  line 2 names this block\n",
+        "map:3:1: error: this block is already exported or imported\n import go 0\n ^~~~~~~~~~~\n  line 2 names this block\n",
     ),
     (
         MAP,

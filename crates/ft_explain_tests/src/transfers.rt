@@ -58,7 +58,7 @@ const REFUSED: &[Refused] = &[
     (
         P17,
         &[],
-        "file: error: block 0, instruction 5: it is the last instruction of its block, and a block ends with `jmp_B` or `halt` (premise 17)\n  st_B r32 r33\n  r32: B ref:int\n  r33: B int\n",
+        "file: error: block 0, instruction 5: it is the last instruction of its block, but a block must end with `jmp_B` or `halt` (premise 17)\n  st_B r32 r33\n  r32: B ref:int\n  r33: B int\n",
     ),
 ];
 

@@ -34,7 +34,7 @@ abbrev pub IsSiteRead : SiteRead → Type 0
 IsSiteRead (sites.Whole site) = IsSite site
 IsSiteRead _ = Unit {0}
 
--- a state records one byte more than these bytes
+-- a state records these bytes and then this one
 abbrev pub GoesOn : List ℕ → ℕ → SiteRead → Type 0
 GoesOn told b after = (site_told after ≡ told ++ b ∷ []) × IsSiteRead after
 

@@ -31,7 +31,7 @@ IsStrikeRead (AtStep number) = IsNumberRead number
 IsStrikeRead (AtSite step site) = IsWord step × IsSiteRead site
 IsStrikeRead (AtValue step site value) = IsWord step × IsSite site × IsNumberRead value
 
--- a state records one byte more than these bytes
+-- a state records these bytes and then this one
 abbrev GoesOn : List ℕ → ℕ → StrikeRead → Type 0
 GoesOn told b after = (strike_told after ≡ told ++ b ∷ []) × IsStrikeRead after
 
@@ -62,7 +62,7 @@ value_inside step site m n b e =
     let made = of_map {A = ℕ} Some (with_digit m b) n e in
     ap (option_map (λ more. AtValue step site (Some more))) made.1.0 ∙ ap (λ x. Some (AtValue step site x)) made.1.1
 
--- a site that continues, with the pieces around it
+-- a site in two parts, between the step and the value
 joined : (step told rest site value : List ℕ) → told ++ rest ≡ site → step ++ codes ":" ++ told
     ++ (rest ++ codes ":" ++ value) ≡ step ++ codes ":" ++ site ++ codes ":" ++ value
 joined step told rest site value e = sym (ap (λ ds. step ++ codes ":" ++ ds ++ codes ":" ++ value) (sym e)

@@ -31,7 +31,7 @@ abbrev pub IsAnswerRead : AnswerRead → Type 0
 IsAnswerRead (answers.Number word) = IsWord word
 IsAnswerRead _ = Unit {0}
 
--- a state records one byte more than these bytes
+-- a state records these bytes and then this one
 abbrev GoesOn : List ℕ → ℕ → AnswerRead → Type 0
 GoesOn told b after = (answer_told after ≡ told ++ b ∷ []) × IsAnswerRead after
 
@@ -143,7 +143,7 @@ passed_text_push (first ∷ done) answer =
     ap (λ ds. answer_text first ++ codes "," ++ ds) (passed_text_push done answer)
     ∙ sym (append_assoc (answer_text first ++ codes ",") (passed_text done) (answer_text answer ++ codes ","))
 
--- with a comma before each answer, there is one in front and one after each answer but the last
+-- putting a comma before each answer puts one in front, and one after each answer but the last
 more_answers_push : (done : List Wild) (answer : Wild) → more_answers_text (done ++ answer ∷ []) ≡ codes ","
     ++ (passed_text done ++ answer_text answer)
 more_answers_push [] answer = append-nil (codes "," ++ answer_text answer)

@@ -179,7 +179,7 @@ impl<'a> Lexer<'a> {
         }
     }
 
-    /// The next token, or the error of the text, or `None` at the end. After the error or the end it is always `None`.
+    /// The next token, or the text's error, or `None` at the end. After the error or the end it is always `None`.
     pub fn next(&mut self) -> Option<Result<Token<'a>, LexError>>
         ensures tells { left self.old ≡ told result (left self.new) }
         ensures end { IfNone result (left self.new ≡ over) }

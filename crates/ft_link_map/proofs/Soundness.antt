@@ -73,7 +73,7 @@ by_more n k le asks h = λ i d lt. omega (arith, le, h i d lt)
 above : (n : ℕ) (asks : List Ask) (a : Ask) → All (IsBy n) asks → a.line ≡ suc n → All (λ (x : Ask). IsAbove x a) asks
 above n asks a h e = λ i d lt. omega (arith, e, h i d lt)
 
--- line n + 1 is none of the first n
+-- line n + 1 is not among the first n
 apart : (n : ℕ) (asks : List Ask) (a : Ask) → All (IsBy n) asks → a.line ≡ suc n → All (HaveTwoLines a) asks
 apart n asks a h e = λ i d lt same. absurd (omega (arith, e, same, h i d lt))
 

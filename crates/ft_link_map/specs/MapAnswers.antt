@@ -1,4 +1,4 @@
--- The map that the lines of a text describe, and which line is refused if they describe none.
+-- The map that the lines of a text describe, or the line that is refused if they describe none.
 use Rattle.std.specs.Prelude.{◌≡◌, ℕ, suc, ◌-◌, Bool, false, ◌&&◌, ◌||◌, ◌==◌, nat_lt, if◌then◌else◌, List, [], ◌∷◌, ◌++◌, length, Option, Some, None, Result, Ok, Err}
 use Rattle.std.specs.List.{list_any}
 use Rattle.std.specs.Str.{bytes_eq}

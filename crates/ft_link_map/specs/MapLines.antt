@@ -43,7 +43,7 @@ IsWritten (Export name block) line = (is_block_name name ≡ true) × (block < 2
 IsWritten (Import name block) line = (is_block_name name ≡ true) × (block < 2 ^ 32) × (line ≡ codes "import " ++ name ++ codes " " ++ decimal block)
 IsWritten Bad line = ⊥
 
--- what a line says: it is written in that form; a bad line has none of the forms
+-- the line says this: it is written in this form, or it is bad and has none of the forms
 abbrev pub Says : List ℕ → MapLine → Type 0
 Says line Bad = (other : MapLine) → ¬ (IsWritten other line)
 Says line said = IsWritten said line

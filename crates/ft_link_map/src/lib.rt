@@ -1,7 +1,7 @@
 //! Link maps: the modules that are linked, and what they export and import.
 //!
 //! The crate promises that a text is read as the map that its lines describe, or refused at the first
-//! misplaced line, else at the first repeated one; and that an accepted map is sound.
+//! misplaced line, or else at the first repeated one; and that an accepted map is sound.
 //! `specs/MapLines.antt` defines lines, `MapAnswers.antt` their map or refusal, and `Sound.antt` what a
 //! sound map is.
 #![tactic(auto)]

@@ -72,7 +72,7 @@ pub few_by_totals : (t : Totals) (ms : List Object) → t ≡ totals_of ms → h
 unfolding are_few
 few_by_totals t ms e = ap has_few e
 
--- there are at most as many modules as code types, since each module has one
+-- there are at most as many modules as code types, since each module has at least one
 count_types : (ms : List Object) → All IsSpellable ms → length ms ≤ sum_by (λ (o : Object). length o.types) ms
 count_types [] h = omega arith
 count_types (o ∷ os) h =

@@ -13,8 +13,8 @@ pub record AreNumbered (nodes : List Node) (cs : List ℕ) : Type 0 where
   pub count : length cs ≡ length nodes
   pub trees : AreTreeNumbers nodes cs (length nodes)
 
--- the first n nodes have these numbers; for each node's key, its number is known; and a number that is known for a key
--- is the index of a node with that key
+-- the first n nodes have these numbers; the number known for each node's key is the node's own; and each number known
+-- for a key is the index of a node with that key
 pub record AreKnown (nodes : List Node) (cs : List ℕ) (n : ℕ) (known : Shape → Option ℕ) : Type 0 where
   pub count : length cs ≡ n
   pub trees : AreTreeNumbers nodes cs n

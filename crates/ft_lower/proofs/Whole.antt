@@ -148,7 +148,7 @@ ends_from : (bs : Blocks) (f : FlowState) (k t : ℕ) (s : State) → Follows bs
 ends_from bs f k t s h le = let e = done_stays bs f h.0 k (omega (arith, h.1)) h.2 in
     (ap (λ (x : FlowState). x.done) e ∙ h.2, ap (λ (x : FlowState). x.out) e ∙ h.3)
 
--- if the program is cut, its outputs are, after as many steps, a prefix of the run's
+-- if the program is cut, its outputs are a prefix of the run's after twice its work plus 40 steps, or more
 cuts_from : (bs : Blocks) (f : FlowState) (k t : ℕ) (s : State) → Follows bs f t (Cut s) → 2 * s.work + 40 ≤ k →
     Begins s.out (steps bs k f).out
 cuts_from bs f k t s h le = subst (λ o. Begins o (steps bs k f).out) h.4 (out_grows bs f h.0 k (omega (arith, h.2)))

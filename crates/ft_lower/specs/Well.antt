@@ -1,4 +1,4 @@
--- Well formed flows: blocks end properly, jumps go to existing blocks, and steps read pairs that are known.
+-- Well-formed flows: blocks end properly, jumps go to existing blocks, and steps read pairs that are known.
 use Rattle.std.specs.Prelude.{◌≡◌, ◌≢◌, ℕ, zero, suc, ◌<◌, ◌≤◌, Bool, true, false, cond, List, [], ◌∷◌, ◌==◌, nat_lt, length, take}
 use Rattle.ft_isa.specs.Words.{IsWord}
 use Rattle.ft_scope.specs.declared.slot.Slot.TheVariants.{Run}

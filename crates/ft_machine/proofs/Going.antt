@@ -63,7 +63,7 @@ effect_status effects.Detected b green blue f = refl
 pub rest_below : (n m j : ℕ) → n ≤ j → j < n + m → j - n < m
 rest_below n m j le below = omega arith
 
--- the last step still gives an output if the outputs are equal, or if others come before them
+-- `EndsWith` carries over to equal outputs, and to outputs that follow others
 pub last_as : (pause : Pause) (f g : ℕ → List Output) (n : ℕ) → ((i : ℕ) → i ≤ n → f i ≡ g i) → EndsWith pause f n →
     EndsWith pause g n
 last_as pauses.Running f g n same h = tt
@@ -89,7 +89,7 @@ last_after pauses.Refused front f g n m whole (j, (x, (is, outputs))) = (
   ),
 )
 
--- the last step gave the output that it returned
+-- if the outlet does not go on, the outputs end with the one that the last step returned
 last_one : (pause : Pause) (last : Stepped) (f : ℕ → List Output) (n j : ℕ) → n ≡ j + 1 →
     (pause ≡ pauses.Refused → (output : Output) × (last ≡ Commit output))
     → f n ≡ f j ++ option_to_list (output_told last) → EndsWith pause f n

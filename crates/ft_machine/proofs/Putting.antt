@@ -23,7 +23,7 @@ one_line [] line x rest h = cc
 one_line (y ∷ []) line x rest h = absurd (cc)
 one_line (y ∷ (z ∷ zs)) line x rest h = absurd (cc)
 
--- putting one line makes it a piece, even if the put fails
+-- putting a line records it as a piece, even if the put fails
 line_pieces : (r : Result (Unit {0}) Failed) (line : List ℕ) (old new : SinkLog) →
     Puts (end_of_puts r) (line ∷ []) old new → new.pieces ≡ append_told old.pieces (line ∷ [])
 line_pieces (Ok done) line old new h = ap (λ (log : SinkLog). log.pieces) h

@@ -148,7 +148,7 @@ impl Machine {
         }
     }
 
-    /// The stores that wait for their blue half.
+    /// The stores that wait for their blue counterparts.
     pub fn queue(&self) -> &StoreQueue
         ensures { result.now ≡ self.now.queue }
     {

@@ -21,7 +21,7 @@ pub(crate) struct Stretch {
     pub pause: Pause,
 }
 
-/// The maximum number of instructions in a stretch, so that no place overflows.
+/// The maximum number of instructions in a stretch, chosen so that no place overflows.
 const MOST: u64 = 0xffff_ffff;
 
 /// How many instructions a stretch of at most `steps` steps executes.

@@ -45,10 +45,10 @@ fn end_of_run(run: Result<(), Stop>) -> MeanEnd
     }
 }
 
-/// Computes a program's meaning with this many loop turns for the whole run. With the result `Ended` or `Cut`, the
-/// meaning ended or was cut, as the result says, and a line was written for each of its outputs, each with one put.
-/// `WriteFault` and `NoMemory` do not say how the meaning ends: with `WriteFault` the put of a line failed, the lines
-/// before it were written and nothing was put after it; with `NoMemory` nothing was put.
+/// Computes a program's meaning with this many loop turns for the whole run. `Ended` and `Cut` say that the meaning
+/// ended or was cut; a line was then written for each of its outputs, each with one put. `WriteFault` and `NoMemory` do
+/// not say how the meaning ends: with `WriteFault` the put of a line failed, the lines before it were written and
+/// nothing was put after it; with `NoMemory` nothing was put.
 ///
 /// The time is proportional to the work, and the recursion is no deeper than statements and operators nest in the
 /// source.

@@ -1,7 +1,7 @@
 //! How commands are written, and what their help says.
 //!
-//! `build/help.awk` reads these lists, too, to answer calls for help before the program is compiled. So each list ends
-//! with `];` at the start of a line.
+//! `build/help.awk` reads these lists too, to answer requests for help before the program is compiled. So each list
+//! ends with `];` at the start of a line.
 
 /// The commands, three lines each: how it is written, what it does, and an example.
 pub(crate) const COMMANDS: &[&str] = &[

@@ -95,7 +95,7 @@ fn say_options(page: &mut Page, command: &'static str) -> Result<(), NoMemory> {
     Ok(())
 }
 
-/// Writes the help of a command: how it is written, what it does, its options and an example.
+/// Writes the help for a command: how it is written, what it does, its options and an example.
 pub(crate) fn say_help_of(page: &mut Page, command: &'static str) -> Result<(), NoMemory> {
     let (summary, example) = summary_and_example(command);
     say_version(page)?;

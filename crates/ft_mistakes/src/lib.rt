@@ -1,7 +1,7 @@
-//! Explains, for people, what is wrong with the words of a call, with a text, or with an object's bytes.
+//! Explains to people what is wrong with the words of a call, with a text, or with an object's bytes.
 //!
 //! Each explanation is written to a `Page`: the place in the file, the line there, what is wrong with it and
-//! what is expected. The crate runs nothing and checks no types; `ft_explain` does, and builds on this crate.
+//! what is expected. The crate runs nothing and checks no types; `ft_explain`, which builds on it, does both.
 //! It promises nothing about the wording. Each call is safe and terminates.
 #![tactic(auto)]
 

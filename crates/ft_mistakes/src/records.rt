@@ -21,7 +21,7 @@ pub(crate) enum Part {
     Name,
 }
 
-/// A record: its kind, its number in its section, and its first byte.
+/// A record: its kind, its number in its section, and the place of its first byte.
 #[derive(Clone, Copy)]
 pub(crate) struct Record {
     pub part: Part,

@@ -99,7 +99,7 @@ impl<'t> Breach<'t> {
         word(self.place.line(), self.number)
     }
 
-    /// Whether a basic type belongs in the place of the word.
+    /// Whether the word should be a basic type.
     fn is_basic(&self) -> bool {
         match self.record.part {
             Part::Cell => self.number == 2,
@@ -109,7 +109,7 @@ impl<'t> Breach<'t> {
         }
     }
 
-    /// Whether the number of a memory belongs in the place of the word.
+    /// Whether the word should be the number of a memory.
     fn is_memory(&self) -> bool {
         match self.record.part {
             Part::Type | Part::Instr => true,

@@ -1,4 +1,4 @@
--- A module is refused only for totals, and never by itself.
+-- A module is refused only because of totals, and never if it is the only module.
 use Rattle.std.proofs.Common.{◌≡◌, ℕ, ◌+◌, true, ◌&&◌, List, [], ◌∷◌, ◌++◌, None, refl, ap, ◌∙◌, subst, arith}
 use Rattle.std.specs.List.{list_all}
 use Rattle.std.specs.Option.{option_or, option_map}
@@ -14,7 +14,7 @@ use Rattle.ft_modules.specs.LinkRefusals.{first_walk_fault, are_few, unless, mod
 use Rattle.ft_modules.proofs.Deciding.{are_cells, are_plain_cells, are_plain_rows, or_none, walk_without_fault}
 use Rattle.ft_modules.proofs.Deciding.{are_few_of}
 
--- a module is refused only for totals
+-- a module is refused only because of totals
 pub totals_alone : (cells : List Cell) (o : Object) → IsModule cells o → (earlier : List Object) (m : ℕ) →
     module_refusal earlier m cells o ≡ unless (are_few (earlier ++ o ∷ [])) (TooBig m)
 totals_alone cells o h earlier m =

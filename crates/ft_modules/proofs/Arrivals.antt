@@ -40,7 +40,7 @@ use Rattle.ft_modules.proofs.World.{block_place, block_begins, block_start_fits}
 
 -- LISTS
 
--- elements at the same place of two lists
+-- elements at the same place in two lists
 pub zip_at : {A B : Type 0} (R : A → B → Type 0) (xs : List A) (ys : List B) (k : ℕ) (x : A) (y : B) → AllZip R xs ys →
     slice_get xs k ≡ Some x → slice_get ys k ≡ Some y → R x y
 zip_at R [] ys k x y l e f = cc

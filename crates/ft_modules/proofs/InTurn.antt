@@ -7,12 +7,12 @@ use Rattle.ft_types.specs.declared.object.Object.{Object}
 use Rattle.ft_types.specs.declared.object.Cell.{Cell}
 use Rattle.ft_modules.specs.LinkRefusals.{module_refusal, modules_refusal}
 
--- an option, or else `None`
+-- `option_or` with `None` on the right changes nothing
 or_nothing : {X : Type 0} (a : Option X) → option_or a None ≡ a
 or_nothing None = refl
 or_nothing (Some x) = refl
 
--- the first of three options
+-- `option_or` is associative
 or_grouped : {X : Type 0} (a b c : Option X) → option_or a (option_or b c) ≡ option_or (option_or a b) c
 or_grouped None b c = refl
 or_grouped (Some x) b c = refl

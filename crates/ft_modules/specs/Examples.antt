@@ -39,7 +39,7 @@ only_stub = one_block 0 (Halt ∷ [])
 abbrev pub go : ℕ → ℕ → ℕ → Ask
 go m b l = record { «module» = m; block = b; name = codes "go"; line = l }
 
--- a map of two modules with an import of this block of the first and an export of block 0 of the second
+-- a map of two modules that imports this block of the first and exports block 0 of the second
 abbrev pub importing : ℕ → LinkMap
 importing b = record { files = codes "m" ∷ codes "a" ∷ []; exports = go 1 0 4 ∷ []; imports = go 0 b 2 ∷ [] }
 
@@ -87,6 +87,6 @@ holds_address = record storer { cells = record { name = codes "out"; basic = cod
 abbrev pub machine_at : ℕ → ℕ → ℕ → Option Instr → InModule
 machine_at m g b f = record { number = m; state = record (start caller) { pc_green = g; pc_blue = b; fetched = f } }
 
--- where it is sent, before a step of the modules' run of the caller and the storer
+-- where a machine is sent before a step, in the modules' run of the caller and the storer
 abbrev pub sent_from : InModule → InModule
 sent_from x = sent (caller ∷ storer ∷ []) (links (importing 1)) x

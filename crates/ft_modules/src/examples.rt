@@ -41,8 +41,8 @@ pub fn examples_of_walks()
     ensures unknown { code_walk caller finite.empty 0 (JmpG r1 ∷ Halt ∷ []) ≡ Some 0 }
 {}
 
-/// Where a machine is sent before a step: from the stub at address 5 to the storer's block; but nowhere from another
-/// address, if something is fetched, if the counters differ, or in the storer.
+/// Where a machine is sent before a step: from the stub at address 5 to the storer's block. It stays where it is at
+/// another address, if something is fetched, if the counters differ, or in the storer.
 pub fn examples_of_sending()
     ensures stub { sent_from (machine_at 0 5 5 None) ≡ machine_at 1 1 1 None }
     ensures elsewhere { sent_from (machine_at 0 4 4 None) ≡ machine_at 0 4 4 None }
@@ -51,8 +51,8 @@ pub fn examples_of_sending()
     ensures storer { sent_from (machine_at 1 5 5 None) ≡ machine_at 1 5 5 None }
 {}
 
-/// Why the walk looks at the target's rows: a module that passes on its code address as a number is accepted, but not
-/// an object in which it is linked after another module. And why it looks at every use of an address: a module that
+/// Why the walk looks at the target's rows: a module that passes on its code address as a number is accepted, but an
+/// object in which it is linked after another module is not. And why it looks at every use of an address: a module that
 /// stores its code address is accepted, and so is an object in which it is linked after another module, though there it
 /// stores another word.
 pub fn examples_of_addresses_as_numbers()

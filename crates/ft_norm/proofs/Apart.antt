@@ -28,7 +28,7 @@ first_split P n c ts us f g = go (n == 0) refl
     go true e = f (eqb-true n 0 e)
     go false e = g (eqb-false n 0 e)
 
--- terms are their constant and the others, added
+-- the polynomial of terms is that of the others plus the constant
 split_form : (fs : List Form) (ts : List Term) → AreTerms ts → polynomial_form fs ts
     ≡ add_term one (constant_among ts) (polynomial_form fs (others ts))
 split_form fs [] h = refl

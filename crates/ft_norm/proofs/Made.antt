@@ -35,7 +35,7 @@ memory_shape : (ps : List Polynomial) (u : Updates) (fs : List Normal) (s : Shap
 memory_shape ps u fs (shape.Word w) e = cc
 memory_shape ps u fs s e = cc
 
--- an update adds at most one update
+-- an `upd` adds at most one update
 pub updates-norm_upd : (u : Updates) (p v : Polynomial) → updates (norm_upd u p v) ≤ updates u + 1
 updates-norm_upd unchanged p v = omega arith
 updates-norm_upd (update a w u) p v = go (same_polynomial a p) refl

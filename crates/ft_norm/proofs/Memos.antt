@@ -43,7 +43,7 @@ pub stands_from : (ns : List Node) (fs : List Normal) (ints : List Form) (memory
     Remembers ns fs ints memory m → Stands (polynomials fs ints) (updates_held fs memory) ns h fs (get nat_eq m.made)
 stands_from ns fs ints memory m h r = record { each = r.each }
 
--- conversely, a memo may remember the forms of the nodes' trees, even after the list has grown
+-- conversely, if a memo's forms are those of their trees, what it remembers is right, even after the list has grown
 pub remembered : (ns : List Node) (fs gs : List Normal) (ints : List Form) (memory : Form) (m : Memo) (h : AreNodes ns)
     → Keeps fs gs → AreIntegers fs ints → IsMemory fs memory →
     Stands (polynomials fs ints) (updates_held fs memory) ns h gs (get nat_eq m.made) → Remembers ns gs ints memory m

@@ -25,7 +25,7 @@ atoms_equal (x ∷ xs) (y ∷ ys) e = let t = then_both (nat_cmp x y) (cmp_atoms
 pub atoms_turned : (xs ys : List ℕ) → cmp_atoms xs ys ≡ Greater → cmp_atoms ys xs ≡ Less
 atoms_turned xs ys e = nat_list_cmp_total.antisymm ys xs ∙ ap ordering_reverse e
 
--- atoms below others that precede terms precede these terms too
+-- if some atoms precede terms, so do any lesser ones
 pub precedes_through : (xs ys : List ℕ) (ts : List Term) → cmp_atoms xs ys ≡ Less → Precedes ys ts → Precedes xs ts
 precedes_through xs ys [] e h = tt
 precedes_through xs ys (t ∷ ts) e h = nat_list_cmp_total.trans xs ys t.atoms e h

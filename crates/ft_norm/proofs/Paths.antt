@@ -1,4 +1,4 @@
--- The nodes that wait for their parts, the nodes whose form is made, and how many steps this takes.
+-- The nodes that wait for their parts, the nodes whose forms have been made, and how many steps this takes.
 use Rattle.std.proofs.Common.{ℕ, suc, zero, ◌≡◌, ◌≢◌, ◌+◌, ◌*◌, ◌<◌, ◌≤◌, ◌==◌, Bool, true, false, cond, if◌then◌else◌}
 use Rattle.std.proofs.Common.{List, [], ◌∷◌, ◌++◌, length, get_or, refl, sym, ap, ◌∙◌, arith, Option, None, Some}
 use Rattle.std.proofs.Common.{is_some, inl, inr, length-append, subst}
@@ -54,7 +54,7 @@ count_more look more x k (suc n) l e h = elim (cases_lt k n) [
         go true e = absurd (n ((Decides-eqb a b).0 e))
         go false e = e
 
--- node k is to be made next, and the open nodes wait for it, the last one first
+-- the form of node k is made next; the open nodes, in decreasing order from node n, wait for it
 pub record Path {A : Type 0} (look : ℕ → Option A) (n k : ℕ) (open_nodes : List ℕ) : Type 0 where
   pub near : k + length open_nodes ≤ n
   pub absent : look k ≡ None
@@ -96,7 +96,7 @@ path_push look n k part xs p l e = record {
       ∙ p.bottom d;
 }
 
--- after a node is made, the last open node is next
+-- after a node's form is made, the last open node is next
 pub path_pop : {A : Type 0} (look more : ℕ → Option A) (y : A) (n k x : ℕ) (ys xs : List ℕ) → Path look n k ys → ys ≡ xs
     ++ x ∷ [] → ((q : ℕ) → more q ≡ cond (k == q) (Some y) (look q)) → Path more n x xs
 path_pop look more y n k x ys xs p' e h = record {
@@ -137,7 +137,7 @@ pub path_end : {A : Type 0} (look : ℕ → Option A) (n k : ℕ) (xs : List ℕ
 path_end look n k [] p e = p.bottom 0
 path_end look n k (x ∷ xs) p e = absurd (omega arith)
 
--- at least one node is still to be made
+-- at least one node still has no form
 pub count_less : {A : Type 0} (look : ℕ → Option A) (x : A) (n k : ℕ) (xs : List ℕ) → Path look n k xs →
     count look (n + 1) + 1 ≤ n + 1
 count_less look x n k xs p =

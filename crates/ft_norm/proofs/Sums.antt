@@ -82,7 +82,7 @@ form_negated fs [] h = refl
 form_negated fs (t ∷ ts) h = rw (form_negated fs ts h.4)
     (sym (negation_add (monomial_form fs t.atoms) t.coefficient (polynomial_form fs ts) h.2 (form_rises fs ts h.4)))
 
--- the terms from place i, split at the first
+-- the terms from place i: the first and the others
 dropped : (xs : List Term) (x : Term) (i : ℕ) → i < length xs → x ≡ get_or xs i x → drop i xs
     ≡ get_or xs i x ∷ drop (i + 1) xs
 dropped xs x i l r = rw (add-one, drop-cons xs i x) refl

@@ -57,7 +57,7 @@ full_other ts (Linear xs) h v n e = linear_full xs.now ts h.0 (sym e)
 full_other ts (Packed ps) h v n e = packed_full ps.now ts v.1 h.1 (sym e)
 full_other ts (Full us) h v n e = n us refl
 
--- the terms of a `Full` view keep their view without a constant in front
+-- without a constant in front, the terms of a `Full` view are still those of a `Full` view
 pub rest_view : (ts : List Term) → (2 ≤ greatest ts) × (HaveSmall ts → ⊥) → 1 ≤ length ts →
     size (get_or ts 0 blank).atoms ≡ 0
     → (2 ≤ greatest (take (length ts - 1) (drop 1 ts))) × (HaveSmall (take (length ts - 1) (drop 1 ts)) → ⊥)

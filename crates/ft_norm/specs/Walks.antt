@@ -12,7 +12,7 @@ abbrev pub form_of_walk : List Form → ℕ → Walk → Polynomial
 form_of_walk fs p (Value v) = polynomial_at fs v
 form_of_walk fs p (Stop m) = alone (sel_atom (updates_at fs m) (polynomial_at fs p))
 
--- where a walk ends: at the value of an update, which is an integer's form, or at a memory's
+-- the list holds the form at which a walk ends: an integer's if it is the value of an update, else a memory's
 abbrev pub EndsWithin : List Form → Walk → Type 0
 EndsWithin fs (Value v) = IsIntegerAt fs v
 EndsWithin fs (Stop k) = memory_reach fs k ≤ length fs

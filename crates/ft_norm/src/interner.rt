@@ -68,8 +68,8 @@ impl Interner {
         Interner::keyed(alloc, 0, 0)
     }
 
-    /// An empty interner whose table hashes with these two keys. The keys affect speed but not the forms. Somebody who
-    /// does not know them cannot make the table slow.
+    /// An empty interner whose table hashes with these two keys. The keys affect speed but not the forms. An attacker
+    /// who does not know them cannot make the table slow.
     pub fn keyed(alloc: Global, first: u64, second: u64) -> Result<Interner, NoMemory>
         ensures { IfOk result (λ s. s ≡ []) }
     {
@@ -227,7 +227,8 @@ impl Interner {
         ensures exact { IsTrue result ↔ (held self.now a ≡ held self.now b) }
         ensures denotes { (x y : Expression) (s : Valuation) → IsTrue result → held self.now a ≡ Some (norm x) → held self.now b ≡ Some (norm y) → HasWords x → HasWords y → IsLawful s → denotation x s ≡ denotation y s }
     {
-        // The proof knows the invariant, that equal entries have the same number, only where a field is read.
+        // The proof knows the invariant, that equal entries have the same number, only where a field is read, so one is
+        // read here.
         let _entries = &self.entries;
         a.0 == b.0
     }

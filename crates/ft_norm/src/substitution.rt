@@ -17,7 +17,7 @@ use indexmap::IndexMap;
 use std::alloc::Global;
 use std::sync::ledger::Ledger;
 
-/// A memo keeps its memory when it is cleared if it has at most this many forms.
+/// When cleared, a memo with at most this many forms keeps its memory.
 const FEW: usize = 64;
 
 /// The forms made for nodes so far, under one substitution. A memo serves many calls: the form of a node is made at

@@ -2,7 +2,7 @@
 //!
 //! The crate has only tests, since a crate with tests is proved twice. The worked objects' bytes were made
 //! by another implementation of the format. Errors, lines, places and equal forms were worked out by hand
-//! from the format's tables and the rules of typing.
+//! from the format's tables and the typing rules.
 #![tactic(auto)]
 
 #[cfg(test)]

@@ -44,13 +44,13 @@ base_there o k h s e =
 abbrev others_of : Object → ℕ → ℕ → List Basic
 others_of o first m = map basic_of (slice_range o.cells (first + 1) (first + m))
 
--- a run with a cell whose type differs from the first one's has no type
+-- a run in which some cell's type differs from the first one's has no type
 pub run_differs : (o : Object) (first m : ℕ) (h : CellHead) → 1 ≤ m → option_map cell_head_of (slice_get o.cells first)
     ≡ Some h → list_all (same_basic h.basic) (others_of o first m) ≡ false → run_type o first m ≡ None
 unfolding run_type common_type
 run_differs o first m h l e f = rw (types_there o first (first + m) h (omega (arith, l)) e, f) refl
 
--- a run whose type no `ref` can refer to has no type
+-- a run has no type if no `ref` can refer to the type of its cells
 pub run_is_full : (o : Object) (first m : ℕ) (h : CellHead) → 1 ≤ m → option_map cell_head_of (slice_get o.cells first)
     ≡ Some h → list_all (same_basic h.basic) (others_of o first m) ≡ true → 8 ≤ h.basic.refs → run_type o first m ≡ None
 unfolding run_type common_type

@@ -50,7 +50,7 @@ told_next c o p s t w v spelled acc fits (has_stopped d) = inr (detected_told o 
 abbrev struck_colour : StruckRun → Colour
 struck_colour r = colour_of_site (state_after r.object None r.wild r.strike.step) r.strike.site
 
--- if a step was taken since the strike, the next one is taken in the state after the steps taken
+-- if a step has been taken since the strike, the next one is taken in the state after the steps taken
 pub struck_later : (r : StruckRun) → r.strike.step < r.taken → struck_now r
     ≡ state_after r.object (Some r.strike) r.wild r.taken
 struck_later r lt = spared r.strike r.taken (λ e. omega (arith, e))

@@ -50,8 +50,8 @@ impl<'a, 'w, P: Program> Struck<'a, 'w, P> {
         stepped
     }
 
-    /// The machine: right after the strike if no step was taken since, else after the steps taken. The site that was
-    /// struck existed.
+    /// The machine: right after the strike if no step has been taken since, else after the steps taken. The site that
+    /// was struck existed.
     pub fn machine(&self) -> &Machine
         ensures now { result.now ≡ struck_now self.now }
         ensures there { is_there (state_after self.now.object None self.now.wild self.now.strike.step) self.now.strike.site ≡ true }

@@ -1,4 +1,4 @@
--- What is recorded about the waiting instructions: after one more is added, and what look-ups find.
+-- What is recorded about the waiting instructions after one more is added, and what look-ups find.
 use Rattle.std.proofs.Common.{◌≡◌, ℕ, suc, ◌+◌, ◌<◌, Bool, true, false, cond, not, ◌&&◌, ◌||◌, ◌==◌, nat_lt, List, []}
 use Rattle.std.proofs.Common.{◌∷◌, ◌++◌, length, drop, Option, Some, None, refl, sym, ap, ◌∙◌, subst, arith}
 use Rattle.std.specs.Prelude.{slice_index_or}
@@ -144,7 +144,7 @@ pub kept_new : (is : List Instr) (writers touchers : List ℕ) → is ≡ [] →
 kept_new is writers touchers e f g = subst (λ z. IsKept z 0 writers touchers 0) (sym e)
     (subst (λ z. IsKept [] 0 z touchers 0) (sym f) (subst (λ z. IsKept [] 0 unmet z 0) (sym g) kept_none))
 
--- LOOKUPS
+-- LOOK-UPS
 
 -- place 0 is never above the front, just as no instruction passes a test that always fails
 none_behind : (front : ℕ) (is : List Instr) → nat_lt front 0 ≡ list_any (λ (i : Instr). false) is
@@ -226,7 +226,7 @@ not_alone : (b : Bool) → not (true && not b) ≡ (false || b)
 not_alone true = refl
 not_alone false = refl
 
--- three tests become two: what both instructions write, the waiting one touches
+-- three tests reduce to two, since the second implies the third
 all_three : (a c t : Bool) → (c ≡ true → t ≡ true) → not (not (a || c) && not t) ≡ (a || t)
 all_three true c t h = refl
 all_three false false true h = refl
@@ -258,7 +258,7 @@ conflict_tests i w =
     ∙ conflict_by (first_read i) (second_read i) (written i) (written w) w refl
     ∙ sym (λ j. (hits_writes (first_read i) w j || hits_writes (second_read i) w j) || meets (written i) w)
 
--- whether a waiting instruction conflicts, by three lookups
+-- whether a waiting instruction conflicts, by three look-ups
 pub conflict_behind : (i : Instr) (is : List Instr) → list_any (conflicts i) is
     ≡ ((list_any (writes (first_read i)) is || list_any (writes (second_read i)) is) || list_any (meets (written i)) is)
 conflict_behind i is =

@@ -52,7 +52,7 @@ settled_by : (start : ℕ) (laid : List Instr) (i : Instr) → is_trailing i ≡
 settled_by start laid i h = λ front l e low. subst (λ (z : Instr). is_trailing z
     ≡ false) (same_front laid front i l e).1 h
 
--- while waiting instructions are written before a leading one
+-- what holds while waiting instructions are written before a leading one
 pub record Leading (i : Instr) (rows start past : ℕ) (base rest laid waiting : List Instr) (queued committed : ℕ) : Type
     0 where
   pub arranged : Arranges rows start past base (i ∷ rest) laid waiting queued committed

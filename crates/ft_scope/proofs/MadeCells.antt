@@ -185,7 +185,7 @@ wrong_parts (array n l at w) ds h = by (is_length l) h
     by true g = (refl, g)
     by false g = cc
 
--- an array of which no cell is made yet adds nothing
+-- an array adds nothing before its first cell is made
 pub made_none : (c : Cells) (ds : List Declared) (n : Named) (at w : ℕ) → Made c ds → Made c (ds ++ array n 0 at w ∷ [])
 made_none c ds n at w m = record {
   names = m.names ∙ sym (texts_push ds (array n 0 at w) ∙ append-nil (cell_texts ds));

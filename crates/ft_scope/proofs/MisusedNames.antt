@@ -24,7 +24,7 @@ pub first_end : (a : Option ℕ) → first_of a None ≡ a
 first_end (Some at) = refl
 first_end None = refl
 
--- if the first of two is nothing, both are
+-- if `first_of` gives nothing, neither of its arguments is a place
 pub first_left : (a b : Option ℕ) → first_of a b ≡ None → a ≡ None
 first_left (Some at) b h = h
 first_left None b h = refl

@@ -184,7 +184,7 @@ record IsResolved (t : SyntaxTree) (p : Program) : Type 0 where
   is : record { names = cell_names t.decls; inits = cell_words t.decls; vars = variable_count t.decls; body = body } ≡ p
   limits : IsWithinLimits p
 
--- if a program results, nothing was refused at this test
+-- if the result is a program, this test refused nothing
 unrefused : (e : ℕ → SourceError) (o : Option ℕ) (other : Result Program SourceError) (p : Program) →
     refused_at e o other ≡ Ok p → (o ≡ None) × (other ≡ Ok p)
 unrefused e (Some at) other p h = cc

@@ -16,7 +16,7 @@ need (name n) = 1
 need (indexed n i) = need i
 need (operation o a b) = max (need a) (need b + 1)
 
--- the largest need of an expression, or of an assignment with an index, where the index is kept while the value is
+-- the largest need of any expression, or of any assignment with an index, where the index is kept while the value is
 -- computed; 0 if there is none
 abbrev pub most_need : {N : Type 0} → StatementList N → ℕ
 most_need none = 0

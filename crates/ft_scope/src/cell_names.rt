@@ -48,7 +48,7 @@ fn joined_names(
 
 impl Prog<'_> {
     /// The cells' names in order: the declared name, followed by its place in square brackets if the cell belongs to an
-    /// array. The only error is out of memory.
+    /// array. The only error is `NoMemory`.
     pub fn cell_names(&self, alloc: Global) -> Result<Vec<Vec<u8>>, NoMemory>
         ensures { IfOk result (λ v. map (λ n. n.items) v.items ≡ (program_of self.now).names) }
     {

@@ -19,14 +19,14 @@ pub struct Names<'a> {
     pub vars: usize,
 }
 
-/// The slot of the variable with this number; numbers above 255 are never used.
+/// The slot of the variable with this number, capped at 255: no program within the limits uses a larger one.
 fn variable(number: usize) -> Slot
     ensures { result ≡ Slot.Var (min number 255) }
 {
     Slot::Var(u8::try_from(number).unwrap_or(u8::MAX))
 }
 
-/// A number of cells; numbers above 2^32 - 1 are never used.
+/// A number of cells, capped at 2^32 - 1: no program within the limits uses a larger one.
 fn narrow(number: u64) -> u32
     ensures { result ≡ min number (2 ^ 32 - 1) }
 {

@@ -58,7 +58,7 @@ fn resolve_parts<'a>(
 
 /// The program of a tree: each name is replaced by the cell, the array or the variable that it refers to.
 ///
-/// A tree without a program is refused with its first refusal, in this order: `Twice` at the first name that was
+/// For a tree without a program, the error is the first of these that applies: `Twice` at the first name that was
 /// declared before; `Unknown` at the first name in a statement that is not declared; `Array` at the first name in a
 /// statement that is an array's and has no index, or has one and is not an array's; `Length` at the first length of an
 /// array that is 0 or above 1,024; `Cells`, `Registers` and `Weight` with the number that exceeds the limit. No cell is

@@ -2,7 +2,7 @@
 //!
 //! The crate promises that each line is read as the command that it spells, and as a bad command exactly if
 //! it spells none. The lines of a script give one list of commands. Its definitions: `specs/Commands.antt`,
-//! and for commands that were read `specs/Reads.antt`.
+//! and `specs/Reads.antt` for commands that were read.
 #![tactic(auto)]
 
 mod command;

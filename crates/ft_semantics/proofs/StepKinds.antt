@@ -1,4 +1,4 @@
--- Proves a claim about every step from the few kinds of steps, so that no such proof goes through all instructions
+-- Proves a claim about every step from a few kinds of step, so that no such proof has to go through all instructions
 -- again.
 use Rattle.std.proofs.Common.{◌≡◌, ℕ, ◌==◌, nat_lt, Bool, true, false, not, ◌&&◌, if◌then◌else◌, List, [], ◌∷◌, ◌++◌}
 use Rattle.std.proofs.Common.{length, Option, Some, None, ap, refl}
@@ -16,8 +16,8 @@ use Rattle.ft_semantics.specs.Step.{transfers, found, load, commit, commits, jum
 use Rattle.ft_types.specs.declared.object.Object.{Object}
 use Rattle.ft_types.specs.Objects.{instr_at}
 
--- P is the claim about a step, taken as a function of the answers to wild loads. It must hold for a step without an
--- output to any state with the same cells, for a commit, and for the load that each load instruction makes.
+-- P is the claim about a step, taken as a function of the answers to wild loads. It must hold for every step that has
+-- no output and keeps the cells, for every commit, and for the load that each load instruction makes.
 module _ (s : State) (P : (List Wild → Stepping) → Type 0) (quiets : (t : State) → t.cells ≡ s.cells →
     P (quiet t)) (committed : (a v : ℕ) → commits a v s ≡ true → P (commit a v s)) where
   by_test : (b : Bool) (x y : List Wild → Stepping) → (b ≡ true → P x) → P y → P (λ w. if b then x w else y w)

@@ -71,7 +71,7 @@ pub below_more : (k m : Monomial) (p : Polynomial) → cmp_monomial k m ≡ Less
 below_more k m nought h g = tt
 below_more k m (plus n d p) h g = cmp_monomial_total.trans k m n h g
 
--- adding a larger term keeps a monomial below
+-- a monomial below a polynomial stays below it when a larger term is added
 below_add : (k m : Monomial) (c : ℕ) (p : Polynomial) → cmp_monomial k m ≡ Less → Below k p → IsProper p →
     Below k (add_term m c p)
 below_add k m c nought h g w = below_led k m c nought h tt

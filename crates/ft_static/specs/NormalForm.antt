@@ -1,5 +1,5 @@
--- The normal form of an expression, built from the normal forms of its parts. Likewise for trees and for numbered
--- nodes, after forms are substituted for the variables.
+-- The normal form of an expression, built from the normal forms of its parts; and, after forms are substituted for the
+-- variables, the form of an expression and of a numbered node.
 use Rattle.std.specs.Prelude.{ℕ, ◌+◌, ◌*◌, ◌-◌, ◌%◌, ◌^◌, ◌==◌, Bool, true, false, if◌then◌else◌, ◌&&◌, Option, Some, None, nat_le, max, List, [], ◌∷◌, ◌++◌, slice_index_or}
 use Rattle.std.specs.declared.cmp.Ordering.{Ordering}
 use Rattle.std.specs.declared.cmp.Ordering.TheVariants.{Less, Equal, Greater}

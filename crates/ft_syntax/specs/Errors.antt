@@ -3,7 +3,7 @@ use Rattle.std.specs.Prelude.{ℕ}
 use Rattle.ft_syntax.specs.declared.source_error.SourceError.{SourceError}
 use Rattle.ft_syntax.specs.declared.source_error.SourceError.TheVariants as source
 
--- the number of a refusal of a source; out of memory has none
+-- the number of a refusal of a source, from 1; 0 if memory ran out
 abbrev pub source_number : SourceError → ℕ
 source_number source.TooLong = 1
 source_number (source.Byte at) = 2
@@ -19,8 +19,8 @@ source_number (source.Array at) = 11
 source_number (source.Length at) = 12
 source_number source.NoMemory = 0
 
--- the argument of a refusal: a place, the number that exceeds a limit, or the maximum size of a text; 0 for out of
--- memory
+-- the argument of a refusal: a place, the number that exceeds a limit, or the maximum size of a text; 0 if memory ran
+-- out
 abbrev pub source_told : SourceError → ℕ
 source_told source.TooLong = 1048576
 source_told (source.Byte at) = at

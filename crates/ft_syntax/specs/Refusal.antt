@@ -56,7 +56,7 @@ abbrev pub Judged : List Lexeme → ℕ → Answer → Type 0
 Judged ts end (Ok t) = Derives ts t × IsShallow nothing_open ts
 Judged ts end (Err f) = IsFault ts end f
 
--- the text is within its limit, has no error of the scan, and has these lexemes
+-- the text is within its limit, is scanned without an error, and has these lexemes
 pub record HasLexemes (text : List ℕ) (ts : List Lexeme) : Type 0 where
   pub short : length text ≤ text_limit
   pub scanned : all_of (scan text) ≡ Ok ts

@@ -16,7 +16,7 @@ const TEXT_LIMIT: usize = 1_048_576;
 
 /// The tree of a source text, whose names are slices of the text.
 ///
-/// A text that is not a source is refused with its first refusal, in this order: `TooLong`; the first `Byte` or
+/// For a text that is not a source, the error is the first of these that applies: `TooLong`; the first `Byte` or
 /// `Number` in the text; the first `Syntax` or `Deep` among the tokens, and `Syntax` if both are at the same token.
 /// Each token is read once.
 pub fn parse<'a>(alloc: Global, text: &'a [u8]) -> Result<Tree<'a>, SourceError>

@@ -53,7 +53,7 @@ pub enum SourceError {
 impl SourceError {
     ghost use Rattle.ft_syntax.specs.Errors.{source_number, source_told};
 
-    /// The number of the refusal, from 1; 0 when out of memory.
+    /// The number of the refusal, from 1; 0 if memory ran out.
     pub fn number(self) -> u32
         ensures { result ≡ source_number self }
     {
@@ -75,7 +75,7 @@ impl SourceError {
     }
 
     /// The refusal's argument: a place in bytes, the number that exceeds a limit, or for `TooLong` the limit itself; 0
-    /// when out of memory.
+    /// if memory ran out.
     pub fn told(self) -> u64
         ensures { result ≡ source_told self }
     {

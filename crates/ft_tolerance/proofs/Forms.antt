@@ -25,7 +25,7 @@ length-trees_onto ts [] = omega arith
 length-trees_onto ts (n ∷ ns) = let l = length_push ts (tree_of ts n.shape) in
     let h = length-trees_onto (ts ++ tree_of ts n.shape ∷ []) ns in omega arith
 
--- the numbers in the tree of any node number are words
+-- for any number n, the numbers in the tree of node n are words
 has_words : (nodes : List Node) (n : ℕ) → AreNodes nodes → HasWords (tree_at nodes n)
 has_words nodes n h = elim (slice_get_cases nodes n).1 [
   | inl s ↦ (tree_fits nodes n s.0 h s.2).0

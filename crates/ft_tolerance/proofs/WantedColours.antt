@@ -53,7 +53,7 @@ typed_is : (x : Option Typed) (d : Typed) → is_some x ≡ true → x ≡ Some 
 typed_is None d e = cc
 typed_is (Some t) d e = refl
 
--- a type that is tested to be a `ref` refers to a type
+-- a type that passes the test for a `ref` refers to a type
 reference_is : (n : ℕ) (base : Base) → is_reference_over n ≡ true → record { refs = n; base = base }
     ≡ ref (referred n base)
 reference_is zero base e = cc
@@ -66,7 +66,7 @@ has_pair [] e = cc
 has_pair (p ∷ q) e = omega arith
 
 module _ (o : Object) (v : Valuation) (c : Context) (s : State) (h : FitsContext o v c s) where
-  -- a register that is tested to have a colour has it
+  -- a register that passes the test for a colour has that colour
   coloured : (r : Reg) (k : Colour) → is_some (typed c r.number) ≡ true → same_colour (known c r).colour k ≡ true →
       colour s r ≡ k
   coloured r k it e = has_colour o v c s r (known c r) k h (typed_is (typed c r.number) _ it) e
@@ -97,7 +97,7 @@ module _ (o : Object) (v : Valuation) (c : Context) (s : State) (h : FitsContext
   wants (BzB rz rd u) x t = (coloured rz Blue t.tested.0 t.tested.1.1.0, coloured rd Blue t.tested.1.0 t.tested.1.1.1.0)
   wants i x t = tt
 
--- if one of two exists, not both are missing
+-- if at least one of the two exists, they are not both missing
 one_there : (x y : Option ℕ) → is_some (option_or x y) ≡ true → (not (is_some x) && not (is_some y)) ≡ false
 one_there None None e = cc
 one_there None (Some b) e = refl

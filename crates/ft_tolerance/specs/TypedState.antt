@@ -100,7 +100,7 @@ pub record FitsRegister (o : Object) (v : Valuation) (t : Typed) (x : Coloured) 
   pub word : x.word ≡ value_polynomial t.form v
   pub basic : HasType o x.word t.basic
 
--- d is the word that a form denotes, and the code address of a code type
+-- d is the word that a form denotes, and the code address of a block of this code type
 pub record FitsTarget (o : Object) (v : Valuation) (t : ℕ) (f : Polynomial) (d : ℕ) : Type 0 where
   pub word : d ≡ value_polynomial f v
   pub basic : HasType o d (code t)

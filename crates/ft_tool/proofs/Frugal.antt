@@ -11,7 +11,7 @@ use Rattle.ft_edge.specs.Logs.{SourceLog}
 use Rattle.ft_edge.specs.Told.{append_told}
 use Rattle.ft_edge.proofs.Appended.{told_more}
 
--- a list extended by an element, without its last element, is the list
+-- appending an element and then dropping the last one gives the list back
 but_last : (sizes : List ℕ) (n : ℕ) → take (length (sizes ++ n ∷ []) - 1) (sizes ++ n ∷ []) ≡ sizes
 but_last sizes n =
     let e : length (sizes ++ n ∷ []) - 1 ≡ length sizes = omega (arith, length-append sizes (n ∷ [])) in

@@ -1,4 +1,4 @@
--- What was read of a script, and how its session ends.
+-- How much of a script was read, and how its session ends.
 use Rattle.std.proofs.Common.{◌≡◌, ℕ, ◌<◌, ◌≤◌, List, [], ◌++◌, length, take, append-nil, Option, Some, None, Ok, Err}
 use Rattle.std.proofs.Common.{inl, inr, refl, sym, ap, ◌∙◌, subst, arith, length-append}
 use Rattle.std.specs.Prelude.{◌⊎◌, IfSome}

@@ -1,4 +1,4 @@
--- Which loads a command makes, and what it reads of its script.
+-- Which loads a command makes, and how much of its script it reads.
 use Rattle.std.specs.Prelude.{◌≡◌, ◌≢◌, ◌⊎◌, ℕ, ◌==◌, Bool, ◌||◌, List, [], ◌∷◌, ◌++◌, Option}
 use Rattle.ft_edge.specs.Loads.{Files}
 use Rattle.ft_edge.specs.Told.{append_told}

@@ -46,7 +46,7 @@ pub trait Program: Nodes {
         requires { i < length (object self.now).instrs }
         ensures { slice_get (object self.now).instrs i ≡ Some result };
 
-    /// What instructions are fetched from.
+    /// The value from which `fetch` fetches instructions.
     fn code(&self) -> Self::Code
         ensures { is_code self.now result };
 

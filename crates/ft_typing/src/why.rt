@@ -32,10 +32,10 @@ pub enum Why {
     #[error("no store is pending")]
     QueueEmpty,
     /// The address is not the same as the oldest pair's address.
-    #[error("the addresses of a store differ")]
+    #[error("the green and blue addresses of a store differ")]
     Addresses,
     /// The value is not the same as the oldest pair's value.
-    #[error("the values of a store differ")]
+    #[error("the green and blue values of a store differ")]
     Values,
     /// The tested value is not the same as d's test.
     #[error("the tested values of a branch differ")]
@@ -45,7 +45,7 @@ pub enum Why {
     Targets,
     /// For some register of the target's code type, the register here has no type, another colour, a basic type that is
     /// not accepted as the target's, or a form that is not the same as the target's expression under the substitution.
-    #[error("a register does not meet the target's type")]
+    #[error("a register does not match the target's type")]
     RegisterUnlike,
     /// The static queue differs in length from the target's, or a pair is not the same under the
     /// substitution; at `halt`, the static queue is not empty.
@@ -59,10 +59,10 @@ pub enum Why {
     #[error("the substitution does not fit the target or this block")]
     Annotation,
     /// A blue jump or `halt` is not the last instruction of its block, or the last instruction is neither.
-    #[error("a block must end with a blue jump or halt, and only there")]
+    #[error("a block must end with a blue jump or halt, and contain no other")]
     BlockEnd,
     /// The cells of a run are not all of one basic type, or that type has 8 refs.
-    #[error("the cells of a run are not of one type to which a ref can refer")]
+    #[error("the cells of a run differ in type, or no ref can refer to their type")]
     Array,
 }
 

@@ -19,7 +19,7 @@ pub mapped : {X : Type 0} (v : List ℕ → X) (rs : List (List ℕ)) (i : ℕ) 
     ≡ Some row → x ≡ v row → slice_get (map v rs) i ≡ Some x
 mapped v rs i row x there is = slice_get-map v rs i ∙ ap (option_map v) there ∙ ap Some (sym is)
 
--- where the rows of the record before a position end
+-- the rows of the first records end where those of the last of them do
 pub last_at : (end_of : List ℕ → ℕ) (start : ℕ) (rs : List (List ℕ)) (k : ℕ) (row : List ℕ) → slice_get rs k
     ≡ Some row → last_end end_of start (take (suc k) rs) ≡ end_of row
 last_at end_of start [] k row e = absurd (cc)

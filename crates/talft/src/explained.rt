@@ -115,7 +115,7 @@ fn explanation<R: Files + AllocGlobal + Clone + Drop>(
     )
 }
 
-/// Explains why standard output could not be written. Says nothing about a pipe, whose reader may just have stopped
+/// Explains why writing to standard output failed. Says nothing about a pipe, whose reader may just have stopped
 /// reading.
 fn say_unwritten<R: Files + Eprint + AllocGlobal>(rt: &R, reason: &str) {
     if !is_pipe(rt) {

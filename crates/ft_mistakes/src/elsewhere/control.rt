@@ -7,7 +7,7 @@ pub(super) const ROWS: &[Row] = &[
         "ret rets retq iret call callq bl blr blx bsr jal jalr jsr rts",
         "there are no calls: `jmp_G` and `jmp_B` jump to an address in a register",
     ),
-    ("nop noop", "leave the line out"),
+    ("nop noop", "delete the line"),
     ("hlt stop exit quit ebreak", "write `halt`"),
     ("end", "a run ends with `halt`, and the text with `entry B`"),
     (
