@@ -1,8 +1,8 @@
 #!/usr/bin/env python3
 """Writes docs/CHANGING.md with its lists of files regenerated. `tests/cli.sh` checks that the file is up to date.
 
-    python3 docs/changing.py            writes the document
-    python3 docs/changing.py --counts   writes how many files each kind of change touches
+    python3 docs/changing.py            prints the document, which it reads: not onto the document itself
+    python3 docs/changing.py --counts   prints how many files each kind of change touches
 
 Two kinds of list end at `<!-- end -->`. Both name files of crates/, lowest crate first, and look at code, definitions
 and proofs outside comments.
