@@ -1,7 +1,7 @@
 #!/usr/bin/env python3
 """Writes docs/CHANGING.md with its lists of files regenerated. `tests/cli.sh` checks that the file is up to date.
 
-    python3 docs/changing.py            prints the document, which it reads: not onto the document itself
+    python3 docs/changing.py            prints the document; redirect it to another file, since it reads the old one
     python3 docs/changing.py --counts   prints how many files each kind of change touches
 
 Two kinds of list end at `<!-- end -->`. Both name files of crates/, lowest crate first, and look at code, definitions
@@ -11,8 +11,8 @@ and proofs outside comments.
 
 `<!-- cases: CASE.. | CASE.. ; FILE.. -->` introduces the files that list cases: they name at least three quarters of
 the cases of one of the sets between the bars. A new case changes them, as a rule: the prover refuses a match without
-it, and a table needs a row for it. A file that names fewer has a last clause for the others, and changes only if that
-does not fit. The sets are the same cases as different layers call them.
+it, and a table needs a row for it. A file that names fewer has a catch-all clause for the others, and changes only if
+that does not fit. The sets have the same cases, each under the names of one layer.
 
 FILE.. are other files that must change: they hold the case's number, a limit on numbers, its parts or its fields.
 """

@@ -10,7 +10,7 @@ import sys
 
 TOP = os.path.dirname(os.path.dirname(os.path.abspath(__file__)))
 WORD = r"[A-Za-z_][\w'-]*"
-NAME = rf"(?:{WORD}|◌\S+)"  # of a definition: a word, or an operator with its places
+NAME = rf"(?:{WORD}|◌\S+)"  # a definition's name: a word, or an operator with ◌ for each operand
 MARKS = r"(?:abbrev |unfoldable |pub |infix[lr]? \d+ )*"
 
 

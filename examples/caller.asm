@@ -5,7 +5,7 @@ node 0 memory
 node 1 var 0
 node 0 word 5
 
-# Code type 0: a start. Code type 1: a block that is entered with an integer in r2 and r34.
+# Code type 0: nothing is known. Code type 1: a block that is entered with an integer in r2 and r34.
 type 0 0
 type 1 0
 reg r2 G int 1

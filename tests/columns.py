@@ -5,7 +5,7 @@
     tests/columns.py --fold FILE.. folds the long lines of these .antt files in place
 
 A line is folded where a reader would fold it: after `in`, `;`, an arrow or a comma, or before an operator, at the
-outermost bracket that has such a place. A long import becomes several of the same module.
+outermost level of brackets that has such a place. A long import becomes several of the same module.
 """
 import glob
 import os

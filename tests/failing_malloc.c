@@ -1,5 +1,5 @@
-/* Makes the allocation number $FAIL_AT fail, counted from 1, and writes how many there were to the file $COUNT_TO. It
-   is loaded before the C library. */
+/* Makes allocation number $FAIL_AT fail, counted from 1, and writes how many there were to the file $COUNT_TO. It is
+   loaded before the C library. */
 #define _GNU_SOURCE
 #include <dlfcn.h>
 #include <stddef.h>

@@ -1,6 +1,6 @@
-/* Makes writes to standard output halt. Every other write is interrupted by a signal, and the rest take at most $TAKES
-   bytes each. After $ROOM bytes, writes fail as on a full disk; without ROOM there is room for all. It is loaded before
-   the C library. */
+/* Makes writes to standard output unreliable. Every other write is interrupted by a signal, and the rest take at most
+   $TAKES bytes each. After $ROOM bytes, writes fail as on a full disk; without ROOM there is room for all. It is loaded
+   before the C library. */
 #define _GNU_SOURCE
 #include <errno.h>
 #include <stdlib.h>

@@ -1,5 +1,5 @@
 #!/usr/bin/env python3
-"""Counts the dots of each verdict's colour in a PNG, or in the PNG within an SVG: python3 tests/picture.py FILE."""
+"""Counts the pixels of each verdict's colour in a PNG, or in the PNG within an SVG: python3 tests/picture.py FILE."""
 import base64
 import collections
 import re
@@ -20,7 +20,7 @@ def chunks(data):
 
 
 def unfiltered(kind, row, above, size):
-    """A row of dots of this many bytes each; depending on the filter, bytes are differences from other bytes."""
+    """A row of pixels of this many bytes each; depending on the filter, bytes are differences from other bytes."""
     out = bytearray(row)
     for at, byte in enumerate(row):
         left = out[at - size] if at >= size else 0

@@ -1,5 +1,5 @@
 """The inputs of speed.sh, and its tables. `speed.py inputs FOLDER TALFT` writes the sources, maps and faults of all
-rows into the folder, and lets the program make their objects and texts. `speed.py table ROWS COUNTS DOCUMENT` puts the
+rows into the folder, and has the program make their objects and texts. `speed.py table ROWS COUNTS DOCUMENT` puts the
 counts into the document's table that begins with `| row |`. `speed.py times ROWS TALFT PLAIN DOCUMENT` runs each row
 twenty times with both programs in turn, and puts the medians into the table that begins with `| timed row |`.
 """

@@ -23,7 +23,7 @@ def tail(count, drawn, share):
     mode = min(count, int((drawn + 1) * share))
     log = (math.lgamma(drawn + 1) - math.lgamma(mode + 1) - math.lgamma(drawn - mode + 1)
            + mode * math.log(share) + (drawn - mode) * math.log1p(-share))
-    # From the largest term in both directions, until terms become negligible.
+    # Sums from the largest term outwards in both directions, until terms become negligible.
     odds, total = share / (1 - share), 1.0
     term, at = 1.0, mode
     while at > 0 and term > 1e-18:

@@ -31,7 +31,7 @@ class Parser(argparse.ArgumentParser):
     """Parses the arguments of a tool.
 
     `others` are prefixes of options for another program. `instead` says what to do about a surplus argument;
-    `elsewhere` says, by their names, what to do instead of options that other programs have."""
+    `elsewhere` says for each option that other programs have what to use here instead."""
 
     def __init__(self, name, about, more, others=(), instead=None, elsewhere=None, **rest):
         super().__init__(prog=name, description=about, epilog=more,

@@ -88,7 +88,7 @@ class Grid:
         self.sort()
 
     def raster(self, colours, blank):
-        """The cells as dots, from the bottom row to the top one: each as high as in the picture, and one dot wide."""
+        """The cells as pixels, from the bottom row to the top: each as high as in the picture, and one pixel wide."""
         # Gnuplot draws no image with a single column.
         twice = 2 if self.columns == 1 else 1
         out = bytearray()
@@ -101,7 +101,7 @@ class Grid:
 
 
 def stack(counts, high):
-    """Which verdict each dot of a cell shows, from the top; None if there is no fault."""
+    """Which verdict each pixel of a cell shows, from the top; None if there is no fault."""
     if counts is None:
         return None
     if max(counts) == sum(counts):

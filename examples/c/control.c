@@ -1,4 +1,4 @@
-// One cycle of a PID controller in fixed point (16 bits after the point). Cells keep the state for the next cycle.
+// One cycle of a PID controller in fixed point (16 fraction bits). Cells keep the state for the next cycle.
 #include "cells.h"
 
 CELL(goal);

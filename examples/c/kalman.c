@@ -1,4 +1,4 @@
-// A scalar Kalman filter in fixed point (20 bits after the point), with a division in each step.
+// A scalar Kalman filter in fixed point (20 fraction bits), with a division in each step.
 #include "cells.h"
 
 CELL(gain);

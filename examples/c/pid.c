@@ -1,4 +1,4 @@
-// A PID controller in fixed point (16 bits after the point) that moves a heavy body to position 10 in 40 cycles.
+// A PID controller in fixed point (16 fraction bits) that moves a heavy body to position 10 in 40 cycles.
 #include "cells.h"
 
 CELL(actuator);

@@ -57,7 +57,7 @@ report 'no message after the pipe is closed' '' "$(cat errors)"
 report 'a pipe that is closed before the first line' 4 "$(cat closed.status)"
 report 'no message after the pipe is closed at once' '' "$(cat errors)"
 
-# Interrupted and short writes are continued; a full disk is an error, within the output and at its end.
+# Interrupted and short writes are continued; a full disk is an error, whether during the output or at its end.
 if has cc 'writes that are interrupted'; then
   cc -O1 -fPIC -shared -o halting_write.so "$top/tests/halting_write.c"
   "$top/talft" trial endless.obj --steps 1000000 >endless.text 2>errors

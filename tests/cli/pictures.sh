@@ -1,10 +1,10 @@
-# Pictures and pages of campaigns, from tools/plot and tools/report. The dots of each colour in the pictures are
+# Pictures and pages of campaigns, from tools/plot and tools/report. The pixels of each colour in the pictures are
 # counted.
 
 unset DISPLAY
 dots() { python3 "$top/tests/picture.py" "$1" 2>&1; }
 
-# Ten steps at two sites. A cell is one dot wide in the picture within the SVG, and 23 high.
+# Ten steps at two sites. A cell is one pixel wide in the picture within the SVG, and 23 high.
 {
   for ((step = 0; step < 10; step++)); do echo "$step:r0:1 masked"; done
   for ((step = 0; step < 5; step++)); do echo "$step:r1:1 detected $((step + 3))"; done
@@ -31,7 +31,7 @@ if has gnuplot 'the pictures'; then
   report 'a ring around the only corrupt fault' 1 "$(grep -c "<path stroke='rgb(213,  94,   0)'" cell.svg)"
   python3 -c 'import sys, xml.etree.ElementTree as tree; tree.parse(sys.argv[1])' few.svg
   report 'an SVG is in the grammar of XML' 0 $?
-  # The cells are 76 dots wide in the PNG; the frame covers some dots, and the legend adds some.
+  # The cells are 76 pixels wide in the PNG; the frame covers some pixels, and the legend adds some.
   report 'the cells of few.png' '10 4 1' \
     "$(dots few.png | awk '{ printf "%.0f %.0f %.0f", $2 / 1748, $6 / 1748, $8 / 1748 }')"
   tool 'only a PNG' 0 '' plot few.lines cell.lines --title 'one & <two>' --out pair.png

@@ -49,7 +49,7 @@ class Change:
     """A position on the path: what changed there, by which instruction or strikes, and what is correct again.
 
     `left` is how many words still differ, `passed` has the instruction's comparisons that differ from those without the
-    strike, and `meets` has the colours of the words that it took."""
+    strike, and `meets` has the colours of the words that it read."""
 
     def __init__(self, position, instruction, strikes, new, gone, left):
         self.position, self.instruction, self.strikes, self.new, self.gone = position, instruction, strikes, new, gone

@@ -11,7 +11,7 @@ LIBC = ctypes.CDLL(None)
 
 
 def end_with_parent():
-    """Called in a new process: it is killed when the tool ends, even by a signal that the tool cannot catch."""
+    """Called in a new process: it is killed when the tool ends, even if the tool itself is killed."""
     LIBC.prctl(PARENT_DEATH_SIGNAL, int(signal.SIGKILL))
 
 

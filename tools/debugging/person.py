@@ -204,7 +204,7 @@ class Session:
         return self.arrive(stop)
 
     def until(self, parts):
-        """Forward to one of these instructions, or like `go`."""
+        """Forward to one of these instructions, or to where `go` stops before that."""
         return self.go([breaks.Break(parts)])
 
     def following(self):
@@ -216,7 +216,7 @@ class Session:
         return None
 
     def finish(self):
-        """Forward out of the block, to the start of the next one that the run reaches; or like `go`."""
+        """Forward to the start of the next block that the run reaches, or to where `go` stops before that."""
         starts = [self.target.listing.at_place(block, 0) for block in range(len(self.target.listing.blocks))]
         return self.go([breaks.Break([instruction]) for instruction in starts if instruction])
 

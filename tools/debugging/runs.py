@@ -62,7 +62,7 @@ def going(here, ahead, times):
 
 
 def follow(timeline, position, here, strikes, places, limit, plan):
-    """Runs `going`: why the run stops, or None and how far it got."""
+    """Executes a plan that `going` made: why the run stops, or None, and how far it got."""
     lead = break_lines(places) + path(strikes, 0, here)
     script = list(lead)
     for count, strike in plan:

@@ -197,7 +197,7 @@ class Arith(Divide):
         return self.newton32(a, b) if small else self.newton64(a, b)
 
     def _turns(self, note, starts, turns, step):
-        """Makes a loop that applies `step` to the words of `starts` `turns` times; returns the words afterwards."""
+        """Makes a loop that applies `step` to the words `turns` times, starting with `starts`; returns the result."""
         g = self.g
         head = g.block(self.depth + 1, note)
         g.at.term = ("jmp", Edge(head, [turns] + starts))

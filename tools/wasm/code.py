@@ -3,7 +3,7 @@ from .opcodes import BULK, CONSTANTS, FUNCREF, I32, LOADS, NUMBERS, NUMERIC, STO
 
 MOST_LOCALS = 50_000
 INVALID = "the module is not valid: compile and link it again"
-ANY = None      # the type of a value in code after a jump, which is never reached
+ANY = None      # the type of a value in unreachable code, as after a jump
 
 
 class Instr:

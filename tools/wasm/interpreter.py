@@ -192,7 +192,7 @@ class Interpreter:
         return bytes(data[at:at + count])
 
     def call(self, function, arguments):
-        """Runs a function by its code, a stack of words, and a stack of labels: where each leads, and what it keeps."""
+        """Runs a function with stacks of words and of labels: where a branch to each label leads, and what it keeps."""
         code, stack, pc = function.code, [], 0
         words = arguments + [0] * function.zeros
         labels = [(len(code), len(function.results), 0)]

@@ -18,7 +18,7 @@ def turned(block, cond):
 
 
 def depths(blocks, preds):
-    """How many loops each block is in: a loop is what reaches a jump back to its head without passing the head."""
+    """How many loops each block is in: a loop's blocks reach a jump back to its head without passing the head."""
     idom = dominators(blocks, preds)
     loops, number = {}, {b: i for i, b in enumerate(blocks)}
     for b in blocks:

@@ -29,7 +29,7 @@ def step_of(param, arg, width=M64):
 
 
 def find_loops(blocks, preds, idom):
-    """The loops, by their heads: what reaches a jump back to the head without passing it."""
+    """The loops, by their heads: a loop's blocks reach a jump back to its head without passing the head."""
     found, number = {}, {b: i for i, b in enumerate(blocks)}
     for b in blocks:
         for e in b.edges():

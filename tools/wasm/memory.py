@@ -1,5 +1,5 @@
-"""Pass 2b: linear memory in cells of 8 bytes. The cell of address A is the one of number (A >> 3) modulo the length,
-so no base is subtracted; where the length is a power of two, the high bits of an address need not be right either."""
+"""Pass 2b: linear memory in cells of 8 bytes. The cell of address A has the number (A >> 3) modulo the length,
+so no base is subtracted; if the length is a power of two, the high bits of an address may even be wrong."""
 import re
 
 from .ir import Edge
@@ -41,7 +41,7 @@ class Memory:
         return 8 * word if 8 * word < self.high else None
 
     def names(self):
-        """A name for each cell: of its symbol, and which word of it; else mem[i], counted from the lowest."""
+        """A name for each cell: its symbol's, with the word's number in it; else mem[i], counted from the lowest."""
         first, used, names = self.low >> 3, set(), [None] * self.length
         for k in range(self.length):
             word = first + k

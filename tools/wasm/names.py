@@ -1,4 +1,4 @@
-"""The symbols of data: from the section `linking`, a map of the linker, or exported addresses."""
+"""The data symbols: from the section `linking`, a linker map, or exported addresses."""
 import re
 
 from .opcodes import I32
@@ -11,7 +11,7 @@ class Symbol:
 
 
 def read_map(path):
-    """The symbols of data of a map of wasm-ld (-Wl,-Map=FILE)."""
+    """The data symbols in a map of wasm-ld (-Wl,-Map=FILE)."""
     symbols = []
     form = re.compile(r"\s*([0-9a-f]+)\s+[0-9a-f]+\s+([0-9a-f]+) {17,}(\S+)$")
     with open(path, encoding="utf-8", errors="replace") as lines:
@@ -23,7 +23,7 @@ def read_map(path):
 
 
 def linked_symbols(module, first, stack_top):
-    """The symbols of data in the section `linking` (-Wl,--emit-relocs), with their sizes, including static ones.
+    """The data symbols in the section `linking` (-Wl,--emit-relocs), with their sizes, including static ones.
     Segments of zeros have no place in the module: they come after those that have one. `first` is the lowest address
     that code names."""
     try:
@@ -45,7 +45,7 @@ def linked_symbols(module, first, stack_top):
 
 
 def read_linking(part):
-    """The alignments of the segments, and the symbols of data: (name, segment, offset, size)."""
+    """The alignments of the segments, and the data symbols: (name, segment, offset, size)."""
     aligns, found = [], []
     if part is None or part.u() != 2:
         return aligns, found
@@ -76,7 +76,7 @@ def read_symbol(part, found):
 
 
 def exported_symbols(module, known):
-    """Exported addresses (-Wl,--export=NAME) are also symbols; the next one ends each."""
+    """Exported addresses (-Wl,--export=NAME) are also symbols; each ends where the next one begins."""
     have = {s.name for s in known}
     places = sorted((module.globals[i][2], n) for n, (what, i) in module.exports.items()
                     if what == 3 and module.globals[i][0] == I32 and not module.globals[i][1])

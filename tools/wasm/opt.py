@@ -110,7 +110,7 @@ def simple_params(blocks, preds):
 
 
 def merge_blocks(blocks, preds):
-    """Merges a block with one entry, by a jump, into the block before it; removes blocks that only jump."""
+    """Merges a block into the only block that leads to it, by a jump; removes blocks that only jump."""
     gone = set()
     for b in blocks:
         while b not in gone and b.term[0] == "jmp":
@@ -187,7 +187,7 @@ def dominators(blocks, preds):
 
 
 def rebuild(g, blocks, preds):
-    """Remakes each operation, knowing what dominates it: one table, along the tree of dominators."""
+    """Remakes each operation, reusing what its dominators compute: one table serves the walk of the dominator tree."""
     idom = dominators(blocks, preds)
     under = {b: [] for b in blocks}
     for b in blocks[1:]:

@@ -127,7 +127,7 @@ class Ranges(Counters):
             elif a1 == b0:
                 self.learn(a, a0, a1 - 1, undo)
 
-    # The walk along the tree of dominators
+    # The walk of the dominator tree
     def param_range(self, b, i, p, widen):
         loop = self.loops.get(b)
         counted = self.counts(loop, p, self.turns(loop)) if loop and p in loop.steps else None

@@ -29,7 +29,7 @@ def split(g):
 
 
 def again(b):
-    """Computes addresses of cells by an index again where another block uses them: they must not live across a call."""
+    """Computes an indexed cell's address again in each block that uses it: it must not live across a call."""
     made, insts = {v: v for v in b.insts if v.op == "idx"}, []
     for v in b.insts:
         for side in ("a", "b"):

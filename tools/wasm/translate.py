@@ -18,7 +18,7 @@ from .text import Text, return_name
 
 
 class Options:
-    """What may be chosen; each name is a word of tools/wasm2asm."""
+    """What may be chosen; each name is that of an option of tools/wasm2asm."""
 
     def __init__(self, **chosen):
         self.entry = self.memory = self.map = None
@@ -108,7 +108,7 @@ def extents(module, symbols, mapped, used, places):
 
 
 def symbols_of(module, path, options, places):
-    """The symbols of data, and whether a table of them exists."""
+    """The data symbols, and whether a table of them exists."""
     tops = stack_pointers(module)
     symbols = linked_symbols(module, min((at for at, _ in places), default=None), tops[0][1] if tops else None)
     beside = (path + ".map", os.path.splitext(path)[0] + ".map")

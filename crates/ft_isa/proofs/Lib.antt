@@ -10,4 +10,3 @@ pub mod WildRead
 pub mod NumberText
 pub mod Operations
 pub mod Decided
-pub mod Results
