@@ -53,7 +53,7 @@ const REFUSED: &[Refused] = &[
     (
         I,
         &[(68, 1), (77, 0x10)],
-        "file: error: block 0, instruction 1: the cells of its run do not all have the same type, or that type has 8 `ref` (premise 18)\n  idx r1 r0 0 3\n  r0: G int\n",
+        "file: error: block 0, instruction 1: the cells of its run do not all have the same type, or that type has 8 `ref`s (premise 18)\n  idx r1 r0 0 3\n  r0: G int\n",
     ),
 ];
 
