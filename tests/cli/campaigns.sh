@@ -12,6 +12,16 @@ awk '/^faults/ { for (i = 2; i <= 10; i += 2) sum[i] += $i } END {
   print "faults", sum[2], "masked", sum[4], "detected", sum[6], "idle", sum[8], "corrupt", sum[10] }' answers >>wanted
 report 'three parts' 3 "$(grep -c '^faults' answers)"
 
+# A list from a pipe is read once.
+report 'a campaign over a list from a pipe' "$(cat wanted)" \
+  "$("$top/tools/campaign" fibonacci.obj --faults /dev/stdin --steps "$most" --dir piped < <(cat list) 2>said)"
+report 'the same campaign again' "$(cat wanted)" \
+  "$("$top/tools/campaign" fibonacci.obj --faults <(cat list) --steps "$most" --dir piped 2>said)"
+printf '4:r1:6\n4:r1:x\n' >bad
+report 'a piped list with an invalid line' \
+  'campaign: /dev/stdin:2: invalid fault `4:r1:x`: expected STEP:SITE:WORD; the word `x` is not a decimal number below 2^64' \
+  "$("$top/tools/campaign" fibonacci.obj --faults /dev/stdin --dir bad-pipe < <(cat bad) 2>&1 | tail -n 1)"
+
 # `campaign STATUS NAME WORDS..` runs the list, and compares the output if STATUS is 0.
 campaign() {
   local wanted_status=$1 name=$2
