@@ -7,8 +7,9 @@ use Rattle.std.proofs.lemmas.List.{get_or-set_same, get_or-set_other, length-set
 use Rattle.ft_static.specs.declared.node.Node.{Node}
 use Rattle.ft_static.specs.declared.node.Shape.{Shape}
 use Rattle.ft_static.specs.declared.node.Shape.TheVariants as shape
-use Rattle.ft_static.specs.NodeRules.{is_memory, MayName, IsLength, IsShape, IsNode}
-use Rattle.ft_isa.specs.Words.{IsWord, cell_address}
+use Rattle.ft_static.specs.NodeRules.{MayName, IsShape, IsNode}
+use Rattle.ft_static.specs.NodeParts.{is_memory}
+use Rattle.ft_isa.specs.Words.{IsLength, IsWord, cell_address}
 use Rattle.ft_isa.specs.declared.op.Op.TheVariants.{Add}
 use Rattle.ft_isa.proofs.Lists.{there_pushed, length_pushed}
 use Rattle.ft_lower.specs.declared.step3.Step3.{Step3}

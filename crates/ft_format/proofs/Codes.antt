@@ -25,8 +25,7 @@ use Rattle.ft_format.specs.Rules.{code_type_broken, basic_broken}
 use Rattle.ft_format.specs.Codes.{colour_code, base_code, base_type, or_first, register_of, colour_of, base_of}
 use Rattle.ft_format.specs.Codes.{basic_type_of, FitsBase, FitsBasic}
 use Rattle.ft_format.specs.declared.version.Version.{Version}
-use Rattle.ft_format.specs.Versions.{last_op}
-use Rattle.ft_format.specs.Format.{SupportsOp}
+use Rattle.ft_format.specs.Versions.{last_op, SupportsOp}
 use Rattle.ft_format.proofs.Unbroken.{held, both}
 use Rattle.ft_format.proofs.Versions.{few_ops}
 

@@ -12,10 +12,9 @@ use Rattle.ft_format.specs.declared.version.Version.{Version}
 use Rattle.ft_format.specs.declared.header.Header.{Header}
 use Rattle.ft_format.specs.Layout.{code_layout}
 use Rattle.ft_format.specs.Versions.{version_of, last_instr_kind}
-use Rattle.ft_format.specs.Format.{SupportsInstr}
+use Rattle.ft_format.specs.InstrRecords.{SupportsInstr, instr_broken, instr_row, instr_of, rows_past}
 use Rattle.ft_format.specs.Rules.{must, zero_broken, register_broken, colour_broken, node_number_broken}
 use Rattle.ft_format.specs.InstrRecords.{basic_number_broken, substitution_broken, transfer_broken, fields_broken}
-use Rattle.ft_format.specs.InstrRecords.{instr_broken, instr_row, instr_of, rows_past}
 use Rattle.ft_format.specs.Codes.{basic_number, basic_type_of}
 use Rattle.ft_format.specs.Broken.{instrs_broken, rows_taken}
 use Rattle.ft_format.proofs.Layouts.{Fit, AllFit}

@@ -22,7 +22,7 @@ use Rattle.ft_format.specs.Codes.{colour_code, base_code, base_type, basic_numbe
 use Rattle.ft_format.specs.InstrRecords.{instr_row, instr_of, FitsInstr, substitution_broken, instr_broken, rows_past}
 use Rattle.ft_format.specs.InstrRecords.{FitsSubst}
 use Rattle.ft_format.specs.Broken.{instrs_broken, rows_taken}
-use Rattle.ft_format.specs.Format.{SupportsInstr}
+use Rattle.ft_format.specs.InstrRecords.{SupportsInstr}
 use Rattle.ft_format.proofs.Layouts.{Fit, AllFit}
 use Rattle.ft_format.proofs.Codes.{colour_back, register_back, basic_back, base_small, type_fits, colour_small}
 use Rattle.ft_format.proofs.Codes.{word_back, le_true, lt_true, eq_true, colour_fine, op_fine, register_fine}

@@ -7,14 +7,15 @@ use Rattle.std.proofs.lemmas.List.{length-append}
 use Rattle.ft_static.specs.declared.node.Node.{Node}
 use Rattle.ft_static.specs.declared.node.Shape.{Shape}
 use Rattle.ft_static.specs.declared.node.Shape.TheVariants.{Word, Op as OpNode, Memory}
-use Rattle.ft_static.specs.NodeRules.{IsLength, MayName, IsShape, IsNode}
+use Rattle.ft_static.specs.NodeRules.{MayName, IsShape, IsNode}
+use Rattle.ft_isa.specs.Words.{IsLength}
 use Rattle.ft_isa.proofs.Operations.{op_back}
 use Rattle.ft_types.specs.NodeRows.{shape_row, node_row}
 use Rattle.ft_format.specs.declared.object_error.ObjectError.TheVariants as errors
 use Rattle.ft_format.specs.Layout.{code_layout}
 use Rattle.ft_format.specs.declared.version.Version.{Version}
 use Rattle.ft_format.specs.Versions.{last_node_kind}
-use Rattle.ft_format.specs.Format.{SupportsShape, SupportsNode}
+use Rattle.ft_format.specs.NodeRecords.{SupportsShape, SupportsNode}
 use Rattle.ft_format.specs.Rules.{must, zero_broken, count_broken, some_broken}
 use Rattle.ft_format.specs.NodeRecords.{node_op_broken, parts_broken, node_broken, node_of, FitsShape}
 use Rattle.ft_format.specs.Codes.{Is8, Is32}

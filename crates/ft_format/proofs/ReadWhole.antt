@@ -14,15 +14,14 @@ use Rattle.ft_types.specs.NodeRows.{node_row}
 use Rattle.ft_format.specs.declared.object_error.ObjectError.TheVariants as errors
 use Rattle.ft_format.specs.declared.header.Header.{Header}
 use Rattle.ft_format.specs.Fields.{header_numbers}
-use Rattle.ft_format.specs.Format.{AreBytes, SupportsName, SupportsNode, SupportsInstr, Supports, Spells}
+use Rattle.ft_format.specs.Format.{AreBytes, SupportsName, Supports, Spells}
+use Rattle.ft_format.specs.NodeRecords.{SupportsNode, node_of}
+use Rattle.ft_format.specs.InstrRecords.{SupportsInstr, instr_row, instr_of}
 use Rattle.ft_format.specs.Versions.{version_of}
 use Rattle.ft_format.specs.Layout.{numbers, written, rows, spelled, header_layout, cell_layout, code_layout}
 use Rattle.ft_format.specs.Layout.{type_layout, reg_layout, pair_layout, subst_layout}
 use Rattle.ft_format.specs.Rules.{must, ◌next◌, header_broken}
-use Rattle.ft_format.specs.Rows.{cell_rows, type_rows, reg_row, queue_row, block_row, subst_row, header_row}
-use Rattle.ft_format.specs.InstrRecords.{instr_row, instr_of}
-use Rattle.ft_format.specs.Rows.{spelling}
-use Rattle.ft_format.specs.NodeRecords.{node_of}
+use Rattle.ft_format.specs.Rows.{cell_rows, type_rows, reg_row, queue_row, block_row, subst_row, header_row, spelling}
 use Rattle.ft_format.specs.Values.{reg_type_of, pair_of, block_of, subst_node_of}
 use Rattle.ft_format.specs.Broken.{cells_broken, nodes_broken, blocks_broken, instrs_broken, rows_taken}
 use Rattle.ft_format.specs.Broken.{subst_rows_broken, substs_broken, names_broken, nodes_at, types_at, regs_at}

@@ -5,7 +5,8 @@ use Rattle.std.specs.Prelude.{nat_lt, not, if◌then◌else◌, slice_get}
 use Rattle.std.proofs.lemmas.Bool.Decides.{nat_tests}
 use Rattle.ft_isa.proofs.Lists.{get_front}
 use Rattle.ft_static.specs.declared.node.Node.{Node}
-use Rattle.ft_static.specs.NodeRules.{is_memory, MayName}
+use Rattle.ft_static.specs.NodeRules.{MayName}
+use Rattle.ft_static.specs.NodeParts.{is_memory}
 use Rattle.ft_format.specs.declared.object_error.ObjectError.TheVariants as errors
 use Rattle.ft_format.specs.Rules.{must, is_of_sort, is_within, node_number_broken, named_broken}
 use Rattle.ft_format.proofs.Unbroken.{held, both}

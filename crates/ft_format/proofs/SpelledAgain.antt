@@ -9,16 +9,15 @@ use Rattle.ft_types.specs.NodeRows.{node_row}
 use Rattle.ft_format.specs.declared.object_error.ObjectError.TheVariants as errors
 use Rattle.ft_format.specs.declared.version.Version.{Version}
 use Rattle.ft_format.specs.Versions.{version_of}
-use Rattle.ft_format.specs.Format.{SupportsName, SupportsNode, SupportsInstr, Supports}
+use Rattle.ft_format.specs.Format.{SupportsName, Supports}
+use Rattle.ft_format.specs.NodeRecords.{SupportsNode, node_of}
+use Rattle.ft_format.specs.InstrRecords.{SupportsInstr, instr_row, instr_of}
 use Rattle.ft_format.specs.Layout.{numbers, written, rows, spelled, header_layout, cell_layout, code_layout}
 use Rattle.ft_format.specs.Layout.{type_layout, reg_layout, pair_layout, subst_layout}
 use Rattle.ft_format.specs.Rules.{must}
 use Rattle.ft_format.specs.Rows.{cell_rows, type_rows, reg_row, queue_row, block_row, subst_row, all_regs}
-use Rattle.ft_format.specs.InstrRecords.{instr_row, instr_of}
 use Rattle.ft_format.specs.Rows.{all_queue, all_names, header_row, spelling}
-use Rattle.ft_format.specs.Values.{cells_of, types_of, reg_type_of, pair_of, block_of, subst_node_of}
-use Rattle.ft_format.specs.NodeRecords.{node_of}
-use Rattle.ft_format.specs.Values.{header_of}
+use Rattle.ft_format.specs.Values.{cells_of, types_of, reg_type_of, pair_of, block_of, subst_node_of, header_of}
 use Rattle.ft_format.specs.Broken.{cells_broken, nodes_broken, types_broken, regs_broken, queues_broken, blocks_broken}
 use Rattle.ft_format.specs.Broken.{instrs_broken, rows_taken, subst_rows_broken, nodes_at, types_at, regs_at, queue_at}
 use Rattle.ft_format.specs.Broken.{blocks_at, instrs_at, substs_at, names_at, total, cells_part, nodes_part, regs_part}

@@ -9,9 +9,9 @@ use Rattle.ft_isa.specs.Operations.{last_op_code}
 use Rattle.ft_isa.specs.declared.op.Op.{Op}
 use Rattle.ft_isa.specs.declared.op.Op.TheVariants.{Add}
 use Rattle.ft_isa.specs.declared.instr.Instr.{Instr}
-use Rattle.ft_isa.specs.declared.instr.Instr.TheVariants.{OpReg, OpWord, Idx}
+use Rattle.ft_isa.specs.declared.instr.Instr.TheVariants.{Halt}
 use Rattle.ft_static.specs.declared.node.Shape.{Shape}
-use Rattle.ft_static.specs.declared.node.Shape.TheVariants.{Op as OpNode, Rem}
+use Rattle.ft_static.specs.declared.node.Shape.TheVariants.{Word}
 use Rattle.ft_types.specs.declared.object.Object.{Object}
 use Rattle.ft_types.specs.declared.object.Cell.{Cell}
 use Rattle.ft_types.specs.Objects.{name_of}
@@ -19,9 +19,11 @@ use Rattle.ft_types.specs.Spellable.{is_letter, is_digit, is_bracket, is_name_by
 use Rattle.ft_format.specs.declared.header.Header.{Header}
 use Rattle.ft_format.specs.declared.version.Version.{Version}
 use Rattle.ft_format.specs.declared.version.Version.TheVariants.{First, Second}
-use Rattle.ft_format.specs.Versions.{magic, is_magic, version_of, last_op, last_node_kind, last_instr_kind}
+use Rattle.ft_format.specs.Versions.{magic, is_magic, version_of, last_op, last_node_kind, last_instr_kind, SupportsOp}
 use Rattle.ft_format.specs.Versions.{longest_name, most_name_bytes, may_follow}
-use Rattle.ft_format.specs.Format.{SupportsOp, SupportsShape, SupportsInstr, SupportsName, Supports}
+use Rattle.ft_format.specs.Format.{SupportsName, Supports}
+use Rattle.ft_format.specs.NodeRecords.{SupportsShape}
+use Rattle.ft_format.specs.InstrRecords.{SupportsInstr}
 
 -- bounds that hold in both versions
 pub few_ops : (v : Version) → last_op v ≤ last_op_code
@@ -123,15 +125,12 @@ has_op Add = omega arith
 has_op op = omega arith
 
 has_shape : (s : Shape) → SupportsShape Second s
-has_shape (OpNode op a b) = has_op op
-has_shape (Rem a m) = omega arith
-has_shape _ = tt
+has_shape (Word w) = tt
+has_shape _ = search (arith, has_op)
 
 has_instr : (i : Instr) → SupportsInstr Second i
-has_instr (OpReg op rd rs rt) = has_op op
-has_instr (OpWord op rd rs value) = has_op op
-has_instr (Idx rd rs first m) = omega arith
-has_instr _ = tt
+has_instr Halt = tt
+has_instr _ = search (arith, has_op)
 
 bytes_of_name : (name : List ℕ) → is_name name ≡ true → list_all (may_follow Second) name ≡ true
 bytes_of_name [] h = refl

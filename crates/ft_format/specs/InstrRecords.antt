@@ -1,5 +1,5 @@
 -- The record of an instruction: its numbers, what they encode, which instructions fit, and the rules.
-use Rattle.std.specs.Prelude.{ℕ, ◌+◌, ◌/◌, ◌%◌, ◌^◌, true, ◌==◌, nat_lt, nat_le, List, [], ◌∷◌, Option, Some, None, if◌then◌else◌}
+use Rattle.std.specs.Prelude.{ℕ, ◌+◌, ◌/◌, ◌%◌, ◌^◌, ◌≤◌, true, ◌==◌, nat_lt, nat_le, List, [], ◌∷◌, Option, Some, None, if◌then◌else◌}
 use Rattle.ft_isa.specs.Words.{IsWord}
 use Rattle.ft_isa.specs.Operations.{op_code, op_of}
 use Rattle.ft_isa.specs.declared.reg.Reg.{Reg}
@@ -12,7 +12,7 @@ use Rattle.ft_format.specs.declared.version.Version.{Version}
 use Rattle.ft_format.specs.declared.object_error.ObjectError.{ObjectError}
 use Rattle.ft_format.specs.declared.object_error.ObjectError.TheVariants as errors
 use Rattle.ft_format.specs.declared.header.Header.{Header}
-use Rattle.ft_format.specs.Versions.{version_of, last_instr_kind}
+use Rattle.ft_format.specs.Versions.{SupportsOp, version_of, last_instr_kind}
 use Rattle.ft_format.specs.Codes.{colour_code, basic_number, register_of, colour_of, basic_type_of, coloured, Is32, FitsBasic}
 use Rattle.ft_format.specs.Rules.{must, ◌next◌, zero_broken, some_broken, colour_broken, op_broken, register_broken, basic_broken, node_number_broken}
 
@@ -79,6 +79,13 @@ FitsInstr (JmpB rd subst) = FitsSubst subst
 FitsInstr (BzB rz rd subst) = FitsSubst subst
 FitsInstr (Idx rd rs first m) = Is32 first × Is32 m
 FitsInstr _ = Unit {0}
+
+-- the version supports this instruction; an `idx` has kind 8
+abbrev pub SupportsInstr : Version → Instr → Type 0
+SupportsInstr v (OpReg op rd rs rt) = SupportsOp v op
+SupportsInstr v (OpWord op rd rs value) = SupportsOp v op
+SupportsInstr v (Idx rd rs first m) = 8 ≤ last_instr_kind v
+SupportsInstr v _ = Unit {0}
 
 -- v, 8 bytes in two halves, is zero
 abbrev pub no_word_broken : ℕ → ℕ → ℕ → Option ObjectError

@@ -1,5 +1,5 @@
 -- The record of a node: what its numbers encode, which nodes fit, and the rules. `node_row` gives the numbers.
-use Rattle.std.specs.Prelude.{ℕ, ◌+◌, Bool, true, false, ◌==◌, nat_lt, nat_le, List, [], ◌∷◌, Option, None, if◌then◌else◌}
+use Rattle.std.specs.Prelude.{ℕ, ◌+◌, ◌≤◌, Bool, true, false, ◌==◌, nat_lt, nat_le, List, [], ◌∷◌, Option, None, if◌then◌else◌}
 use Rattle.ft_isa.specs.Words.{IsWord}
 use Rattle.ft_isa.specs.Operations.{op_of}
 use Rattle.ft_static.specs.declared.node.Node.{Node}
@@ -9,7 +9,7 @@ use Rattle.ft_types.specs.NodeRows.{joined}
 use Rattle.ft_format.specs.declared.version.Version.{Version}
 use Rattle.ft_format.specs.declared.object_error.ObjectError.{ObjectError}
 use Rattle.ft_format.specs.declared.object_error.ObjectError.TheVariants as errors
-use Rattle.ft_format.specs.Versions.{last_node_kind}
+use Rattle.ft_format.specs.Versions.{SupportsOp, last_node_kind}
 use Rattle.ft_format.specs.Codes.{Is8, Is32}
 use Rattle.ft_format.specs.Rules.{must, ◌next◌, zero_broken, count_broken, some_broken, op_broken, named_broken}
 
@@ -42,6 +42,16 @@ FitsShape (Rem a m) = Is32 a × Is32 m
 -- the numbers of a node fit
 abbrev pub FitsNode : Node → Type 0
 FitsNode n = Is8 n.scope × FitsShape n.shape
+
+-- the version supports nodes of this shape; a remainder has kind 6
+abbrev pub SupportsShape : Version → Shape → Type 0
+SupportsShape v (Op op a b) = SupportsOp v op
+SupportsShape v (Rem a m) = 6 ≤ last_node_kind v
+SupportsShape v _ = Unit {0}
+
+-- the version supports this node
+abbrev pub SupportsNode : Version → Node → Type 0
+SupportsNode v n = SupportsShape v n.shape
 
 -- the operation of a node, which only kind 2 has
 abbrev pub node_op_broken : Version → ℕ → ℕ → ℕ → Option ObjectError

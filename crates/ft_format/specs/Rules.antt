@@ -2,7 +2,7 @@
 -- its place, and only the first one counts.
 use Rattle.std.specs.Prelude.{ℕ, ◌+◌, Bool, true, false, not, ◌==◌, nat_lt, nat_le, List, [], ◌∷◌, length, Option, Some, None, if◌then◌else◌, slice_get}
 use Rattle.ft_static.specs.declared.node.Node.{Node}
-use Rattle.ft_static.specs.NodeRules.{is_memory}
+use Rattle.ft_static.specs.NodeParts.{is_memory}
 use Rattle.ft_format.specs.declared.version.Version.{Version}
 use Rattle.ft_format.specs.declared.object_error.ObjectError.{ObjectError}
 use Rattle.ft_format.specs.declared.object_error.ObjectError.TheVariants as errors

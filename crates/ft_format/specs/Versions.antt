@@ -1,5 +1,7 @@
 -- What differs between the two versions of the format: each is a function of the version.
-use Rattle.std.specs.Prelude.{ℕ, ◌+◌, Bool, ◌||◌, ◌==◌, if◌then◌else◌}
+use Rattle.std.specs.Prelude.{ℕ, ◌+◌, ◌≤◌, Bool, ◌||◌, ◌==◌, if◌then◌else◌}
+use Rattle.ft_isa.specs.declared.op.Op.{Op}
+use Rattle.ft_isa.specs.Operations.{op_code}
 use Rattle.ft_types.specs.Spellable.{is_letter, is_digit, is_name_byte}
 use Rattle.ft_format.specs.declared.version.Version.{Version}
 use Rattle.ft_format.specs.declared.version.Version.TheVariants.{First, Second}
@@ -26,6 +28,10 @@ version_of h = if h.magic == magic First then First else Second
 abbrev pub last_op : Version → ℕ
 last_op First = 4
 last_op Second = 9
+
+-- the version supports this operation
+abbrev pub SupportsOp : Version → Op → Type 0
+SupportsOp v op = op_code op ≤ last_op v
 
 -- the largest code of a node kind
 abbrev pub last_node_kind : Version → ℕ

@@ -1,11 +1,15 @@
 -- Words, operations, addresses, and the line of an output.
-use Rattle.std.specs.Prelude.{ℕ, ◌+◌, ◌-◌, ◌*◌, ◌/◌, ◌%◌, ◌^◌, ◌<◌, Bool, List, ◌++◌, decimal, codes, bit_and, bit_or, bit_xor, nat_lt, ◌==◌, if◌then◌else◌}
+use Rattle.std.specs.Prelude.{ℕ, ◌+◌, ◌-◌, ◌*◌, ◌/◌, ◌%◌, ◌^◌, ◌<◌, ◌≤◌, Bool, List, ◌++◌, decimal, codes, bit_and, bit_or, bit_xor, nat_lt, ◌==◌, if◌then◌else◌}
 use Rattle.ft_isa.specs.declared.op.Op.{Op}
 use Rattle.ft_isa.specs.declared.op.Op.TheVariants.{Add, Sub, Mul, Ltu, Eq, And, Or, Xor, Shl, Shr}
 
 -- a number below 2^64
 abbrev pub IsWord : ℕ → Type 0
 IsWord n = n < 2 ^ 64
+
+-- the length of a run of cells
+abbrev pub IsLength : ℕ → Type 0
+IsLength m = (1 ≤ m) × (m ≤ 1024)
 
 -- the word that says whether a test holds
 abbrev pub word_of_test : Bool → ℕ

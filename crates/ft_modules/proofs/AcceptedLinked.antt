@@ -10,7 +10,8 @@ use Rattle.std.proofs.lemmas.Option.{slice_get_within, same_Some}
 use Rattle.ft_isa.specs.Words.{code_address}
 use Rattle.ft_isa.proofs.Lists.{there_below, all_there}
 use Rattle.ft_static.specs.Expression.{memory_variable}
-use Rattle.ft_static.specs.NodeRules.{is_memory, AreNodes}
+use Rattle.ft_static.specs.NodeRules.{AreNodes}
+use Rattle.ft_static.specs.NodeParts.{is_memory}
 use Rattle.ft_static.specs.NodeTree.{memory_part, memory_at, tree_of, trees, HasShape}
 use Rattle.ft_static.specs.declared.node.Shape.{Shape}
 use Rattle.ft_static.specs.declared.node.Shape.TheVariants as shape

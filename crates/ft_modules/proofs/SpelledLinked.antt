@@ -16,7 +16,8 @@ use Rattle.ft_isa.specs.declared.instr.Subst.{Subst}
 use Rattle.ft_isa.specs.declared.instr.Instr.{Instr}
 use Rattle.ft_isa.specs.declared.instr.Instr.TheVariants.{Mov}
 use Rattle.ft_isa.proofs.Lists.{all_there}
-use Rattle.ft_static.specs.NodeRules.{is_memory, MayName, IsShape, IsNode}
+use Rattle.ft_static.specs.NodeRules.{MayName, IsShape, IsNode}
+use Rattle.ft_static.specs.NodeParts.{is_memory}
 use Rattle.ft_static.specs.declared.node.Node.{Node}
 use Rattle.ft_static.specs.declared.node.Shape.{Shape}
 use Rattle.ft_static.specs.declared.node.Shape.TheVariants as shape

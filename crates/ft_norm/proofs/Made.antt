@@ -8,8 +8,8 @@ use Rattle.ft_static.specs.Expression.{integer, word}
 use Rattle.ft_static.specs.Form.{Form as Normal, Polynomial, Updates, integer_form, memory_form, nought, polynomial_of}
 use Rattle.ft_static.specs.Form.{updates_of, unchanged, update, updates, same_polynomial}
 use Rattle.ft_static.specs.NormalForm.{norm_upd, form_of, form_under, integer_in, memory_in, updates_or}
-use Rattle.ft_static.specs.NodeParts.{EachPart, renamed}
-use Rattle.ft_static.specs.NodeRules.{AreNodes, IsShape, MayName, is_memory}
+use Rattle.ft_static.specs.NodeParts.{EachPart, renamed, is_memory}
+use Rattle.ft_static.specs.NodeRules.{AreNodes, IsShape, MayName}
 use Rattle.ft_static.specs.NodeTree.{tree_at, trees}
 use Rattle.ft_static.specs.declared.node.Node.{Node}
 use Rattle.ft_static.specs.declared.node.Shape.{Shape}

@@ -5,7 +5,8 @@ use Rattle.std.specs.Prelude.{IfOk}
 use Rattle.indexmap.specs.IndexMap.{IsUnchanged, get}
 use Rattle.ft_static.specs.Form.{Form as Normal, Polynomial, Updates, updates}
 use Rattle.ft_static.specs.NormalForm.{form_under}
-use Rattle.ft_static.specs.NodeRules.{AreNodes, is_memory}
+use Rattle.ft_static.specs.NodeRules.{AreNodes}
+use Rattle.ft_static.specs.NodeParts.{is_memory}
 use Rattle.ft_static.specs.NodeTree.{tree_at}
 use Rattle.ft_static.specs.declared.node.Node.{Node}
 use Rattle.ft_norm.specs.declared.form.Form.{Form}

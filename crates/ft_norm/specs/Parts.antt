@@ -4,7 +4,7 @@ use Rattle.indexmap.specs.IndexMap.{IndexMap, get}
 use Rattle.ft_static.specs.Form.{Form as Normal, Polynomial, Updates, updates}
 use Rattle.ft_static.specs.NormalForm.{form_over}
 use Rattle.ft_static.specs.NodeParts.{EachPart, renamed}
-use Rattle.ft_static.specs.NodeRules.{IsLength}
+use Rattle.ft_isa.specs.Words.{IsLength}
 use Rattle.ft_static.specs.declared.node.Shape.{Shape}
 use Rattle.ft_static.specs.declared.node.Shape.TheVariants.{Sel, Rem}
 use Rattle.ft_norm.specs.declared.form.Form.{Form}

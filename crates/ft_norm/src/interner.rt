@@ -2,7 +2,8 @@
 ghost use Rattle.std.specs.Prelude.{◌≡◌, ◌↔◌, ◌+◌, ◌*◌, ◌<◌, ◌≤◌, [], Some, IfOk, IsTrue, length, slice_get, true, false};
 ghost use Rattle.ft_static.specs.Expression.{Expression, HasWords, IsLawful, Valuation, denotation};
 ghost use Rattle.ft_static.specs.Form.{has_atom, integer_form, memory_form, unchanged, updates, variable_atom};
-ghost use Rattle.ft_static.specs.NodeRules.{AreNodes, is_memory};
+ghost use Rattle.ft_static.specs.NodeRules.{AreNodes};
+ghost use Rattle.ft_static.specs.NodeParts.{is_memory};
 ghost use Rattle.ft_static.specs.NodeTree.{tree_at};
 ghost use Rattle.ft_static.specs.NormalForm.{alone, constant, form_under, norm, norm_op, norm_rem, norm_sel, norm_upd};
 ghost use Rattle.ft_static.specs.declared.node.Node.{Node as Numbered};

@@ -3,7 +3,8 @@ ghost use Rattle.std.specs.Prelude.{◌≡◌, ◌+◌, ◌*◌, ◌<◌, ◌≤
 ghost use Rattle.indexmap.specs.IndexMap.{get};
 ghost use Rattle.ft_static.specs.Form.{Form as Normal, updates};
 ghost use Rattle.ft_static.specs.NormalForm.{form_of, form_under};
-ghost use Rattle.ft_static.specs.NodeRules.{AreNodes, is_memory};
+ghost use Rattle.ft_static.specs.NodeRules.{AreNodes};
+ghost use Rattle.ft_static.specs.NodeParts.{is_memory};
 ghost use Rattle.ft_static.specs.NodeTree.{tree_at};
 ghost use Rattle.ft_static.specs.declared.node.Node.{Node as Numbered};
 ghost use Rattle.ft_norm.specs.Held.{AreIntegers, IsInteger, IsMemory, Keeps, held, polynomials, updates_held};

@@ -10,8 +10,8 @@ use Rattle.ft_isa.proofs.Operations.{op_back}
 use Rattle.ft_static.specs.Expression.{Integer, Memory, Expression, word, variable, operation, sel, rem}
 use Rattle.ft_static.specs.Expression.{memory_variable, upd, integer, memory, HasWords, HasVariablesBelow, AreWords}
 use Rattle.ft_static.specs.Expression.{AreWordsOfMemory, IsWithin, IsMemoryWithin, same_integer, same_memory}
-use Rattle.ft_static.specs.NodeRules.{is_memory, MayName, IsShape, AreNodes}
-use Rattle.ft_static.specs.NodeParts.{EachPart, renamed}
+use Rattle.ft_static.specs.NodeRules.{MayName, IsShape, AreNodes}
+use Rattle.ft_static.specs.NodeParts.{is_memory, EachPart, renamed}
 use Rattle.ft_static.specs.NodeTree.{integer_part, memory_part, integer_at, memory_at, tree_of, trees_onto, trees}
 use Rattle.ft_static.specs.NodeTree.{tree_at, HasShape, StandsFor, word_node, variable_node, operation_node, sel_node}
 use Rattle.ft_static.specs.NodeTree.{rem_node, memory_node, upd_node, HasPartsBelow}

@@ -6,8 +6,7 @@ use Rattle.std.specs.FinMap as words
 use Rattle.std.specs.FinMap.{FinMap}
 use Rattle.ft_isa.specs.declared.op.Op.{Op}
 use Rattle.ft_isa.specs.Operations.{op_code}
-use Rattle.ft_isa.specs.Words.{apply, IsWord}
-use Rattle.ft_static.specs.NodeRules.{IsLength}
+use Rattle.ft_isa.specs.Words.{apply, IsWord, IsLength}
 
 mutual
   -- an integer: a word, a variable, an operation on two integers, the word of a memory at an address, or the remainder

@@ -9,7 +9,7 @@ use Rattle.ft_isa.specs.declared.op.Op.{Op}
 use Rattle.ft_isa.specs.declared.op.Op.TheVariants.{Add, Sub, Mul, Ltu, Eq, And, Or, Xor, Shl, Shr}
 use Rattle.ft_isa.specs.Words.{apply, IsWord}
 use Rattle.ft_static.specs.Expression.{WordMap, Denotation, denoted_word, denoted_memory, Valuation, integer_of, word_at, with_word}
-use Rattle.ft_static.specs.NodeRules.{is_memory}
+use Rattle.ft_static.specs.NodeParts.{is_memory}
 use Rattle.ft_static.specs.declared.node.Shape.{Shape}
 use Rattle.ft_static.specs.declared.node.Shape.TheVariants as shape
 

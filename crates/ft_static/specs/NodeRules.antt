@@ -1,16 +1,8 @@
 -- The rules that numbered nodes obey.
-use Rattle.std.specs.Prelude.{◌≡◌, ℕ, ◌<◌, ◌≤◌, Bool, true, false, List, length, Some, slice_get}
-use Rattle.ft_isa.specs.Words.{IsWord}
+use Rattle.std.specs.Prelude.{◌≡◌, ℕ, ◌<◌, ◌≤◌, Bool, List, length, Some, slice_get}
 use Rattle.ft_static.specs.declared.node.Node.{Node}
 use Rattle.ft_static.specs.declared.node.Shape.{Shape}
-use Rattle.ft_static.specs.declared.node.Shape.TheVariants.{Word, Var, Memory, Upd, Rem}
-use Rattle.ft_static.specs.NodeParts.{EachPart}
-
--- whether a node stands for a memory; the others stand for integers
-abbrev pub is_memory : Shape → Bool
-is_memory Memory = true
-is_memory (Upd memory at value) = true
-is_memory x = false
+use Rattle.ft_static.specs.NodeParts.{IsInRange, is_memory}
 
 -- node m may be used as a node of this sort, below number n and within this scope
 pub record MayName (nodes : List Node) (n scope : ℕ) (memory : Bool) (m : ℕ) : Type 0 where
@@ -20,16 +12,9 @@ pub record MayName (nodes : List Node) (n scope : ℕ) (memory : Bool) (m : ℕ)
   pub sort : is_memory node.shape ≡ memory
   pub scope_within : node.scope ≤ scope
 
--- the length of a run of cells
-abbrev pub IsLength : ℕ → Type 0
-IsLength m = (1 ≤ m) × (m ≤ 1024)
-
 -- the rules for the shape of node n: it may name each part, and the word, variable or length in it is in range
 abbrev pub IsShape : List Node → ℕ → ℕ → Shape → Type 0
-IsShape nodes n scope (Word w) = IsWord w
-IsShape nodes n scope (Var i) = i < scope
-IsShape nodes n scope (Rem a m) = MayName nodes n scope false a × IsLength m
-IsShape nodes n scope x = EachPart (MayName nodes n scope) x
+IsShape nodes n scope x = IsInRange (MayName nodes n scope) scope x
 
 -- node n obeys the rules: its scope is at most 128, and its parts are lower nodes of the right sort, within its scope
 pub record IsNode (nodes : List Node) (n : ℕ) (node : Node) : Type 0 where

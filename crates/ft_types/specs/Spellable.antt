@@ -2,7 +2,7 @@
 -- spelled in bytes.
 use Rattle.std.specs.Prelude.{◌≡◌, ◌≢◌, ℕ, suc, ◌+◌, ◌<◌, ◌≤◌, Bool, true, false, ◌&&◌, ◌||◌, ◌==◌, nat_le, List, [], ◌∷◌, length, map, sum_by, Option, Some, None, All}
 use Rattle.std.specs.List.{list_all, AllPairs}
-use Rattle.ft_isa.specs.Words.{IsWord}
+use Rattle.ft_isa.specs.Words.{IsWord, IsLength}
 use Rattle.ft_isa.specs.declared.basic.Base.{Base}
 use Rattle.ft_isa.specs.declared.basic.Base.TheVariants.{Int, Code}
 use Rattle.ft_isa.specs.declared.basic.Basic.{Basic}
@@ -10,7 +10,7 @@ use Rattle.ft_isa.specs.declared.instr.Subst.{Subst}
 use Rattle.ft_isa.specs.declared.instr.Instr.{Instr}
 use Rattle.ft_isa.specs.declared.instr.Instr.TheVariants.{OpWord, Mov, JmpB, BzB, Idx}
 use Rattle.ft_static.specs.declared.node.Node.{Node}
-use Rattle.ft_static.specs.NodeRules.{MayName, AreNodes, IsLength}
+use Rattle.ft_static.specs.NodeRules.{MayName, AreNodes}
 use Rattle.ft_types.specs.declared.object.Object.{Object}
 use Rattle.ft_types.specs.declared.object.Cell.{Cell}
 use Rattle.ft_types.specs.declared.object.Block.{Block}

@@ -6,12 +6,13 @@ use Rattle.std.specs.Option.{option_map}
 use Rattle.std.proofs.lemmas.List.{length-map}
 use Rattle.std.proofs.lemmas.Option.{slice_get-map}
 use Rattle.ft_static.specs.declared.node.Node.{Node}
-use Rattle.ft_static.specs.NodeRules.{is_memory}
+use Rattle.ft_static.specs.NodeParts.{is_memory}
 use Rattle.ft_format.specs.Layout.{numbers, rows, code_layout}
 use Rattle.ft_format.specs.Rules.{is_of_sort, is_within}
 use Rattle.ft_format.specs.NodeRecords.{shape_of, node_of}
 use Rattle.ft_format.proofs.Layouts.{length_rows}
 use Rattle.ft_format.proofs.Codes.{eq_false}
+use Rattle.std.proofs.lemmas.Bool.Decides.{nat_tests}
 use Rattle.ft_view.proofs.Records.{record_at}
 
 -- how many nodes there are
@@ -32,25 +33,8 @@ row_is count n bytes part row nodes e lt is numbers_are =
     ∙ ap (option_map node_of) there
 
 -- the sort of a kind
-rem_sort : (kind op a b c : ℕ) → 6 ≤ kind → is_memory (shape_of kind op a b c) ≡ ((kind == 4) || (kind == 5))
-rem_sort kind op a b c le =
-    let n0 : (kind == 0) ≡ false = eq_false kind 0 (λ e. omega (arith, e, le)) in
-    let n1 : (kind == 1) ≡ false = eq_false kind 1 (λ e. omega (arith, e, le)) in
-    let n2 : (kind == 2) ≡ false = eq_false kind 2 (λ e. omega (arith, e, le)) in
-    let n3 : (kind == 3) ≡ false = eq_false kind 3 (λ e. omega (arith, e, le)) in
-    let n4 : (kind == 4) ≡ false = eq_false kind 4 (λ e. omega (arith, e, le)) in
-    let n5 : (kind == 5) ≡ false = eq_false kind 5 (λ e. omega (arith, e, le)) in
-    rw (n0, n1, n2, n3, n4, n5) refl
-
 sort_is : (kind op a b c : ℕ) → is_memory (shape_of kind op a b c) ≡ ((kind == 4) || (kind == 5))
-sort_is zero op a b c = refl
-sort_is (suc zero) op a b c = refl
-sort_is (suc (suc zero)) op a b c = refl
-sort_is (suc (suc (suc zero))) op a b c = refl
-sort_is (suc (suc (suc (suc zero)))) op a b c = refl
-sort_is (suc (suc (suc (suc (suc zero))))) op a b c = refl
-sort_is (suc (suc (suc (suc (suc (suc k)))))) op a b c =
-    rem_sort (suc (suc (suc (suc (suc (suc k)))))) op a b c (omega arith)
+sort_is kind op a b c = grind (arith, nat_tests)
 
 pub memory_sort : (nodes : List Node) (n kind op scope pad a b c : ℕ) → slice_get nodes n
     ≡ Some (node_of (kind ∷ op ∷ scope ∷ pad ∷ a ∷ b ∷ c ∷ [])) → ((kind == 4) || (kind == 5))
