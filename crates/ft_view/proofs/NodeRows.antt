@@ -1,5 +1,5 @@
 -- Nodes, kept as their records.
-use Rattle.std.proofs.Common.{◌≡◌, ℕ, zero, suc, ◌*◌, ◌<◌, ◌≤◌, true, false, List, [], ◌∷◌, length, map, take, drop}
+use Rattle.std.proofs.Common.{◌≡◌, ℕ, ◌*◌, ◌<◌, ◌≤◌, true, false, List, [], ◌∷◌, length, map, take, drop}
 use Rattle.std.proofs.Common.{Some, refl, sym, ap, ◌∙◌, arith}
 use Rattle.std.specs.Prelude.{◌==◌, ◌||◌, nat_le, not, slice_get}
 use Rattle.std.specs.Option.{option_map}
@@ -11,7 +11,6 @@ use Rattle.ft_format.specs.Layout.{numbers, rows, code_layout}
 use Rattle.ft_format.specs.Rules.{is_of_sort, is_within}
 use Rattle.ft_format.specs.NodeRecords.{shape_of, node_of}
 use Rattle.ft_format.proofs.Layouts.{length_rows}
-use Rattle.ft_format.proofs.Codes.{eq_false}
 use Rattle.std.proofs.lemmas.Bool.Decides.{nat_tests}
 use Rattle.ft_view.proofs.Records.{record_at}
 
