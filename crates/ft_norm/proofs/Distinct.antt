@@ -1,4 +1,4 @@
--- Over distinct forms, two entries are equal exactly if their forms are.
+-- Over distinct forms, two entries are equal exactly when their forms are.
 use Rattle.std.proofs.Common.{ℕ, suc, zero, ◌≡◌, ◌≢◌, ◌+◌, ◌^◌, ◌<◌, ◌≤◌, ◌||◌, Bool, true, false, if◌then◌else◌, List}
 use Rattle.std.proofs.Common.{[], ◌∷◌, ◌++◌, length, get_or, refl, sym, ap, ◌∙◌, subst, arith, true≢false, Some}
 use Rattle.std.proofs.Common.{slice_get, inl, inr, map, length-append}
