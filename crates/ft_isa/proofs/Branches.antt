@@ -6,12 +6,12 @@ use Rattle.std.specs.Str.{bytes_eq}
 use Rattle.std.proofs.lemmas.Bool.{eqb-true}
 use Rattle.std.proofs.lemmas.Slice.Eq.{bytes_eq-Decides}
 
--- if a test guards the only value, then a value means that the test holds, and it is that value
+-- if `if test then Some x else None` is `Some y`, the test holds, and x is y
 pub if_some : {A : Type 0} (test : Bool) (x y : A) → (if test then Some x else None) ≡ Some y → (test ≡ true) × (x ≡ y)
 if_some true x y e = (refl, cc)
 if_some false x y e = absurd cc
 
--- a value of a conditional is that of its first branch, if the test holds, or that of its second branch
+-- a value of a conditional is the value of its first branch, and then the test holds, or the value of its second branch
 pub of_branch : {A : Type 0} (test : Bool) (o p : Option A) (y : A) → (if test then o else p) ≡ Some y →
     ((test ≡ true) × (o ≡ Some y)) ⊎ (p ≡ Some y)
 of_branch true o p y e = inl (refl, e)
@@ -23,7 +23,7 @@ pub of_map : {A B : Type 0} (f : A → B) (o : Option A) (y : B) → option_map 
 of_map f None y e = absurd cc
 of_map f (Some x) y e = (x, (refl, cc))
 
--- P holds of the result of a test for the letter c if it holds at c and on the other branch
+-- P holds of the result of a test for the letter c if it holds of the result at c and of that of the other branch
 pub of_letter : {A : Type 0} (P : ℕ → A → Type 0) (b c : ℕ) (made after : A) (o : Option A) → P c made →
     (o ≡ Some after → P b after) → (if eqb b c then Some made else o) ≡ Some after → P b after
 of_letter {A} P b c made after o here other e =
@@ -38,7 +38,7 @@ of_letter {A} P b c made after o here other e =
 pub same_word : (w v : List ℕ) → bytes_eq w v ≡ true → w ≡ v
 same_word w v e = (bytes_eq-Decides w v).0 e
 
--- P holds of the result of a match on words if it holds at the first word and on the other branch
+-- P holds of the result of a match on words if it holds of the result at the first word and of that of the other branch
 pub chosen : {A : Type 0} (P : List ℕ → A → Type 0) (v w : List ℕ) (x y : Option A) → ((a : A) → x ≡ Some a → P v a) →
     ((a : A) → y ≡ Some a → P w a) → (a : A) → (if bytes_eq w v then x else y) ≡ Some a → P w a
 chosen P v w x y h i a e = elim (of_branch (bytes_eq w v) x y a e) [

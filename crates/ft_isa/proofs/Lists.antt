@@ -50,7 +50,7 @@ there_mapped f (y ∷ xs) (suc k) x e = there_mapped f xs k x e
 
 -- PARTS
 
--- from the position of an element on, a list is that element followed by the rest
+-- the part of a list from an element on is the element, followed by the rest
 pub drop_there : {X : Type 0} (xs : List X) (k : ℕ) (x : X) → slice_get xs k ≡ Some x → drop k xs ≡ x ∷ drop (suc k) xs
 drop_there [] k x e = cc
 drop_there (y ∷ xs) zero x e = let same : y ≡ x = cc in ap (λ z. z ∷ xs) same
@@ -60,14 +60,14 @@ drop_there (y ∷ xs) (suc k) x e = drop_there xs k x e
 pub drop_next : {X : Type 0} (xs : List X) (k : ℕ) (x : X) → slice_get xs k ≡ Some x → drop k xs ≡ x ∷ drop (k + 1) xs
 drop_next xs k x e = drop_there xs k x e ∙ (let n : suc k ≡ k + 1 = omega arith in ap (λ j. x ∷ drop j xs) n)
 
--- up to and including an element, a list is the part before the element followed by it
+-- the part of a list up to and including an element is the part before it, followed by the element
 pub take_there : {X : Type 0} (xs : List X) (k : ℕ) (x : X) → slice_get xs k ≡ Some x → take (suc k) xs ≡ take k xs
     ++ x ∷ []
 take_there [] k x e = cc
 take_there (y ∷ xs) zero x e = (let same : y ≡ x = cc in ap (λ z. z ∷ []) same)
 take_there (y ∷ xs) (suc k) x e = ap (λ z. y ∷ z) (take_there xs k x e)
 
--- the first n elements of a list are at the same positions as in the list
+-- taking the first n elements does not change the element at a position below n
 pub get_taken : {X : Type 0} (n : ℕ) (xs : List X) (k : ℕ) → k < n → slice_get (take n xs) k ≡ slice_get xs k
 get_taken zero xs k lt = absurd (omega arith)
 get_taken (suc n) [] k lt = refl

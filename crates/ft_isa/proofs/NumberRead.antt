@@ -71,7 +71,7 @@ more_digits (Some m) b n g e =
 pub first_digit : (n : ℕ) → n < 10 → with_digit None (48 + n) ≡ Some n
 first_digit n h = ap (λ t. if t then Some (48 + n - 48) else None) (is_digit-from n h) ∙ ap Some (omega arith)
 
--- reading the last digit of a number after the digits before it gives the number
+-- reading the last digit of a number after the digits before it completes the number
 pub last_digit : (n : ℕ) → 10 ≤ n → IsWord n → with_digit (Some (n / 10)) (48 + n % 10) ≡ Some n
 last_digit n ten word =
     let m = n / 10 in

@@ -31,7 +31,7 @@ pub state_after-byte : {S : Type 0} (next : S → ℕ → Option S) (s t : S) (x
     state_after next s (x ∷ xs) ≡ state_after next t xs
 state_after-byte next s t x xs e = ap (option_and_then (λ a. state_after next a xs)) e
 
--- one turn of a loop: reading one more byte of a text
+-- one iteration of a loop: reading one more byte of a text
 pub state_after-more : {S : Type 0} (next : S → ℕ → Option S) (s t u : S) (xs : List ℕ) (i : ℕ) → i < length xs →
     state_after next s (take i xs) ≡ Some t → next t (get_or xs i 0) ≡ Some u → state_after next s (take (i + 1) xs)
     ≡ Some u
@@ -64,7 +64,7 @@ pub record IsReader {S V : Type 0} (next : S → ℕ → Option S) (whole : S �
   pub goes_on : (s : S) → Good s → IsViable Tells (told s)
   pub complete : (xs : List ℕ) (v : V) → Tells xs v → option_and_then whole (state_after next start xs) ≡ Some v
 
--- a text that begins with the first n of these bytes has their first i bytes, byte i, and then something else, if i < n
+-- if i < n, a text that begins with the first n of these bytes begins with the first i and byte i
 pub split_front : (xs zs : List ℕ) (i n : ℕ) → i < n → n ≤ length xs → (ws : List ℕ)
     × (take n xs ++ zs ≡ take i xs ++ get_or xs i 0 ∷ ws)
 split_front xs zs i n below within =

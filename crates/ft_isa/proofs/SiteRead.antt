@@ -182,7 +182,7 @@ site_goes_on sites.R g =
     (R zeroth, (decimal 0, (tt, refl)))
 site_goes_on (sites.Whole site) g = (site, ([], (g, append-nil (site_text site))))
 
--- if a site was read completely, the state consists of that site
+-- if a site was read completely, the state is `Whole` with that site
 pub is_whole : (s : SiteRead) (site : Site) → whole_site s ≡ Some site → s ≡ sites.Whole site
 is_whole (sites.Whole whole) site e = cc
 is_whole sites.Empty site e = absurd cc

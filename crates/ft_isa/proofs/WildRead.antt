@@ -157,7 +157,7 @@ wild_text_push [] answer = append-nil (answer_text answer)
 wild_text_push (first ∷ done) answer = ap (λ ds. answer_text first ++ ds) (more_answers_push done answer)
     ∙ simp append_assoc
 
--- appending an answer that has a text to answers that each have one gives answers that each have one
+-- if each answer has a text, this still holds after one with a text is appended
 all_push : (done : List Wild) (answer : Wild) → AllByRecursion IsAnswer done → IsAnswer answer →
     AllByRecursion IsAnswer (done ++ answer ∷ [])
 all_push [] answer all here = (here, tt)
