@@ -33,7 +33,7 @@ stops ws m n bs row rule broken why judge after e is more some h =
     let rest = rows ws n (drop (size ws) bs) in
     sym h ∙ ap judge (first_row ws m n bs row e is) ∙ more rest ∙ ap (λ r. r next after rest) some
 
--- if no record is left, the result is that of no records
+-- if no record is left, the result is the one for an empty list
 pub ends : (ws : List Width) (m : ℕ) (bs : List ℕ) (broken last : Option ObjectError) (judge : List (List ℕ) →
     Option ObjectError)
     → m ≡ 0 → judge [] ≡ last → judge (rows ws m bs) ≡ broken → broken ≡ last

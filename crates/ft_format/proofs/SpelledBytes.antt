@@ -16,7 +16,7 @@ use Rattle.ft_format.specs.Rows.{cell_rows, type_rows, reg_row, queue_row, block
 use Rattle.ft_format.specs.InstrRecords.{instr_row}
 use Rattle.ft_format.specs.Rows.{all_queue, header_row, spelling}
 
--- the empty list consists of bytes, and a list of bytes still does with one more in front
+-- the empty list consists of bytes, and adding a byte in front keeps this
 none_are : AreBytes []
 none_are i = omega arith
 

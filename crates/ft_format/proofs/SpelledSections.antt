@@ -44,7 +44,7 @@ first_byte : (name : List ℕ) → is_name name ≡ true → 0 < length name
 first_byte [] h = absurd (cc)
 first_byte (b ∷ bs) h = omega arith
 
--- cells that obey all rules obey those other than for the bytes of names, and their names are valid
+-- if cells obey all rules, they obey those that do not concern the bytes of names, and their names are valid
 pub cells_but : (v : Version) (types : ℕ) (cs : List Cell) → AllByRecursion (IsCell types) cs →
     AllByRecursion (SupportsName v) cs → AllByRecursion (IsCellBut v types) cs
 cells_but v types [] h has = tt

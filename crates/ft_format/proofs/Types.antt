@@ -86,7 +86,7 @@ values_split : {A : Type 0} (f : List ℕ → A) (ws : List Width) (m n k : ℕ)
 values_split f ws m n k bs e = ap (λ i. map f (rows ws i bs)) e ∙ ap (map f) (rows_plus ws n k bs)
     ∙ map-append f (rows ws n bs) (rows ws k (drop (size ws * n) bs))
 
--- a list in two parts is split again by the length of the first
+-- splitting a list of two parts at the length of the first gives the two parts
 first_part : {A : Type 0} (all a b : List A) (n : ℕ) → all ≡ a ++ b → length a ≡ n → take n all ≡ a
 first_part all a b n e long = ap (take n) e ∙ take_at a b n long
 

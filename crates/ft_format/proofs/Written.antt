@@ -10,6 +10,6 @@ before {x = x} {a = a} {rest = rest} p q = record {
       ∙ append_assoc x a rest;
 }
 
--- appending the last piece, with nothing after it
+-- appending a piece appends that piece followed by nothing
 pub last : {x y a : List ℕ} → Puts x y a → Puts x y (a ++ [])
 last {x = x} {a = a} p = record { added = p.added ∙ ap (λ l. x ++ l) (sym (append-nil a)) }
