@@ -100,7 +100,7 @@ products_add m c p q r v = known (add_products (add_term m c p) q r) (add_produc
     ∙ mods_both (weigh g p) (weigh g p) (weigh f (add_multiple m c q r)) (g m c + weigh f r) refl
     (weigh_multiple f s m c q r))))
 
--- the negation of a sum with a term is the sum of the negation with the negated term
+-- negating the sum of a polynomial and a term negates both
 pub negation_add : (m : Monomial) (c : ℕ) (p : Polynomial) → c < 2 ^ 64 → Rises p → negation (add_term m c p)
     ≡ add_term m ((2 ^ 64 - c % 2 ^ 64) % 2 ^ 64) (negation p)
 negation_add m c p l w = known (negation (add_term m c p)) (add_term m ((2 ^ 64 - c % 2 ^ 64) % 2 ^ 64) (negation p))

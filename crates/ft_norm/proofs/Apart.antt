@@ -19,7 +19,7 @@ use Rattle.ft_norm.proofs.Sums.{form_rises}
 use Rattle.ft_norm.proofs.Weights.{Rises, known, rises_add, rises_negation, rises_total, share_linear, share_negation}
 use Rattle.ft_norm.proofs.Weights.{weigh, weigh_add, weigh_first, weigh_negation, weigh_total, words_same}
 
--- what holds of each of two choices, by whether n is 0, holds of the chosen one
+-- what holds in both cases, whether n is 0 or not, holds of the values chosen by the test
 first_split : (P : ℕ → List Term → Type 0) (n c : ℕ) (ts us : List Term) → (n ≡ 0 → P c ts) → ((n ≡ 0 → ⊥) → P 0 us) →
     P (if n == 0 then c else 0) (if n == 0 then ts else us)
 first_split P n c ts us f g = go (n == 0) refl

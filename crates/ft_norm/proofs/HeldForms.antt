@@ -32,23 +32,23 @@ within es xs fs i x v e h =
 as_many : (es xs : List Entry) (fs : List Normal) → forms_of es ≡ fs → xs ≡ es → length xs ≡ length fs
 as_many es xs fs v e = ap length e ∙ (sym (length-forms_of es) ∙ ap length v)
 
--- an appended entry appends its form
+-- appending an entry appends its form
 pub grown : (es xs : List Entry) (fs : List Normal) (e : Entry) → forms_of es ≡ fs → xs ≡ es ++ e ∷ [] → forms_of xs
     ≡ fs ++ entry_form fs e ∷ []
 grown es xs fs e v h = ap forms_of h ∙ (forms_onto-push [] es e ∙ ap (λ gs. gs ++ entry_form gs e ∷ []) v)
 
--- a call that made the form x made the form y, if the two are equal
+-- if a call made the form x, and x is y, it made the form y
 pub made : {E : Type 0} (r : Result Form E) (gs : List Normal) (x y : Normal) → x ≡ y →
     IfOk r (λ f. held gs f ≡ Some x) → IfOk r (λ f. held gs f ≡ Some y)
 made (Ok f) gs x y e h = h ∙ ap Some e
 made (Err d) gs x y e h = tt
 
--- if place i has an integer's form, its polynomial is the one in place i
+-- if the form in place i is that of a polynomial, `polynomial_at` returns this polynomial
 pub polynomial_found : (gs : List Normal) (i : ℕ) (p : Polynomial) → slice_get gs i ≡ Some (integer_form p) →
     polynomial_at gs i ≡ p
 polynomial_found gs i p h = ap (λ (o : Option Normal). polynomial_of (unwrap_or o (integer_form nought))) h
 
--- if place i has a memory's form, its updates are those in place i
+-- if the form in place i is that of updates, `updates_at` returns these updates
 pub updates_found : (gs : List Normal) (i : ℕ) (u : Updates) → slice_get gs i ≡ Some (memory_form u) → updates_at gs i
     ≡ u
 updates_found gs i u h = ap (λ (o : Option Normal). updates_of (unwrap_or o (integer_form nought))) h

@@ -126,7 +126,7 @@ module _ (ps : List Polynomial) (u : Updates) (ns : List Node) (h : AreNodes ns)
       has_length (shape.Rem a l) h = h.1
       has_length y h = tt
 
-  -- the form with the number of a part is that of the part's tree
+  -- form i is that of the tree of node j
   abbrev IsSame : List Normal → ℕ → Bool → ℕ → Type 0
   IsSame fs i true j = updates_at fs i ≡ memory_in u tree_forms j
   IsSame fs i false j = polynomial_at fs i ≡ integer_in tree_forms j

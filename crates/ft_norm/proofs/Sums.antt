@@ -32,7 +32,7 @@ form_insert fs (t ∷ ts) (suc i) v h w =
     ∙ add_swap (monomial_form fs t.atoms) (monomial_form fs v.atoms) t.coefficient v.coefficient (polynomial_form fs ts)
     h.2 w (form_rises fs ts h.4)
 
--- increasing a coefficient by c adds the term with the coefficient c
+-- adding c to the coefficient of a term adds the term with the coefficient c
 pub form_set : (fs : List Form) (ts : List Term) (i : ℕ) (y d : Term) (c : ℕ) → AreTerms ts → i < length ts →
     c < 2 ^ 64 → y.atoms ≡ (get_or ts i d).atoms → y.coefficient ≡ (c + (get_or ts i d).coefficient) % 2 ^ 64
     → polynomial_form fs (set ts i y) ≡ add_term (monomial_form fs (get_or ts i d).atoms) c (polynomial_form fs ts)
@@ -46,7 +46,7 @@ form_set fs (t ∷ ts) (suc i) y d c h l w f e =
     ∙ add_swap (monomial_form fs t.atoms) (monomial_form fs (get_or ts i d).atoms) t.coefficient c
     (polynomial_form fs ts) h.2 w (form_rises fs ts h.4)
 
--- removing a term whose coefficient becomes 0 when c is added adds the term with the coefficient c
+-- removing a term whose coefficient plus c is 0 adds the term with the coefficient c
 pub form_remove : (fs : List Form) (ts : List Term) (i : ℕ) (d : Term) (c : ℕ) → AreTerms ts → i < length ts →
     c < 2 ^ 64 → (c + (get_or ts i d).coefficient) % 2 ^ 64 ≡ 0
     → polynomial_form fs (take i ts ++ drop (suc i) ts)
@@ -62,7 +62,7 @@ form_remove fs (t ∷ ts) (suc i) d c h l w e =
     ∙ add_swap (monomial_form fs t.atoms) (monomial_form fs (get_or ts i d).atoms) t.coefficient c
     (polynomial_form fs ts) h.2 w (form_rises fs ts h.4)
 
--- a buffer that held these elements, one of which was then set, holds them with that one set
+-- setting an element in a buffer that holds the list sets it in the list
 pub set_filled : (xs zs : List Term) (i : ℕ) (y : Term) → zs ≡ xs → refill (length xs) xs (set zs i y) ≡ set xs i y
 set_filled xs zs i y e =
     ap (λ us. refill (length xs) xs (set us i y)) e
@@ -87,7 +87,7 @@ dropped : (xs : List Term) (x : Term) (i : ℕ) → i < length xs → x ≡ get_
     ≡ get_or xs i x ∷ drop (i + 1) xs
 dropped xs x i l r = rw (add-one, drop-cons xs i x) refl
 
--- one turn of a sum: term i is added, and those after it remain
+-- adding the terms from place i on is adding term i and then those after it
 pub total_more : (fs : List Form) (xs : List Term) (x : Term) (q : Polynomial) (i : ℕ) → AreTerms xs → Rises q →
     i < length xs → x ≡ get_or xs i x
     → total (polynomial_form fs (drop i xs)) q ≡ total (polynomial_form fs (drop (i + 1) xs))
@@ -100,7 +100,7 @@ total_more fs xs x q i h w l r =
     ∙ ap (λ (t : Term). total (polynomial_form fs (drop (i + 1) xs))
     (add_term (monomial_form fs t.atoms) t.coefficient q)) (sym r))
 
--- one turn of a multiple: the product with term i is added, and those after it remain
+-- likewise for adding their products with one term
 pub multiple_more : (fs : List Form) (M : Monomial) (c : ℕ) (xs : List Term) (x : Term) (q : Polynomial) (i : ℕ) →
     AreTerms xs → Rises q → i < length xs → x ≡ get_or xs i x
     → add_multiple M c (polynomial_form fs (drop i xs)) q
@@ -114,7 +114,7 @@ multiple_more fs M c xs x q i h w l r =
     ∙ ap (λ (t : Term). add_multiple M c (polynomial_form fs (drop (i + 1) xs))
     (add_term (join M (monomial_form fs t.atoms)) ((c * t.coefficient) % 2 ^ 64) q)) (sym r))
 
--- one turn of a product: the products with term i are added, and those after it remain
+-- likewise for adding their products with a polynomial
 pub products_more : (fs : List Form) (xs : List Term) (x : Term) (p q : Polynomial) (i : ℕ) → Rises q → i < length xs →
     x ≡ get_or xs i x
     → add_products (polynomial_form fs (drop i xs)) p q

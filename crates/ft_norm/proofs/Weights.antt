@@ -105,7 +105,7 @@ module _ (f : Monomial → ℕ → ℕ) (l : IsLinear f) where
       omega (arith, x, y)))
       (λ e. let x = weigh_add m c p in omega (arith, x))
 
-  -- what f gives for the terms of a sum is what it gives for those of both operands
+  -- what f gives for a sum is the sum of what it gives for the operands, modulo 2^64
   pub weigh_total : (p q : Polynomial) → weigh f (total p q) % 2 ^ 64 ≡ (weigh f p + weigh f q) % 2 ^ 64
   weigh_total nought q = rw zero-add refl
   weigh_total (plus m c p) q = let x = weigh_total p (add_term m c q) in let y = weigh_add m c q in omega (arith, x, y)
