@@ -118,7 +118,7 @@ name_halts v end at start m n past refs base code_type init names rest earlier b
     ∙ ap (λ r. r next names_broken v end (earlier ++ cell ∷ [])
     (at + start + length (take (past - start) (drop start names))) after) some
 
--- if no name is left, the result is that of no names
+-- if no name is left, the result is the one for an empty list
 pub names_end : (v : Version) (end place start m : ℕ) (names rest : List ℕ) (earlier : List Cell)
     (broken : Option ObjectError) → m ≡ 0
     → names_broken v end earlier place (cells_of names start (rows cell_layout m rest)) ≡ broken → broken
