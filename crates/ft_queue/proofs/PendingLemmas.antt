@@ -71,14 +71,14 @@ with_value-beyond [] i v beyond = refl
 with_value-beyond (f ∷ q) zero v beyond = absurd (omega arith)
 with_value-beyond (f ∷ q) (suc i) v beyond = ap (λ r. f ∷ r) (with_value-beyond q i v (omega arith))
 
--- if entry i has the address, it is the newest of the first i + 1 entries that has it
+-- if entry i has the address, it is the newest with that address among the first i + 1
 pub newest_now : (q : Pending) (i a : ℕ) (e : ℕ × ℕ) → i < length q → slice_get q i ≡ Some e → e.0 ≡ a → Some e.1
     ≡ newest_at (take (i + 1) q) a
 newest_now q i a e below h here =
     let g = get_or_from_slice_get q i e (0, 0) h in
     ap (λ (x : ℕ × ℕ). Some x.1) (sym g) ∙ newest_at-take_here q i a (0, 0) below (ap (λ (x : ℕ × ℕ). x.0) g ∙ here)
 
--- if entry i has another address, the newest of the first i + 1 entries with the address is among the first i
+-- if entry i has another address, the newest with the address among the first i + 1 entries is among the first i
 pub newest_before : (q : Pending) (i a : ℕ) (e : ℕ × ℕ) → i < length q → slice_get q i ≡ Some e → e.0 ≢ a →
     newest_at (take i q) a ≡ newest_at (take (i + 1) q) a
 newest_before q i a e below h other =
