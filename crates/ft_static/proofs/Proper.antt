@@ -31,8 +31,7 @@ less_not_greater o e k = let x : Less ≡ Greater = sym e ∙ k in cc
 equal_not_greater : (o : Ordering) → o ≡ Equal → o ≢ Greater
 equal_not_greater o e k = let x : Equal ≡ Greater = sym e ∙ k in cc
 
--- an atom that is not greater than a monomial's first atom or than an inserted one is not greater than the result's
--- first
+-- an atom that leads a monomial still leads it after an atom that is not less than it is inserted
 leads_with : (a b : Atom) (m : Monomial) → cmp_atom b a ≢ Greater → Leads b m → Leads b (with_factor a m)
 leads_with a b one h k = h
 leads_with a b (times d m) h k = by_cases (λ n. Leads b n) (cmp_atom a d) (times a (times d m)) (times a (times d m))
@@ -63,7 +62,7 @@ pub factors_join : (m n : Monomial) → factors (join m n) ≡ factors m + facto
 factors_join one n = omega arith
 factors_join (times a m) n = let h = factors_join m (with_factor a n) in let k = factors_with a n in omega arith
 
--- a monomial below a polynomial is below it with a larger term put first
+-- a monomial below a polynomial stays below it when a larger term is put first
 pub below_led : (k m : Monomial) (c : ℕ) (p : Polynomial) → cmp_monomial k m ≡ Less → Below k p → Below k (led_by m c p)
 below_led k m c p h g = if_cases (λ q. Below k q) (c == 0) p (plus m c p) (λ e. g) (λ e. h)
 
