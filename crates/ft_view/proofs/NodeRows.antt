@@ -31,7 +31,7 @@ row_is count n bytes part row nodes e lt is numbers_are =
     sym (ap (λ l. slice_get l n) e) ∙ slice_get-map node_of (rows code_layout count bytes) n
     ∙ ap (option_map node_of) there
 
--- the sort of a kind
+-- a node is a memory exactly when its kind is 4 or 5
 rem_sort : (kind op a b c : ℕ) → 6 ≤ kind → is_memory (shape_of kind op a b c) ≡ ((kind == 4) || (kind == 5))
 rem_sort kind op a b c le =
     let n0 : (kind == 0) ≡ false = eq_false kind 0 (λ e. omega (arith, e, le)) in
