@@ -13,7 +13,7 @@ use Rattle.ft_edge.specs.Lines.{with_lines, FailsPut, BreaksOff, PutEnd, AllPut,
 use Rattle.ft_edge.specs.Lines.{end_of_puts}
 use Rattle.ft_edge.proofs.Appended.{known_more, known_none, told_more, told_none}
 
--- two records with equal parts
+-- two records with equal parts are equal
 pub same_log : {w w' : Option (List ℕ)} {p p' : Option (List (List ℕ))} {n n' : ℕ} → w ≡ w' → p ≡ p' → n ≡ n'
     → ◌≡◌ {A = SinkLog} (record { written = w; pieces = p; failures = n }) (record {
       written = w';
@@ -22,11 +22,11 @@ pub same_log : {w w' : Option (List ℕ)} {p p' : Option (List (List ℕ))} {n n
     })
 same_log a b c = λ i. record { written = a i; pieces = b i; failures = c i }
 
--- no line was put
+-- putting no lines leaves the record unchanged
 pub lines_none : (log : SinkLog) → log ≡ with_lines [] log
 lines_none log = same_log (known_none log.written) (told_none log.pieces) refl
 
--- some lines were put, and then others
+-- putting some lines and then others has the same effect as putting all of them
 pub lines_more : (xs ys : List (List ℕ)) (log : SinkLog) → with_lines ys (with_lines xs log) ≡ with_lines (xs ++ ys) log
 lines_more xs ys log =
     same_log (known_more log.written (concat xs) (concat ys)
@@ -37,12 +37,12 @@ pub lines_then : (xs ys : List (List ℕ)) (old mid new : SinkLog) → mid ≡ w
     new ≡ with_lines (xs ++ ys) old
 lines_then xs ys old mid new h i = i ∙ ap (with_lines ys) h ∙ lines_more xs ys old
 
--- one line was put
+-- if one line was put, the new record is the old one with that line
 pub line_put : (line : List ℕ) (old new : SinkLog) → new.written ≡ append_known old.written line → new.pieces
     ≡ append_told old.pieces (line ∷ []) → new.failures ≡ old.failures → new ≡ with_lines (line ∷ []) old
 line_put line old new w p n = same_log (w ∙ ap (append_known old.written) (sym (append-nil line))) p n
 
--- the put of one line failed
+-- if the put of the only line fails, the puts break off
 pub line_breaks : (line : List ℕ) (old new : SinkLog) → FailsPut line old new → BreaksOff (line ∷ []) old new
 line_breaks line old new h = record {
   done = [];
@@ -52,7 +52,7 @@ line_breaks line old new h = record {
   fails = subst (λ log. FailsPut line log new) (lines_none old) h;
 }
 
--- a put of one line
+-- the put of a single line ends like a call that writes one line
 pub line_puts : (r : Result (Unit {0}) Failed) (line : List ℕ) (old new : SinkLog) → new.pieces
     ≡ append_told old.pieces (line ∷ []) → old.failures ≤ new.failures
     → OnOk r (new.failures ≡ old.failures) → OnOk r (new.written ≡ append_known old.written line) →
@@ -62,7 +62,7 @@ line_puts (Ok done) line old new pieces count same written front rose = line_put
 line_puts (Err failed) line old new pieces count same written front rose =
     line_breaks line old new (record { written = front; pieces = pieces; count = count; rose = rose })
 
--- some lines were put, and then a put failed
+-- if some lines were put, and the puts of the others broke off, the puts of all of them broke off
 pub breaks_then : (xs ys : List (List ℕ)) (old mid new : SinkLog) → mid ≡ with_lines xs old → BreaksOff ys mid new →
     BreaksOff (xs ++ ys) old new
 breaks_then xs ys old mid new h i = record {
@@ -73,7 +73,7 @@ breaks_then xs ys old mid new h i = record {
   fails = subst (λ log. FailsPut i.line log new) (ap (with_lines i.done) h ∙ lines_more xs i.done old) i.fails;
 }
 
--- a put failed, with more lines still to come
+-- if the puts of some lines broke off, the puts of these and more lines broke off
 pub breaks_before : (xs more : List (List ℕ)) (old new : SinkLog) → BreaksOff xs old new →
     BreaksOff (xs ++ more) old new
 breaks_before xs more old new h = record {
@@ -84,14 +84,14 @@ breaks_before xs more old new h = record {
   fails = h.fails;
 }
 
--- some lines were put, and then the put of the next one failed
+-- if some lines were put, and the put of the next one failed, the puts of all lines broke off
 pub breaks_at : (all done : List (List ℕ)) (line : List ℕ) (rest : List (List ℕ)) (old mid new : SinkLog) → all ≡ done
     ++ line ∷ rest → mid ≡ with_lines done old → BreaksOff (line ∷ []) mid new → BreaksOff all old new
 breaks_at all done line rest old mid new e h i =
     subst (λ lines. BreaksOff lines old new) (sym e)
     (breaks_then done (line ∷ rest) old mid new h (breaks_before (line ∷ []) rest mid new i))
 
--- some lines were put, and then the others were, or the put of one of them failed
+-- if some lines were put, the puts of all lines end in the same way as those of the others
 pub puts_then : (e : PutEnd) (xs ys : List (List ℕ)) (old mid new : SinkLog) → e ≢ NothingPut → mid
     ≡ with_lines xs old → Puts e ys mid new → Puts e (xs ++ ys) old new
 puts_then AllPut xs ys old mid new made h i = lines_then xs ys old mid new h i
@@ -119,7 +119,7 @@ broken_text lines old new h =
       added = w.added ∙ known_more old.written (concat h.done) w.front;
     }
 
--- how a call ends if a put failed
+-- if a call returns an error and its puts broke off, they end as the result says
 pub puts_failed : {A E : Type 0} (r : Result A E) (lines : List (List ℕ)) (old new : SinkLog) → IsErr r →
     BreaksOff lines old new → Puts (end_of_puts r) lines old new
 puts_failed (Ok done) lines old new is h = absurd (cc)

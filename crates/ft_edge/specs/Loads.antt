@@ -1,4 +1,4 @@
--- What a load of a file returns, and what its failure shows.
+-- What a load of a file returns, and what the vector holds afterwards.
 use Rattle.std.specs.Prelude.{◌≡◌, ℕ, ◌≤◌, ◌<◌, List, [], length, Option, Some, Result, Ok, Err, IfSome}
 use Rattle.std.specs.Ordering.{nat_cmp}
 use Rattle.std.specs.Cmp.Lexicographic.{slice_cmp}

@@ -3,7 +3,7 @@ use Rattle.std.specs.Prelude.{ℕ, ◌+◌, nat_lt, Bool, ◌||◌, List, [], �
 use Rattle.ft_edge.specs.declared.failed.Failed.{Failed}
 use Rattle.ft_edge.specs.Calls.{Calls, no_calls, is_to_fail, with_failing, after_call, after_failed_call}
 
--- the bytes written, the room for all of them, and the puts as calls
+-- the bytes written, the capacity in bytes, and the puts as calls
 pub record MemorySink : Type 0 where
   pub written : List ℕ
   pub room : ℕ

@@ -15,8 +15,8 @@ use std::rt::Files;
 /// The maximum size of one read in bytes.
 const PIECE: usize = 131_072;
 
-/// Files of the system, by path. It does not reveal them. A file that is missing or cannot be read is a failure, and
-/// the count of failures saturates at 2^64 - 1.
+/// A shelf with the files of the system, by path. It does not reveal them. A file that is missing or cannot be read is
+/// a failure, and the count of failures saturates at 2^64 - 1.
 #[derive(Drop)]
 pub struct FolderShelf<R: Files> {
     rt: R,
@@ -121,7 +121,7 @@ fn fill<F: Read>(
     Ok(Load::TooLong)
 }
 
-/// The size that the system reports for an open file, or 0 if it reports none that fits.
+/// The size that the system reports for an open file, or 0 if it reports none or one that does not fit into a `usize`.
 fn size_of_file<F: OpenFile>(file: &F) -> usize {
     match file.metadata() {
         Ok(metadata) => usize::try_from(metadata.len()).unwrap_or(0),

@@ -20,8 +20,8 @@ struct Stored {
     bytes: Vec<u8>,
 }
 
-/// Files in memory, with loads that must fail. It reveals its files but does not record its loads: recording the name
-/// of each load, even if memory ran out, would itself need memory.
+/// A shelf with files in memory, and with loads that must fail. It reveals its files but does not record its loads:
+/// recording the name of each load, even if memory ran out, would itself need memory.
 #[derive(Drop)]
 pub struct MemShelf {
     alloc: Global,

@@ -8,7 +8,7 @@ use Rattle.std.proofs.lemmas.List.{map-append, at_drop_more}
 use Rattle.ft_format.specs.Layout.{written, spelled}
 use Rattle.ft_format.specs.Puts.{Puts}
 
--- after appending a piece
+-- after one more piece is appended, the bytes so far and those of the remaining values are still those of all values
 pub put_goes : {X : Type 0} (gives after : List X → List ℕ) (xs : List X) (i : ℕ) (x : X) (piece out out' all : List ℕ)
     → i < length xs → x ≡ get_or xs i x
     → ((rest : List X) → gives (x ∷ rest) ≡ piece ++ after rest) → Puts out out' piece → out ++ gives (drop i xs)
@@ -19,13 +19,13 @@ put_goes gives after xs i x piece out out' all lt is more p h =
     ∙ ap (λ y. gives (y ∷ rest)) (sym is) ∙ more rest in
     ap (λ l. l ++ after rest) p.added ∙ append_assoc out piece (after rest) ∙ ap (λ l. out ++ l) (sym first) ∙ h
 
--- the records of values, one after the other
+-- the records of values, one after the other, are the records of the values' rows
 pub spelled_map : {X : Type 0} (ws : List Width) (row : X → List ℕ) (xs : List X) →
     flat_map (λ x. written ws (row x)) xs ≡ spelled ws (map row xs)
 spelled_map ws row [] = refl
 spelled_map ws row (x ∷ xs) = ap (λ l. written ws (row x) ++ l) (spelled_map ws row xs)
 
--- the records of the parts of values
+-- likewise for the records of the parts of values
 pub spelled_parts : {X Y : Type 0} (ws : List Width) (row : Y → List ℕ) (parts : X → List Y) (xs : List X)
     → flat_map (λ x. flat_map (λ y. written ws (row y)) (parts x)) xs ≡ spelled ws (map row (flat_map parts xs))
 spelled_parts ws row parts [] = refl

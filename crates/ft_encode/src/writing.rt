@@ -152,7 +152,7 @@ fn write_names(cells: &[Cell], out: &mut Vec<u8>) -> Result<(), NoMemory>
     Ok(())
 }
 
-/// How many bytes the counts of a header require.
+/// The size in bytes of an object whose header has these counts.
 fn size_of(header: Header) -> usize
     ensures { result ≡ total header }
 {

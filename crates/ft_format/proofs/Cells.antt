@@ -159,7 +159,7 @@ pub record IsNamed (v : Version) (c : Cell) : Type 0 where
   pub name : is_name c.name ≡ true
   pub bytes : list_all (may_follow v) c.name ≡ true
 
--- checking the bytes of a name
+-- a name that breaks no rule is well formed, and its bytes are allowed
 rest_again : (v : Version) (at : ℕ) (bs : List ℕ) → name_rest_broken v at bs ≡ None → list_all (may_follow v) bs ≡ true
 unfolding name_rest_broken
 rest_again v at [] n = refl

@@ -29,7 +29,7 @@ use Rattle.ft_format.specs.Versions.{last_op, SupportsOp}
 use Rattle.ft_format.proofs.Unbroken.{held, both}
 use Rattle.ft_format.proofs.Versions.{few_ops}
 
--- an unbroken rule gives its comparison, and a comparison makes its test true
+-- if a rule is not broken, its comparison holds; and if a comparison holds, its test is true
 pub le_held : (n m : ℕ) (e : ObjectError) → must (nat_le n m) e ≡ None → n ≤ m
 le_held n m e h = grind (arith, nat_tests, held (nat_le n m) e h)
 

@@ -47,7 +47,7 @@ pub record InstrAgain (h : Header) (nodes : List Node) (first : ℕ) (row : List
   pub carries : Carries nodes h.substs first (subst_of (instr_of row))
   pub past : rows_past first row ≡ past_of first (subst_of (instr_of row))
 
--- the substitution of a blue jump or branch
+-- a substitution of a blue jump or branch that breaks no rule obeys the rules
 substitution_again : (h : Header) (nodes : List Node) (first at x past memory : ℕ) → AreNarrowNodes nodes
     → substitution_broken h nodes first at x past memory ≡ None
     → IsSubst nodes h.substs first (record { first = x; past = past; memory = memory })
@@ -64,7 +64,7 @@ substitution_again h nodes first at x past memory narrow n =
       memory = number_again nodes true (at + 8) memory narrow r.1.1.1.1.0;
     }
 
--- a field that must be 0, with error Count
+-- if the rule that a field is 0, else `Count`, is not broken, the field is 0
 no_again : (at n : ℕ) → must (n == 0) (errors.Count at) ≡ None → 0 ≡ n
 no_again at n h = sym (eq_held n 0 (errors.Count at) h)
 
@@ -158,7 +158,7 @@ module _ (h : Header) (nodes : List Node) (first at a b c x high low : ℕ) (nar
       })
       c (le_held c 1 (errors.Kind (at + 3)) r.1.1.0) r.1.1.1.0
 
-  -- the facts about valid fields, and the kinds whose rules depend on a field
+  -- the facts about valid fields, and about the kinds whose rules depend on a field
   ruleset again = (
     arith,
     same_seven,
@@ -212,7 +212,7 @@ pub record InstrsAgain (h : Header) (nodes : List Node) (first : ℕ) (rs : List
   pub has : AllByRecursion (SupportsInstr (version_of h)) (map instr_of rs)
   pub cover : Cover nodes h.substs first (substs_of (map instr_of rs))
 
--- putting an instruction's substitution before those of later instructions
+-- if an instruction's substitution and those of later instructions obey the rules, so do all of them together
 cover_first : (nodes : List Node) (rows first : ℕ) (s : Option Subst) (ss : List Subst) → Carries nodes rows first s →
     Cover nodes rows (past_of first s) ss → Cover nodes rows first (before s ss)
 cover_first nodes rows first None ss h c = c

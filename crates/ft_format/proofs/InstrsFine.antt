@@ -174,7 +174,7 @@ instr_fine h nodes first at i m is has s =
       past = instr_past first i;
     }
 
--- an instruction's substitution and those of later instructions obey the rules
+-- conversely, if all substitutions obey the rules, so do that of the first instruction and those of the later ones
 carried_first : (nodes : List Node) (rows first : ℕ) (s : Option Subst) (ss : List Subst) →
     Cover nodes rows first (before s ss) → Carries nodes rows first s × Cover nodes rows (past_of first s) ss
 carried_first nodes rows first None ss c = (tt, c)

@@ -64,7 +64,7 @@ after_number w32 n rest h = refl
 after_number w64 n rest h = refl
 after_number w128 n rest h = absurd h
 
--- how many bytes a number takes
+-- a number takes as many bytes as its width has
 length_number : (w : Width) (n : ℕ) → FitsIn w n → length (bytes_of w n) ≡ byte_len w
 unfolding bytes_of
 length_number w8 n h = refl
@@ -151,7 +151,7 @@ numbers_again (w ∷ ws) bs s h le =
     rw (number_again w bs s.0 h first, numbers_again ws rest s.1 (bytes_after (byte_len w) bs h) left)
     (take_plus (byte_len w) (size ws) bs)
 
--- reading n + 1 records: the first, and then n more
+-- reading n + 1 records reads the first, and then n more
 pub rows_more : (ws : List Width) (m n : ℕ) (bs : List ℕ) → m ≡ suc n → rows ws m bs
     ≡ numbers ws (take (size ws) bs) ∷ rows ws n (drop (size ws) bs)
 unfolding rows
@@ -223,7 +223,7 @@ rows_again ws (suc n) bs s h le =
     (omega (arith, length-take-le (size ws) bs first)) ∙ take-take (size ws) (size ws) bs (omega arith) in
     rw (row, rows_again ws n rest s (bytes_after (size ws) bs h) left, all) (take_plus (size ws) (size ws * n) bs)
 
--- reading `a` records, and then `b` more
+-- reading a + b records reads `a` records, and then `b` more
 pub rows_plus : (ws : List Width) (a b : ℕ) (bs : List ℕ) → rows ws (a + b) bs ≡ rows ws a bs
     ++ rows ws b (drop (size ws * a) bs)
 unfolding rows

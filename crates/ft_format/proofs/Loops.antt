@@ -8,7 +8,7 @@ use Rattle.ft_format.specs.Layout.{size, numbers, rows}
 use Rattle.ft_format.specs.Rules.{◌next◌}
 use Rattle.ft_format.proofs.Layouts.{rows_more, rows_none}
 
--- splitting the first row off the remaining rows
+-- the remaining rows are the first of them and those after it
 first_row : (ws : List Width) (m n : ℕ) (bs row : List ℕ) → m ≡ suc n → row ≡ numbers ws (take (size ws) bs) →
     rows ws m bs ≡ row ∷ rows ws n (drop (size ws) bs)
 first_row ws m n bs row e is = rows_more ws m n bs e ∙ ap (λ r. r ∷ rows ws n (drop (size ws) bs)) (sym is)
@@ -33,13 +33,13 @@ stops ws m n bs row rule broken why judge after e is more some h =
     let rest = rows ws n (drop (size ws) bs) in
     sym h ∙ ap judge (first_row ws m n bs row e is) ∙ more rest ∙ ap (λ r. r next after rest) some
 
--- no record is left
+-- if no record is left, the result is the one for an empty list
 pub ends : (ws : List Width) (m : ℕ) (bs : List ℕ) (broken last : Option ObjectError) (judge : List (List ℕ) →
     Option ObjectError)
     → m ≡ 0 → judge [] ≡ last → judge (rows ws m bs) ≡ broken → broken ≡ last
 ends ws m bs broken last judge e none h = sym h ∙ ap judge (rows_none ws m bs e) ∙ none
 
--- the values already read, the next one, and those of the remaining records
+-- after a value is read, the values read so far and those of the remaining records are still all values
 pub gives : {A : Type 0} (ws : List Width) (m n : ℕ) (bs row : List ℕ) (done all : List A) (v : A)
     (values after : List (List ℕ) → List A)
     → m ≡ suc n → row ≡ numbers ws (take (size ws) bs) → ((rest : List (List ℕ)) → values (row ∷ rest) ≡ v ∷ after rest)
@@ -49,13 +49,13 @@ gives ws m n bs row done all v values after e is more h =
     append_assoc done (v ∷ []) (after rest) ∙ ap (λ l. done
     ++ l) (sym (ap values (first_row ws m n bs row e is) ∙ more rest)) ∙ h
 
--- all values were read
+-- if no record is left, the values read so far are all values
 pub given : {A : Type 0} (ws : List Width) (m : ℕ) (bs : List ℕ) (done all : List A) (values : List (List ℕ) → List A)
     → m ≡ 0 → values [] ≡ [] → done ++ values (rows ws m bs) ≡ all → done ≡ all
 given ws m bs done all values e none h = sym (append-nil done)
     ∙ ap (λ l. done ++ l) (sym (ap values (rows_none ws m bs e) ∙ none)) ∙ h
 
--- a value computed from the remaining rows, if this row does not affect it
+-- a value computed from the remaining rows stays the same after a row that does not affect it
 pub follows : {A : Type 0} (ws : List Width) (m n : ℕ) (bs row : List ℕ) (all : A) (tells after : List (List ℕ) → A)
     → m ≡ suc n → row ≡ numbers ws (take (size ws) bs) → ((rest : List (List ℕ)) → tells (row ∷ rest) ≡ after rest)
     → tells (rows ws m bs) ≡ all → after (rows ws n (drop (size ws) bs)) ≡ all
@@ -63,7 +63,7 @@ follows ws m n bs row all tells after e is more h =
     let rest = rows ws n (drop (size ws) bs) in
     sym (ap tells (first_row ws m n bs row e is) ∙ more rest) ∙ h
 
--- dropping one more record
+-- dropping one more record after the first i drops the first i + 1
 pub past_more : (size i : ℕ) (bytes rest : List ℕ) → rest ≡ drop (size * i) bytes → drop size rest
     ≡ drop (size * (i + 1)) bytes
 past_more size i bytes rest h =

@@ -38,7 +38,7 @@ pub same_seven : {a b c d e f g a' b' c' d' e' f' g' : ℕ} → a ≡ a' → b �
     → ◌≡◌ {A = List ℕ} (a ∷ b ∷ c ∷ d ∷ e ∷ f ∷ g ∷ []) (a' ∷ b' ∷ c' ∷ d' ∷ e' ∷ f' ∷ g' ∷ [])
 same_seven p q r s t u v = rw (p, q, r, s, t, u, v) refl
 
--- the length of a run
+-- a length that breaks no rule is the length of a run
 pub length_again : (at n : ℕ) → some_broken 1024 at n ≡ None → IsLength n
 length_again at n h = let r = both (must (nat_le 1 n) (errors.Count at)) (count_broken 1024 at n) h in
     (le_held 1 n (errors.Count at) r.0, le_held n 1024 (errors.Count at) r.1)
@@ -118,7 +118,7 @@ nodes_again v earlier at (r ∷ rs) fit h =
       has = (here.has, after.has);
     }
 
--- a shape obeys the rules among the earlier nodes exactly if it obeys them among all nodes
+-- a shape obeys the rules among the earlier nodes exactly when it obeys them among all nodes
 shape_after : (earlier rest : List Node) (scope : ℕ) (s : Shape) → IsShape earlier (length earlier) scope s →
     IsShape (earlier ++ rest) (length earlier) scope s
 shape_after earlier rest scope Memory h = tt

@@ -96,7 +96,7 @@ section ws at n bytes narrow b le =
     ++ drop (size ws * n) part) (sym (rows_again ws n part narrow (bytes_after at bytes b) long))
     ∙ ap (λ l. spelled ws (rows ws n part) ++ l) (drop-drop (size ws * n) at bytes)
 
--- how many cells and types are read
+-- as many cells and types are read as there are records
 pub length_cells_of : (names : List ℕ) (start : ℕ) (rs : List (List ℕ)) → length (cells_of names start rs) ≡ length rs
 length_cells_of names start [] = refl
 length_cells_of names start (r ∷ rs) = ap suc (length_cells_of names (past_of r) rs)

@@ -208,7 +208,7 @@ tables_again h bytes b head long n =
           ∙ ap (λ l. spelled subst_layout (map subst_row (substs_read h bytes)) ++ l) names_are))))))));
     }
 
--- the sections of valid bytes
+-- valid bytes contain a header, and sections that break no rule
 pub tables_of : (bytes : List ℕ) → AreBytes bytes → broken bytes ≡ None → (48 ≤ length bytes)
     × TablesAgain (header_at bytes) bytes
 unfolding broken

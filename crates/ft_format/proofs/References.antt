@@ -1,4 +1,4 @@
--- References to nodes: the rules hold exactly if the node may be named.
+-- References to nodes: the rules hold exactly when the node may be named.
 use Rattle.std.proofs.Common.{◌≡◌, ℕ, ◌<◌, ◌≤◌, Bool, true, false, List, ◌++◌, length, Option, None, Some, refl, sym}
 use Rattle.std.proofs.Common.{ap, ◌∙◌, arith}
 use Rattle.std.specs.Prelude.{nat_lt, not, if◌then◌else◌, slice_get}
@@ -12,7 +12,7 @@ use Rattle.ft_format.specs.Rules.{must, is_of_sort, is_within, node_number_broke
 use Rattle.ft_format.proofs.Unbroken.{held, both}
 use Rattle.ft_format.proofs.Codes.{lt_held, lt_true, le_true}
 
--- the sort of a node
+-- the test of a node's sort holds exactly when the node is of that sort
 sort_of : (memory b : Bool) → (if memory then b else not b) ≡ true → b ≡ memory
 sort_of true true h = refl
 sort_of true false h = absurd (cc)
@@ -82,7 +82,7 @@ named_fine nodes scope memory at n h =
     ∙ le_true h.node.scope scope h.scope_within in
     rw (number_fine nodes scope memory at n h, within) refl
 
--- a reference to an earlier node is valid among the earlier nodes exactly if it is valid among all nodes
+-- a reference to an earlier node is valid among the earlier nodes exactly when it is valid among all nodes
 pub named_after : (earlier rest : List Node) (scope : ℕ) (memory : Bool) (n : ℕ) →
     MayName earlier (length earlier) scope memory n → MayName (earlier ++ rest) (length earlier) scope memory n
 named_after earlier rest scope memory n h = record {

@@ -1,7 +1,7 @@
 -- Lists of a given length.
 use Rattle.std.proofs.Common.{◌≡◌, ℕ, List, [], ◌∷◌, length, arith}
 
--- a list of 5 numbers
+-- what holds of any 5 numbers, as a list, holds of any list of length 5
 pub shape_5 : (P : List ℕ → Type 0) → ((a b c d e : ℕ) → P (a ∷ b ∷ c ∷ d ∷ e ∷ [])) → (row : List ℕ) → length row ≡ 5 →
     P row
 shape_5 P make [] same = absurd (omega arith)
@@ -12,7 +12,7 @@ shape_5 P make (a ∷ b ∷ c ∷ d ∷ []) same = absurd (omega arith)
 shape_5 P make (a ∷ b ∷ c ∷ d ∷ e ∷ []) same = make a b c d e
 shape_5 P make (a ∷ b ∷ c ∷ d ∷ e ∷ x ∷ xs) same = absurd (omega arith)
 
--- a list of 7 numbers
+-- what holds of any 7 numbers, as a list, holds of any list of length 7
 pub shape_7 : (P : List ℕ → Type 0) → ((a b c d e f g : ℕ) → P (a ∷ b ∷ c ∷ d ∷ e ∷ f ∷ g ∷ [])) → (row : List ℕ) →
     length row ≡ 7 → P row
 shape_7 P make [] same = absurd (omega arith)

@@ -262,7 +262,7 @@ blocks_fine h at (b ∷ bs) p m k a t =
       fit = ((omega (arith, a.1), (omega (arith, t.0), tt)), after.fit);
     }
 
--- the records of all blocks, the first of which begins at 0
+-- the records of all blocks break no rule and decode to the blocks, if the first block begins at 0
 pub all_blocks_fine : (h : Header) (at : ℕ) (bs : List Block) → h.types ≤ 4096 → h.instrs ≤ 65536 → BeginAtZero bs →
     AreBlocks h.instrs 0 bs → AllByRecursion (HasCodeType h.types) bs → BlocksFine h None at bs
 unfolding blocks_broken

@@ -16,7 +16,7 @@ use Rattle.ft_format.specs.Rows.{cell_rows, type_rows, reg_row, queue_row, block
 use Rattle.ft_format.specs.InstrRecords.{instr_row}
 use Rattle.ft_format.specs.Rows.{all_queue, header_row, spelling}
 
--- the empty list, and one more byte in front
+-- the empty list consists of bytes, and adding a byte in front keeps this
 none_are : AreBytes []
 none_are i = omega arith
 
@@ -24,34 +24,34 @@ one_more : (b : ℕ) (bs : List ℕ) → b < 256 → AreBytes bs → AreBytes (b
 one_more b bs h rest zero = h
 one_more b bs h rest (suc i) = rest i
 
--- concatenation
+-- the concatenation of two lists of bytes consists of bytes
 then : (a b : List ℕ) → AreBytes a → AreBytes b → AreBytes (a ++ b)
 then [] b p q = q
 then (x ∷ xs) b p q = one_more x (xs ++ b) (p 0) (then xs b (λ i. p (suc i)) q)
 
--- a byte of a number
+-- a byte of a number is below 256
 byte_small : (i n : ℕ) → byte_at i n < 256
 byte_small zero n = omega arith
 byte_small (suc i) n = omega arith
 
--- a written number
+-- a written number consists of bytes
 high_first : (k n : ℕ) → AreBytes (bytes_high_first k n)
 high_first zero n = none_are
 high_first (suc k) n = one_more (byte_at k n) (bytes_high_first k n) (byte_small k n) (high_first k n)
 
--- a written record
+-- a written record consists of bytes
 written_bytes : (ws : List Width) (ns : List ℕ) → AreBytes (written ws ns)
 unfolding written bytes_of
 written_bytes [] ns = none_are
 written_bytes (w ∷ ws) [] = none_are
 written_bytes (w ∷ ws) (n ∷ ns) = then (bytes_of w n) (written ws ns) (high_first (byte_len w) n) (written_bytes ws ns)
 
--- written records
+-- written records consist of bytes
 spelled_bytes : (ws : List Width) (rs : List (List ℕ)) → AreBytes (spelled ws rs)
 spelled_bytes ws [] = none_are
 spelled_bytes ws (r ∷ rs) = then (written ws r) (spelled ws rs) (written_bytes ws r) (spelled_bytes ws rs)
 
--- the bytes of a name after its first, and the whole name
+-- a valid name consists of bytes, and so does the part after its first byte
 rest_bytes : (bs : List ℕ) → list_all is_name_byte bs ≡ true → AreBytes bs
 rest_bytes [] h = none_are
 rest_bytes (b ∷ bs) h = one_more b bs (grind arith) (rest_bytes bs (grind arith))
@@ -60,12 +60,12 @@ name_bytes : (name : List ℕ) → is_name name ≡ true → AreBytes name
 name_bytes [] h = none_are
 name_bytes (b ∷ bs) h = one_more b bs (grind arith) (rest_bytes bs (grind arith))
 
--- the names of cells
+-- the names of cells that obey the rules consist of bytes
 names_bytes : (types : ℕ) (cs : List Cell) → AllByRecursion (IsCell types) cs → AreBytes (flat_map name_of cs)
 names_bytes types [] h = none_are
 names_bytes types (c ∷ cs) h = then c.name (flat_map name_of cs) (name_bytes c.name h.0.name) (names_bytes types cs h.1)
 
--- the spelling of an object that obeys the rules
+-- the spelling of an object that obeys the rules consists of bytes
 pub spelling_bytes : (v : Version) (o : Object) → IsSpellable o → AreBytes (spelling v o)
 unfolding spelling
 spelling_bytes v o s =

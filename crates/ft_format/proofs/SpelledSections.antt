@@ -44,7 +44,7 @@ first_byte : (name : List ℕ) → is_name name ≡ true → 0 < length name
 first_byte [] h = absurd (cc)
 first_byte (b ∷ bs) h = omega arith
 
--- the rules for cells, and those for their names
+-- if cells obey all rules, they obey those that do not concern the bytes of names, and their names are valid
 pub cells_but : (v : Version) (types : ℕ) (cs : List Cell) → AllByRecursion (IsCell types) cs →
     AllByRecursion (SupportsName v) cs → AllByRecursion (IsCellBut v types) cs
 cells_but v types [] h has = tt
@@ -63,7 +63,7 @@ pub named : (v : Version) (types : ℕ) (cs : List Cell) → AllByRecursion (IsC
 named v types [] h has = tt
 named v types (c ∷ cs) h has = (record { name = h.0.name; bytes = has.0.bytes }, named v types cs h.1 has.1)
 
--- cells and types have as many records as there are cells and types
+-- there is one record for each cell and for each type
 pub length_cell_rows : (start : ℕ) (cs : List Cell) → length (cell_rows start cs) ≡ length cs
 length_cell_rows start [] = refl
 length_cell_rows start (c ∷ cs) = ap suc (length_cell_rows (start + length c.name) cs)
@@ -74,7 +74,7 @@ length_type_rows start queue_start [] = refl
 length_type_rows start queue_start (t ∷ ts) = ap suc
     (length_type_rows (start + length t.regs) (queue_start + length t.queue) ts)
 
--- the bytes after a section, and the section's rows
+-- the bytes after a section are those that follow its records, and reading the section gives the rows back
 pub after_section : (ws : List Width) (rs : List (List ℕ)) (at n : ℕ) (bytes tail : List ℕ) → AllFit ws rs → length rs
     ≡ n → drop at bytes ≡ spelled ws rs ++ tail → drop (at + size ws * n) bytes ≡ tail
 after_section ws rs at n bytes tail fit count e =
@@ -86,7 +86,7 @@ pub section_rows : (ws : List Width) (rs : List (List ℕ)) (at n : ℕ) (bytes 
 section_rows ws rs at n bytes tail fit count e =
     ap (rows ws n) e ∙ ap (λ k. rows ws k (spelled ws rs ++ tail)) (sym count) ∙ rows_back ws rs tail fit
 
--- a bound on the size of the cells' names
+-- the names of the cells have at most as many bytes as the version allows
 few_bytes : (v : Version) (o : Object) → IsSpellable o → Supports v o → length (all_names o) ≤ most_name_bytes v
 few_bytes v o s has = omega (arith, length-flat_map name_of o.cells, few_names v o.cells s.few_cells has.names)
 

@@ -24,7 +24,7 @@ transfer_within : (h : Header) (nodes : List Node) (first at colour x high low :
 transfer_within h nodes first at colour x high low true none few = few
 transfer_within h nodes first at colour x high low false none few = substitution_within h nodes first at x high low none
 
--- a jump, and a branch
+-- likewise for a jump, and for a branch
 jump_past : (h : Header) (nodes : List Node) (first at a b c x high low : ℕ) →
     fields_broken h nodes first at 5 a b c x high low ≡ None → first ≤ h.substs
     → rows_past first (5 ∷ a ∷ b ∷ c ∷ x ∷ high ∷ low ∷ []) ≤ h.substs
@@ -39,7 +39,7 @@ branch_past h nodes first at a b c x high low none few =
     transfer_within h nodes first (at + 4) c x high low (c == 0)
     (after_three (register_broken (at + 1) a) (register_broken (at + 2) b) (colour_broken (at + 3) c) _ none) few
 
--- an instruction, by its fields
+-- likewise for any instruction, given by its fields
 past_of_fields : (h : Header) (nodes : List Node) (first at kind a b c x high low : ℕ) →
     fields_broken h nodes first at kind a b c x high low ≡ None → first ≤ h.substs
     → rows_past first (kind ∷ a ∷ b ∷ c ∷ x ∷ high ∷ low ∷ []) ≤ h.substs

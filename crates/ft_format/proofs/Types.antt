@@ -80,13 +80,13 @@ type_again h nodes regs queue at (a ∷ b ∷ c ∷ d ∷ e ∷ []) fit n = absu
 type_again h nodes regs queue at (a ∷ b ∷ c ∷ d ∷ e ∷ f ∷ []) fit n = absurd fit.1.1.1.1.1.1
 type_again h nodes regs queue at (a ∷ b ∷ c ∷ d ∷ e ∷ f ∷ g ∷ z ∷ zs) fit n = absurd fit.1.1.1.1.1.1.1
 
--- the values of the first n rows, and those of the other k
+-- the values of n + k rows are those of the first n rows and those of the other k
 values_split : {A : Type 0} (f : List ℕ → A) (ws : List Width) (m n k : ℕ) (bs : List ℕ) → m ≡ n + k →
     map f (rows ws m bs) ≡ map f (rows ws n bs) ++ map f (rows ws k (drop (size ws * n) bs))
 values_split f ws m n k bs e = ap (λ i. map f (rows ws i bs)) e ∙ ap (map f) (rows_plus ws n k bs)
     ∙ map-append f (rows ws n bs) (rows ws k (drop (size ws * n) bs))
 
--- the first of two parts, and the second
+-- splitting a list of two parts at the length of the first gives the two parts
 first_part : {A : Type 0} (all a b : List A) (n : ℕ) → all ≡ a ++ b → length a ≡ n → take n all ≡ a
 first_part all a b n e long = ap (take n) e ∙ take_at a b n long
 
@@ -262,7 +262,7 @@ type_rows_fine h nodes start queue_start at (t ∷ ts) m i r q =
       );
     }
 
--- splitting a spelling into one part and the rest
+-- the spelling of two lists of values is that of the first followed by that of the second
 spelled_split : {A : Type 0} (ws : List Width) (row : A → List ℕ) (xs ys : List A) (rest : List ℕ) →
     spelled ws (map row (xs ++ ys)) ++ rest ≡ spelled ws (map row xs) ++ (spelled ws (map row ys) ++ rest)
 spelled_split ws row xs ys rest =

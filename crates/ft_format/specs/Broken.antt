@@ -46,7 +46,7 @@ unfoldable pub type_regs_broken : ℕ → List Node → ℕ → ℕ → ℕ → 
 type_regs_broken types nodes ints least at [] = None
 type_regs_broken types nodes ints least at (row ∷ rest) = reg_broken types nodes ints least at row next type_regs_broken types nodes ints (first_of_row row + 1) (at + 12) rest
 
--- the rules for the register rows of all types, from row `start`; a left-over row breaks a rule
+-- the rules for the register rows of all types, from row `start`; a leftover row breaks a rule
 unfoldable pub regs_broken : Header → List Node → ℕ → ℕ → List (List ℕ) → List ℕ → Option ObjectError
 regs_broken h nodes start at [] bytes = must (start == h.regs) (errors.Order at)
 regs_broken h nodes start at (row ∷ rest) bytes =
@@ -58,7 +58,7 @@ unfoldable pub type_queue_broken : List Node → ℕ → ℕ → List (List ℕ)
 type_queue_broken nodes ints at [] = None
 type_queue_broken nodes ints at (row ∷ rest) = queue_broken nodes ints at row next type_queue_broken nodes ints (at + 8) rest
 
--- the rules for the queue rows of all types, from row `start`; a left-over row breaks a rule
+-- the rules for the queue rows of all types, from row `start`; a leftover row breaks a rule
 unfoldable pub queues_broken : Header → List Node → ℕ → ℕ → List (List ℕ) → List ℕ → Option ObjectError
 queues_broken h nodes start at [] bytes = must (start == h.queue) (errors.Order at)
 queues_broken h nodes start at (row ∷ rest) bytes =
@@ -75,7 +75,7 @@ unfoldable pub instrs_broken : Header → List Node → ℕ → ℕ → List (Li
 instrs_broken h nodes first at [] = None
 instrs_broken h nodes first at (row ∷ rest) = instr_broken h nodes first at row next instrs_broken h nodes (rows_past first row) (at + 16) rest
 
--- how many substitution rows the instructions take
+-- the row after the last substitution row that the instructions take, if earlier ones took the rows up to `first`
 unfoldable pub rows_taken : ℕ → List (List ℕ) → ℕ
 rows_taken first [] = first
 rows_taken first (row ∷ rest) = rows_taken (rows_past first row) rest
@@ -85,7 +85,7 @@ unfoldable pub subst_rows_broken : List Node → ℕ → List (List ℕ) → Opt
 subst_rows_broken nodes at [] = None
 subst_rows_broken nodes at (row ∷ rest) = subst_broken nodes at row next subst_rows_broken nodes (at + 4) rest
 
--- the rules for the substitution rows that are taken; a left-over row breaks a rule
+-- the rules for the substitution rows that are taken; a leftover row breaks a rule
 abbrev pub substs_broken : Header → List Node → ℕ → ℕ → List ℕ → Option ObjectError
 substs_broken h nodes taken at bytes =
     subst_rows_broken nodes at (rows subst_layout taken bytes)
@@ -105,7 +105,7 @@ name_bytes_broken v at (b ∷ bs) = must (is_letter b) (errors.Name at) next nam
 abbrev pub name_broken : Version → List Cell → ℕ → List ℕ → Option ObjectError
 name_broken v earlier at name = name_bytes_broken v at name next must (not (list_any (λ c. bytes_eq name c.name) earlier)) (errors.Name at)
 
--- the rules for the names of cells, after those of earlier cells, up to `end`; a left-over byte breaks a rule
+-- the rules for the names of cells, after those of earlier cells, up to `end`; a leftover byte breaks a rule
 unfoldable pub names_broken : Version → ℕ → List Cell → ℕ → List Cell → Option ObjectError
 names_broken v end earlier at [] = must (at == end) (errors.Order at)
 names_broken v end earlier at (c ∷ cs) = name_broken v earlier at c.name next names_broken v end (earlier ++ c ∷ []) (at + length c.name) cs

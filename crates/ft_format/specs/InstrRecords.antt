@@ -87,11 +87,11 @@ SupportsInstr v (OpWord op rd rs value) = SupportsOp v op
 SupportsInstr v (Idx rd rs first m) = 8 ≤ last_instr_kind v
 SupportsInstr v _ = Unit {0}
 
--- v, 8 bytes in two halves, is zero
+-- the rule that v, 8 bytes in two halves, is zero
 abbrev pub no_word_broken : ℕ → ℕ → ℕ → Option ObjectError
 no_word_broken at high low = zero_broken at high next zero_broken at low
 
--- the substitution of a blue jump or branch, where earlier ones took the rows up to `first`
+-- the rules for the substitution of a blue jump or branch, where earlier ones took the rows up to `first`
 abbrev pub substitution_broken : Header → List Node → ℕ → ℕ → ℕ → ℕ → ℕ → Option ObjectError
 substitution_broken h nodes first at x past memory =
     must (x == first) (errors.Order at)
@@ -100,17 +100,17 @@ substitution_broken h nodes first at x past memory =
     next must (nat_le past (x + 128)) (errors.Count (at + 4))
     next node_number_broken nodes true (at + 8) memory
 
--- x and v of a jump or branch: zero for a green one, a substitution for a blue one
+-- the rules for x and v of a jump or branch: zero for a green one, a substitution for a blue one
 abbrev pub transfer_broken : Header → List Node → ℕ → ℕ → ℕ → ℕ → ℕ → ℕ → Option ObjectError
 transfer_broken h nodes first at colour x high low =
     if colour == 0 then zero_broken at x next no_word_broken (at + 4) high low
     else substitution_broken h nodes first at x high low
 
--- the basic type that x spells
+-- the rules for the basic type that x spells
 abbrev pub basic_number_broken : ℕ → ℕ → ℕ → Option ObjectError
 basic_number_broken types at x = basic_broken types at (x / 2 ^ 24) (x / 2 ^ 16 % 2 ^ 8) (x % 2 ^ 16)
 
--- `op rd, rs, rt`
+-- the rules for `op rd, rs, rt`
 abbrev pub op_reg_broken : Version → ℕ → ℕ → ℕ → ℕ → ℕ → ℕ → ℕ → Option ObjectError
 op_reg_broken v at a b c x high low =
     register_broken (at + 1) a
@@ -119,7 +119,7 @@ op_reg_broken v at a b c x high low =
     next op_broken v (at + 4) x
     next no_word_broken (at + 8) high low
 
--- `op rd, rs, c v`
+-- the rules for `op rd, rs, c v`
 abbrev pub op_word_broken : Version → ℕ → ℕ → ℕ → ℕ → ℕ → Option ObjectError
 op_word_broken v at a b c x =
     register_broken (at + 1) a
@@ -127,7 +127,7 @@ op_word_broken v at a b c x =
     next colour_broken (at + 3) c
     next op_broken v (at + 4) x
 
--- `mov rd, c v`
+-- the rules for `mov rd, c v`
 abbrev pub mov_broken : ℕ → ℕ → ℕ → ℕ → ℕ → ℕ → Option ObjectError
 mov_broken types at a b c x =
     register_broken (at + 1) a
@@ -135,7 +135,7 @@ mov_broken types at a b c x =
     next colour_broken (at + 3) c
     next basic_number_broken types (at + 4) x
 
--- `ld_c rd, rs` and `st_c rd, rs`
+-- the rules for `ld_c rd, rs` and `st_c rd, rs`
 abbrev pub access_broken : ℕ → ℕ → ℕ → ℕ → ℕ → ℕ → ℕ → Option ObjectError
 access_broken at a b c x high low =
     register_broken (at + 1) a
@@ -144,7 +144,7 @@ access_broken at a b c x high low =
     next zero_broken (at + 4) x
     next no_word_broken (at + 8) high low
 
--- `jmp_c rd`
+-- the rules for `jmp_c rd`
 abbrev pub jump_broken : Header → List Node → ℕ → ℕ → ℕ → ℕ → ℕ → ℕ → ℕ → ℕ → Option ObjectError
 jump_broken h nodes first at a b c x high low =
     register_broken (at + 1) a
@@ -152,7 +152,7 @@ jump_broken h nodes first at a b c x high low =
     next colour_broken (at + 3) c
     next transfer_broken h nodes first (at + 4) c x high low
 
--- `bz_c rz, rd`
+-- the rules for `bz_c rz, rd`
 abbrev pub branch_broken : Header → List Node → ℕ → ℕ → ℕ → ℕ → ℕ → ℕ → ℕ → ℕ → Option ObjectError
 branch_broken h nodes first at a b c x high low =
     register_broken (at + 1) a
@@ -160,7 +160,7 @@ branch_broken h nodes first at a b c x high low =
     next colour_broken (at + 3) c
     next transfer_broken h nodes first (at + 4) c x high low
 
--- `halt`
+-- the rules for `halt`
 abbrev pub halt_broken : ℕ → ℕ → ℕ → ℕ → ℕ → ℕ → ℕ → Option ObjectError
 halt_broken at a b c x high low =
     zero_broken (at + 1) a
@@ -169,14 +169,14 @@ halt_broken at a b c x high low =
     next zero_broken (at + 4) x
     next no_word_broken (at + 8) high low
 
--- v, 8 bytes in two halves, is the length of a run that starts at cell x
+-- the rules for v, 8 bytes in two halves, as the length of a run that starts at cell x
 abbrev pub run_broken : ℕ → ℕ → ℕ → ℕ → ℕ → Option ObjectError
 run_broken cells at x high low =
     must (high == 0) (errors.Count at)
     next some_broken 1024 at low
     next must (nat_le (x + low) cells) (errors.Index at)
 
--- `idx rd, rs, first, length`
+-- the rules for `idx rd, rs, first, length`
 abbrev pub index_broken : ℕ → ℕ → ℕ → ℕ → ℕ → ℕ → ℕ → ℕ → Option ObjectError
 index_broken cells at a b c x high low =
     register_broken (at + 1) a
@@ -185,7 +185,7 @@ index_broken cells at a b c x high low =
     next must (nat_lt x cells) (errors.Index (at + 4))
     next run_broken cells (at + 8) x high low
 
--- the fields a, b, c, x and v of an instruction, by its kind
+-- the rules for the fields a, b, c, x and v of an instruction, by its kind
 abbrev pub fields_broken : Header → List Node → ℕ → ℕ → ℕ → ℕ → ℕ → ℕ → ℕ → ℕ → ℕ → Option ObjectError
 fields_broken h nodes first at kind a b c x high low =
     if kind == 0 then op_reg_broken (version_of h) at a b c x high low
@@ -197,7 +197,7 @@ fields_broken h nodes first at kind a b c x high low =
     else (if kind == 7 then halt_broken at a b c x high low
     else index_broken h.cells at a b c x high low))))))
 
--- instruction, 16 bytes, where earlier substitutions took the rows up to `first`
+-- the rules for an instruction, 16 bytes, where earlier substitutions took the rows up to `first`
 abbrev pub instr_broken : Header → List Node → ℕ → ℕ → List ℕ → Option ObjectError
 instr_broken h nodes first at (kind ∷ a ∷ b ∷ c ∷ x ∷ high ∷ low ∷ []) =
     must (nat_le kind (last_instr_kind (version_of h))) (errors.Kind at)

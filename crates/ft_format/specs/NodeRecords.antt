@@ -53,40 +53,40 @@ SupportsShape v _ = Unit {0}
 abbrev pub SupportsNode : Version → Node → Type 0
 SupportsNode v n = SupportsShape v n.shape
 
--- the operation of a node, which only kind 2 has
+-- the rule for the operation of a node, which only kind 2 has
 abbrev pub node_op_broken : Version → ℕ → ℕ → ℕ → Option ObjectError
 node_op_broken v at kind op = if kind == 2 then op_broken v at op else zero_broken at op
 
--- a variable: its number is below the scope
+-- the rules for a variable: its number is below the scope
 abbrev pub variable_broken : ℕ → ℕ → ℕ → ℕ → ℕ → Option ObjectError
 variable_broken at scope a b c = must (nat_lt a scope) (errors.Index (at + 4)) next zero_broken (at + 8) b next zero_broken (at + 12) c
 
--- an operation, or a word of a memory: a node of the given sort, and an integer
+-- the rules for an operation or a word of a memory: a node of the given sort, and an integer
 abbrev pub pair_broken : List Node → Bool → ℕ → ℕ → ℕ → ℕ → ℕ → Option ObjectError
 pair_broken earlier memory at scope a b c =
     named_broken earlier scope memory (at + 4) a
     next named_broken earlier scope false (at + 8) b
     next zero_broken (at + 12) c
 
--- the memory variable
+-- the rules for the memory variable
 abbrev pub memory_broken : ℕ → ℕ → ℕ → ℕ → Option ObjectError
 memory_broken at a b c = zero_broken (at + 4) a next zero_broken (at + 8) b next zero_broken (at + 12) c
 
--- a memory with another word at one address
+-- the rules for a memory with another word at one address
 abbrev pub upd_broken : List Node → ℕ → ℕ → ℕ → ℕ → ℕ → Option ObjectError
 upd_broken earlier at scope a b c =
     named_broken earlier scope true (at + 4) a
     next named_broken earlier scope false (at + 8) b
     next named_broken earlier scope false (at + 12) c
 
--- the remainder of an integer divided by a length
+-- the rules for the remainder of an integer divided by a length
 abbrev pub rem_broken : List Node → ℕ → ℕ → ℕ → ℕ → ℕ → Option ObjectError
 rem_broken earlier at scope a b c =
     named_broken earlier scope false (at + 4) a
     next some_broken 1024 (at + 8) b
     next zero_broken (at + 12) c
 
--- the parts a, b and c of a node, by its kind; it refers to earlier nodes only
+-- the rules for the parts a, b and c of a node, by its kind; it refers to earlier nodes only
 abbrev pub parts_broken : List Node → ℕ → ℕ → ℕ → ℕ → ℕ → ℕ → Option ObjectError
 parts_broken earlier at kind scope a b c =
     if kind == 0 then zero_broken (at + 4) a
@@ -97,7 +97,7 @@ parts_broken earlier at kind scope a b c =
     else (if kind == 5 then upd_broken earlier at scope a b c
     else rem_broken earlier at scope a b c)))))
 
--- node, 16 bytes, after the earlier nodes
+-- the rules for a node, 16 bytes, after the earlier nodes
 abbrev pub node_broken : Version → List Node → ℕ → List ℕ → Option ObjectError
 node_broken v earlier at (kind ∷ op ∷ scope ∷ pad ∷ a ∷ b ∷ c ∷ []) =
     must (nat_le kind (last_node_kind v)) (errors.Kind at)

@@ -16,7 +16,7 @@ pub record ArePlaces (h : Header) (p : Places) : Type 0 where
   pub names : p.names ≡ names_at h
   pub end : p.end ≡ total h
 
--- counts within their limits, and as many bytes as these counts need
+-- the counts are within their limits, and there are exactly as many bytes as they require
 pub record IsWhole (h : Header) (bytes : List ℕ) : Type 0 where
   pub small : IsSmall h
   pub whole : length bytes ≡ total h

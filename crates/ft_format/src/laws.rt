@@ -8,7 +8,7 @@ ghost use Rattle.ft_format.specs.Versions.{number};
 ghost use Rattle.ft_format.specs.declared.version.Version.{Version};
 ghost use Rattle.ft_format.specs.declared.version.Version.TheVariants.{First, Second};
 
-/// Bytes break no rule exactly if they spell an object, and the object and the version are unique.
+/// Bytes break no rule exactly when they spell an object, and the object and the version are unique.
 pub fn rules_are_exact()
     // Bytes that break no rule spell an object, in the version that they name.
     ensures spelled { (bytes : List ℕ) → AreBytes bytes → broken bytes ≡ None → Spells bytes (version_at bytes) (object_of bytes) }
@@ -21,9 +21,9 @@ pub fn rules_are_exact()
     ensures number { (bytes : List ℕ) (v : Version) (o : Object) → Spells bytes v o → slice_get bytes 7 ≡ Some (number v) }
 {}
 
-/// An object obeys the rules of its tables exactly if some version 2 bytes spell it. These are the version 2 bytes that
-/// break no rule and stand for it, and each version has at most one such list of bytes. The clauses `exact` and `one`
-/// judge bytes by `broken` and read them by `object_of`; they don't mention how an object is written.
+/// An object obeys the rules of its tables exactly when some version 2 bytes spell it. These are the version 2 bytes
+/// that break no rule and stand for it, and each version has at most one such list of bytes. The clauses `exact` and
+/// `one` judge bytes by `broken` and read them by `object_of`; they don't mention how an object is written.
 pub fn spellings_are_one()
     // The objects that obey the rules are those that some version 2 bytes spell.
     ensures spelled { (o : Object) → IsSpellable o ↔ ((bytes : List ℕ) × Spells bytes Second o) }

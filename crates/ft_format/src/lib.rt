@@ -1,6 +1,6 @@
 //! The object format: which bytes spell which object.
 //!
-//! `specs/Rows.antt` says how an object is written. `specs/Rules.antt` and `specs/Broken.antt` have the rules in order,
+//! `specs/Rows.antt` says how an object is written. `specs/Rules.antt` and `specs/Broken.antt` list the rules in order,
 //! except those for nodes and instructions, which are in `specs/NodeRecords.antt` and `specs/InstrRecords.antt`.
 //! `specs/Versions.antt` lists what differs between the two versions of the format. `specs/Format.antt` says which
 //! bytes spell which object. The crate promises that these agree (`src/laws.rt`): bytes break no rule exactly when they

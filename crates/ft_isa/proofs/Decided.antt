@@ -6,10 +6,10 @@ use Rattle.ft_isa.specs.contracts.op.Op as the_op
 use Rattle.ft_isa.specs.declared.colour.Colour.{Colour}
 use Rattle.ft_isa.specs.declared.op.Op.{Op}
 
--- two colours are the same if the test says so
+-- the test says that two colours are equal exactly when they are
 pub colour_decides : (a b : Colour) → Decides (sameb the_colour.the_type a b) (a ≡ b)
 colour_decides a b = (same_true the_colour.the_type tt a b, true_same the_colour.the_type a b)
 
--- two operations are the same if the test says so
+-- the test says that two operations are equal exactly when they are
 pub op_decides : (a b : Op) → Decides (sameb the_op.the_type a b) (a ≡ b)
 op_decides a b = (same_true the_op.the_type tt a b, true_same the_op.the_type a b)

@@ -10,13 +10,13 @@ use Rattle.ft_isa.specs.Reading.{state_after, is_digit, with_digit}
 use Rattle.ft_isa.proofs.Branches.{if_some}
 use Rattle.ft_isa.proofs.Readers.{state_after-on}
 
--- a digit is one of ten bytes
+-- a digit is one of the bytes 48 to 57
 pub is_digit-true : (b : ℕ) → is_digit b ≡ true → (48 ≤ b) × (b ≤ 57)
 is_digit-true b e =
     let parts = and_parts (nat_le 48 b) (nat_le b 57) e in
     (leb-true 48 b parts.0, leb-true b 57 parts.1)
 
--- each of the ten bytes is a digit
+-- each of the bytes 48 to 57 is a digit
 pub is_digit-from : (d : ℕ) → d < 10 → is_digit (48 + d) ≡ true
 is_digit-from d h = and_from (nat_le 48 (48 + d)) (nat_le (48 + d) 57) (le-leb 48 (48 + d) (omega arith))
     (le-leb (48 + d) 57 (omega arith))
@@ -35,7 +35,7 @@ IsNumberRead (Some n) = IsWord n
 abbrev pub next_number : Option ℕ → ℕ → Option (Option ℕ)
 next_number number byte = option_map Some (with_digit number byte)
 
--- a byte that was read as a digit is one
+-- a byte that continues a number is a digit
 pub taken_digit : (number : Option ℕ) (b n : ℕ) → with_digit number b ≡ Some n → (48 ≤ b) × (b ≤ 57)
 taken_digit None b n e = is_digit-true b (if_some (is_digit b) (b - 48) n e).0
 taken_digit (Some m) b n e =
@@ -67,11 +67,11 @@ more_digits (Some m) b n g e =
     let step : decimal n ≡ decimal (n / 10) ++ (48 + n % 10) ∷ [] = decimal_step n ten word in
     (step ∙ ap (λ x. decimal x ++ (48 + n % 10) ∷ []) front ∙ ap (λ x. decimal m ++ x ∷ []) last, word)
 
--- the first digit of a number
+-- a single digit is read as the number that it spells
 pub first_digit : (n : ℕ) → n < 10 → with_digit None (48 + n) ≡ Some n
 first_digit n h = ap (λ t. if t then Some (48 + n - 48) else None) (is_digit-from n h) ∙ ap Some (omega arith)
 
--- one more digit of a number
+-- reading the last digit of a number after the digits before it completes the number
 pub last_digit : (n : ℕ) → 10 ≤ n → IsWord n → with_digit (Some (n / 10)) (48 + n % 10) ≡ Some n
 last_digit n ten word =
     let m = n / 10 in
@@ -86,7 +86,7 @@ last_digit n ten word =
     (lt-ltb (n / 10 * 10 + (48 + n % 10 - 48)) (2 ^ 64) below) in
     ap (λ t. if t then Some (n / 10 * 10 + (48 + n % 10 - 48)) else None) test ∙ ap Some value
 
--- the state after one byte, by the number that it made
+-- the state after one byte, given the number that the byte made, if any
 abbrev state_after_one : Option ℕ → Option (Option ℕ)
 state_after_one o = option_and_then (λ after. Some after) (option_map Some o)
 

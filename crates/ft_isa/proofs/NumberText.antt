@@ -9,7 +9,7 @@ use Rattle.ft_isa.proofs.NumberRead.{next_number, number_told, IsNumberRead, mor
 use Rattle.ft_isa.proofs.Branches.{of_map}
 use Rattle.ft_isa.proofs.Readers.{IsReader}
 
--- what was read is the number itself
+-- the number that was read completely: any number that was read is complete
 abbrev pub whole_number : Option ℕ → Option ℕ
 whole_number number = number
 

@@ -17,7 +17,7 @@ test_is_word : (b : Bool) → IsWord (word_of_test b)
 test_is_word true = lit< tt
 test_is_word false = lit< tt
 
--- a word, or 0
+-- a word that is replaced by 0 if a test fails is still a word
 word_or_nothing : (b : Bool) (x : ℕ) → IsWord x → IsWord (if b then x else 0)
 word_or_nothing true x h = h
 word_or_nothing false x h = lit< tt
@@ -39,7 +39,7 @@ apply_is_word Shr a b h k = word_or_nothing (nat_lt b 64) (a / 2 ^ b) (let e = d
 
 -- CODES
 
--- the code of an operation gives the operation back
+-- an operation's code is read back as that operation
 pub op_back : (o : Op) → op_of (op_code o) ≡ o
 op_back Add = refl
 op_back o = refl

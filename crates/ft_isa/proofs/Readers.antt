@@ -21,17 +21,17 @@ pub state_after-on : {S : Type 0} (next : S → ℕ → Option S) (s t : S) (xs 
     ≡ Some t → state_after next s (xs ++ ys) ≡ state_after next t ys
 state_after-on next s t xs ys e = state_after-append next s xs ys ∙ ap (option_and_then (λ a. state_after next a ys)) e
 
--- two pieces, one after the other
+-- if one piece leads from state s to t, and another from t to u, then both together lead from s to u
 pub state_after-both : {S : Type 0} (next : S → ℕ → Option S) (s t u : S) (xs ys : List ℕ) → state_after next s xs
     ≡ Some t → state_after next t ys ≡ Some u → state_after next s (xs ++ ys) ≡ Some u
 state_after-both next s t u xs ys e f = state_after-on next s t xs ys e ∙ f
 
--- one byte from a state
+-- if a byte leads from state s to t, the bytes after it are read from t
 pub state_after-byte : {S : Type 0} (next : S → ℕ → Option S) (s t : S) (x : ℕ) (xs : List ℕ) → next s x ≡ Some t →
     state_after next s (x ∷ xs) ≡ state_after next t xs
 state_after-byte next s t x xs e = ap (option_and_then (λ a. state_after next a xs)) e
 
--- one step of a loop: one more byte of a text
+-- one iteration of a loop: reading one more byte of a text
 pub state_after-more : {S : Type 0} (next : S → ℕ → Option S) (s t u : S) (xs : List ℕ) (i : ℕ) → i < length xs →
     state_after next s (take i xs) ≡ Some t → next t (get_or xs i 0) ≡ Some u → state_after next s (take (i + 1) xs)
     ≡ Some u
@@ -54,7 +54,7 @@ state_after-inside {S} {T} next outer f h s t (x ∷ xs) e =
     ] in
     go refl e
 
--- a reader's states record what was read, which is the beginning of some text; a complete text gives its value
+-- each state of a reader records what was read, which is a prefix of some text; a complete text is read as its value
 pub record IsReader {S V : Type 0} (next : S → ℕ → Option S) (whole : S → Option V) (start : S) (told : S →
     List ℕ) (Good : S → Type 0) (Tells : List ℕ → V → Type 0) : Type 0 where
   pub begins : told start ≡ []
@@ -64,7 +64,7 @@ pub record IsReader {S V : Type 0} (next : S → ℕ → Option S) (whole : S �
   pub goes_on : (s : S) → Good s → IsViable Tells (told s)
   pub complete : (xs : List ℕ) (v : V) → Tells xs v → option_and_then whole (state_after next start xs) ≡ Some v
 
--- a position within a prefix, and what follows there
+-- if i < n, a text that begins with the first n of these bytes begins with the first i and byte i
 pub split_front : (xs zs : List ℕ) (i n : ℕ) → i < n → n ≤ length xs → (ws : List ℕ)
     × (take n xs ++ zs ≡ take i xs ++ get_or xs i 0 ∷ ws)
 split_front xs zs i n below within =
@@ -107,7 +107,7 @@ module _ {S V : Type 0} (next : S → ℕ → Option S) (whole : S → Option V)
       let all = told_after start s xs reader.good e in
       (all.0 ∙ ap (λ ys. ys ++ xs) reader.begins, all.1)
 
-  -- a value that was read completely has this text
+  -- a text that is read completely as a value is a text of that value
   pub reads_ok : (s : S) (v : V) (xs : List ℕ) → state_after next start xs ≡ Some s → whole s ≡ Some v → Tells xs v
   reads_ok s v xs e f =
       let all = told_whole s xs e in

@@ -5,13 +5,13 @@ use Rattle.std.proofs.Math.Bridge.{le_prop}
 use Rattle.ft_isa.specs.Registers.{reg_if, reg_of}
 use Rattle.ft_isa.specs.declared.reg.Reg.{Reg}
 
--- a number below 64 determines its register
+-- for a number below 64, `reg_if` returns the register with that number
 pub some_reg : (n : ℕ) (b : Bool) (e : nat_lt n 64 ≡ b) (h : n < 64) → b ≡ true →
     Some (record { number = n; in_range = h }) ≡ reg_if n b e
 some_reg n true e h t = ap (λ p. Some (record { number = n; in_range = p })) (le_prop h (ltb-true n 64 e))
 some_reg n false e h t = absurd (true≢false (sym t))
 
--- a register's number gives the register back
+-- a register's number is read back as that register
 pub reg_of-number : (reg : Reg) → reg_of reg.number ≡ Some reg
 reg_of-number reg = sym (some_reg reg.number (nat_lt reg.number 64) refl reg.in_range
     (lt-ltb reg.number 64 reg.in_range))

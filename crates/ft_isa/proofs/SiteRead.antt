@@ -34,11 +34,11 @@ abbrev pub IsSiteRead : SiteRead → Type 0
 IsSiteRead (sites.Whole site) = IsSite site
 IsSiteRead _ = Unit {0}
 
--- a state records these bytes and then this one
+-- a state records these bytes followed by this one
 abbrev pub GoesOn : List ℕ → ℕ → SiteRead → Type 0
 GoesOn told b after = (site_told after ≡ told ++ b ∷ []) × IsSiteRead after
 
--- a queue place is one digit below 8
+-- a byte that is read as a queue place is a digit below 8, and the new state records it
 place_read : (front : List ℕ) (site : ℕ → Site) → ((place : ℕ) → site_text (site place) ≡ front ++ decimal place) →
     ((place : ℕ) → place < 8 → IsSite (site place)) → (b : ℕ) (after : SiteRead) → queue_place site b ≡ Some after →
     GoesOn front b after
@@ -52,7 +52,7 @@ place_read front site written is_site b after e =
     subst (λ (s : SiteRead). GoesOn front b s) t.1
     (written (b - 48) ∙ ap (λ ds. front ++ ds) (digit ∙ ap (λ x. x ∷ []) same), is_site (b - 48) (omega arith))
 
--- a register's number with one more digit
+-- if a byte continues a register's number, the new state records it
 register_read : (number : Option ℕ) (b : ℕ) (after : SiteRead) → IsNumberRead number → with_register_digit number b
     ≡ Some after → GoesOn (codes "r" ++ number_told number) b after
 register_read number b after g e =
@@ -67,7 +67,7 @@ register_read number b after g e =
     subst (λ (s : SiteRead). GoesOn (codes "r" ++ number_told number) b s) made.1.1
     (ap (λ ds. 114 ∷ ds) (go refl made.1.0), tt)
 
--- what is recorded after one more byte of a site
+-- if a byte continues a site, the new state records it
 pub site_step : (s t : SiteRead) (b : ℕ) → IsSiteRead s → next_site s b ≡ Some t → GoesOn (site_told s) b t
 site_step sites.Empty t b g e =
     of_letter (GoesOn []) b 100 (sites.Whole D) t _ (refl, tt)
@@ -92,7 +92,7 @@ site_step (sites.Whole PcB) t b g e = absurd cc
 site_step (sites.Whole (QAddr place)) t b g e = absurd cc
 site_step (sites.Whole (QVal place)) t b g e = absurd cc
 
--- no site continues with a colon
+-- a colon does not continue a site
 no_colon : (s : SiteRead) → next_site s 58 ≡ None
 no_colon sites.Empty = refl
 no_colon sites.P = refl
@@ -113,7 +113,7 @@ pub site_byte : (s t : SiteRead) (b : ℕ) → next_site s b ≡ Some t → eqb 
 site_byte s t b e = ne_eqb b 58 (λ f. let none = no_colon s in
     let some = subst (λ (x : ℕ). next_site s x ≡ Some t) f e in cc)
 
--- the digit of a queue place is read
+-- the digit of a queue place completes the site
 reads_place : (site : ℕ → Site) (place : ℕ) → place < 8 → queue_place site (48 + place)
     ≡ Some (sites.Whole (site place))
 reads_place site place h =
@@ -123,14 +123,14 @@ reads_place site place h =
     (le-leb (48 + place) 55 (omega arith)))
     ∙ ap (λ x. Some (sites.Whole (site x))) same
 
--- the last digit of a register's number is read
+-- the last digit of a register's number completes the site
 reads_register_digit : (number : Option ℕ) (b : ℕ) (reg : Reg) → with_digit number b ≡ Some reg.number →
     with_register_digit number b ≡ Some (sites.Whole (R reg))
 reads_register_digit number b reg e =
     ap (λ o. option_map (λ (r : Reg). sites.Whole (R r)) (option_and_then reg_of o)) e
     ∙ ap (option_map (λ (r : Reg). sites.Whole (R r))) (reg_of-number reg)
 
--- the number of a register is read
+-- after the letter `r`, a register's number is read as that register
 reads_register : (reg : Reg) → state_after next_site sites.R (decimal reg.number) ≡ Some (sites.Whole (R reg))
 reads_register reg =
     let below : reg.number < 64 = reg.in_range in
@@ -182,7 +182,7 @@ site_goes_on sites.R g =
     (R zeroth, (decimal 0, (tt, refl)))
 site_goes_on (sites.Whole site) g = (site, ([], (g, append-nil (site_text site))))
 
--- the state of a site that was read completely
+-- if a site was read completely, the state is `Whole` with that site
 pub is_whole : (s : SiteRead) (site : Site) → whole_site s ≡ Some site → s ≡ sites.Whole site
 is_whole (sites.Whole whole) site e = cc
 is_whole sites.Empty site e = absurd cc

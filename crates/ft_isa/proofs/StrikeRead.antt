@@ -31,7 +31,7 @@ IsStrikeRead (AtStep number) = IsNumberRead number
 IsStrikeRead (AtSite step site) = IsWord step × IsSiteRead site
 IsStrikeRead (AtValue step site value) = IsWord step × IsSite site × IsNumberRead value
 
--- a state records these bytes and then this one
+-- a state records these bytes followed by this one
 abbrev GoesOn : List ℕ → ℕ → StrikeRead → Type 0
 GoesOn told b after = (strike_told after ≡ told ++ b ∷ []) × IsStrikeRead after
 
@@ -62,13 +62,13 @@ value_inside step site m n b e =
     let made = of_map {A = ℕ} Some (with_digit m b) n e in
     ap (option_map (λ more. AtValue step site (Some more))) made.1.0 ∙ ap (λ x. Some (AtValue step site x)) made.1.1
 
--- a site in two parts, between the step and the value
+-- splitting the site of a strike in two does not change the strike's text
 joined : (step told rest site value : List ℕ) → told ++ rest ≡ site → step ++ codes ":" ++ told
     ++ (rest ++ codes ":" ++ value) ≡ step ++ codes ":" ++ site ++ codes ":" ++ value
 joined step told rest site value e = sym (ap (λ ds. step ++ codes ":" ++ ds ++ codes ":" ++ value) (sym e)
     ∙ simp append_assoc)
 
--- what is recorded after one more byte of a strike
+-- if a byte continues a strike, the new state records it
 strike_step : (s t : StrikeRead) (b : ℕ) → IsStrikeRead s → next_strike s b ≡ Some t → GoesOn (strike_told s) b t
 strike_step (AtStep number) t b g e =
     elim (of_branch (eqb b 58) (option_map (λ step. AtSite step sites.Empty) number)

@@ -31,11 +31,11 @@ abbrev pub IsAnswerRead : AnswerRead → Type 0
 IsAnswerRead (answers.Number word) = IsWord word
 IsAnswerRead _ = Unit {0}
 
--- a state records these bytes and then this one
+-- a state records these bytes followed by this one
 abbrev GoesOn : List ℕ → ℕ → AnswerRead → Type 0
 GoesOn told b after = (answer_told after ≡ told ++ b ∷ []) × IsAnswerRead after
 
--- what is recorded after one more byte of a wild answer
+-- if a byte continues a wild answer, the new state records it
 answer_step : (s t : AnswerRead) (b : ℕ) → IsAnswerRead s → next_answer s b ≡ Some t → GoesOn (answer_told s) b t
 answer_step answers.Empty t b g e =
     of_letter (GoesOn []) b 115 answers.S t _ (refl, tt) (λ f.
@@ -113,7 +113,7 @@ reads_answer (wilds.Word word) g = state_after-inside next_number next_answer nu
     (Some word) (decimal word) (reads_decimal word g)
 reads_answer wilds.Stop g = refl
 
--- the state of an answer gives the answer back
+-- the state of a completely read answer contains that answer
 whole_state : (answer : Wild) → whole_answer (answer_state answer) ≡ Some answer
 whole_state (wilds.Word word) = refl
 whole_state wilds.Stop = refl
@@ -131,11 +131,11 @@ wild_told read = passed_text read.done ++ answer_told read.part
 abbrev pub IsWildRead : WildRead → Type 0
 IsWildRead read = (length read.done < 4096) × AllByRecursion IsAnswer read.done × IsAnswerRead read.part
 
--- a state with these answers and this part
+-- the state with these answers before the last comma, and this part after it
 abbrev pub wild_at : List Wild → AnswerRead → WildRead
 wild_at done part = record { done = done; part = part }
 
--- one more answer, followed by its comma
+-- one more answer adds its text and a comma
 passed_text_push : (done : List Wild) (answer : Wild) → passed_text (done ++ answer ∷ []) ≡ passed_text done
     ++ (answer_text answer ++ codes ",")
 passed_text_push [] answer = append-nil (answer_text answer ++ codes ",")
@@ -143,34 +143,34 @@ passed_text_push (first ∷ done) answer =
     ap (λ ds. answer_text first ++ codes "," ++ ds) (passed_text_push done answer)
     ∙ sym (append_assoc (answer_text first ++ codes ",") (passed_text done) (answer_text answer ++ codes ","))
 
--- putting a comma before each answer puts one in front, and one after each answer but the last
+-- a comma before each answer is the same as one in front and one after each answer but the last
 more_answers_push : (done : List Wild) (answer : Wild) → more_answers_text (done ++ answer ∷ []) ≡ codes ","
     ++ (passed_text done ++ answer_text answer)
 more_answers_push [] answer = append-nil (codes "," ++ answer_text answer)
 more_answers_push (first ∷ done) answer =
     ap (λ ds. codes "," ++ answer_text first ++ ds) (more_answers_push done answer) ∙ simp append_assoc
 
--- the text of wild answers, split before the last one
+-- the text of wild answers is that of all but the last, each followed by a comma, and then that of the last
 wild_text_push : (done : List Wild) (answer : Wild) → wild_text (done ++ answer ∷ []) ≡ passed_text done
     ++ answer_text answer
 wild_text_push [] answer = append-nil (answer_text answer)
 wild_text_push (first ∷ done) answer = ap (λ ds. answer_text first ++ ds) (more_answers_push done answer)
     ∙ simp append_assoc
 
--- one more answer that has a text
+-- if each answer has a text, this still holds after one with a text is appended
 all_push : (done : List Wild) (answer : Wild) → AllByRecursion IsAnswer done → IsAnswer answer →
     AllByRecursion IsAnswer (done ++ answer ∷ [])
 all_push [] answer all here = (here, tt)
 all_push (first ∷ done) answer all here = (all.0, all_push done answer all.1 here)
 
--- answers that leave room, and one more, have a text
+-- if fewer than 4,096 answers and one more each have a text, together they have one
 are_answers : (done : List Wild) (answer : Wild) → length done < 4096 → AllByRecursion IsAnswer done → IsAnswer answer →
     AreAnswers (done ++ answer ∷ [])
 are_answers done answer room all here =
     let longer = length_push done answer in
     (omega arith, omega arith, all_push done answer all here)
 
--- what is recorded after one more byte of wild answers
+-- if a byte continues wild answers, the new state records it
 wild_step : (s t : WildRead) (b : ℕ) → IsWildRead s → next_wild s b ≡ Some t → (wild_told t ≡ wild_told s ++ b ∷ [])
     × IsWildRead t
 wild_step s t b g e =
@@ -232,7 +232,7 @@ wild_goes_on s g =
       ),
     )
 
--- a comma when there is no room for another answer
+-- a comma is refused if there is no room for another answer
 pub no_room : (done : List Wild) (part : AnswerRead) (b : ℕ) → b ≡ 44 → 4096 ≤ length done + 1 →
     next_wild (wild_at done part) b ≡ None
 no_room done part b comma full =
@@ -242,7 +242,7 @@ no_room done part b comma full =
     ∙ ap (λ c. if c then option_map (λ answer. wild_at (done ++ answer ∷ []) answers.Empty) (whole_answer part)
     else None) (le-ltb (length done + 1) 4096 full)
 
--- a comma after an answer, if there is room for one more
+-- if there is room for one more answer, a comma ends the answer before it
 pub next_at_comma : (done : List Wild) (part : AnswerRead) (b : ℕ) → b ≡ 44 → length done + 1 < 4096 →
     next_wild (wild_at done part) b ≡ option_map (λ answer. wild_at (done ++ answer ∷ []) answers.Empty)
     (whole_answer part)
@@ -253,7 +253,7 @@ next_at_comma done part b comma room =
     ∙ ap (λ c. if c then option_map (λ answer. wild_at (done ++ answer ∷ []) answers.Empty) (whole_answer part)
     else None) (lt-ltb (length done + 1) 4096 room)
 
--- a byte that is not a comma
+-- a byte that is not a comma is read as part of the current answer
 pub next_in_part : (done : List Wild) (part : AnswerRead) (b : ℕ) → (b ≡ 44 → ⊥) → next_wild (wild_at done part) b
     ≡ option_map (λ s. wild_at done s) (next_answer part b)
 next_in_part done part b other =
@@ -269,13 +269,13 @@ answer_inside done s t b e =
     cc)
     ∙ ap (option_map (λ part. wild_at done part)) e
 
--- the text of an answer is read after others
+-- after other answers, the text of an answer is read like that of an answer on its own
 reads_part : (done : List Wild) (answer : Wild) → IsAnswer answer →
     state_after next_wild (wild_at done answers.Empty) (answer_text answer) ≡ Some (wild_at done (answer_state answer))
 reads_part done answer here = state_after-inside next_answer next_wild (wild_at done) (answer_inside done) answers.Empty
     (answer_state answer) (answer_text answer) (reads_answer answer here)
 
--- the text of answers after others is read as all of them
+-- after other answers, the text of more answers is read, and the result is all of them
 reads_rest : (done : List Wild) (answer : Wild) (rest : List Wild) → IsAnswer answer → AllByRecursion IsAnswer rest →
     length done + length (answer ∷ rest) ≤ 4096 → option_and_then whole_wild
     (state_after next_wild (wild_at done answers.Empty) (answer_text answer ++ more_answers_text rest))

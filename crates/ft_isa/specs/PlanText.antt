@@ -14,7 +14,7 @@ use Rattle.ft_isa.specs.declared.wild_text.WildError.TheVariants.{Form, NoMemory
 abbrev pub IsNumberText : List ℕ → ℕ → Type 0
 IsNumberText text n = IsWord n × (text ≡ decimal n)
 
--- a queue place of a strike is below 8
+-- a site has a text if it has no queue place, or one below 8
 abbrev pub IsSite : Site → Type 0
 IsSite (QAddr place) = place < 8
 IsSite (QVal place) = place < 8

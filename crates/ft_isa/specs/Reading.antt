@@ -14,7 +14,7 @@ use Rattle.ft_isa.specs.declared.strike_text.StrikeRead.TheVariants.{AtStep, AtS
 use Rattle.ft_isa.specs.declared.wild_text.AnswerRead.{AnswerRead}
 use Rattle.ft_isa.specs.declared.wild_text.AnswerRead.TheVariants as answers
 
--- the state after some bytes, if each has a next state
+-- the state after reading these bytes, if each of them leads to a next state
 abbrev pub state_after : {S : Type 0} → (S → ℕ → Option S) → S → List ℕ → Option S
 state_after next state [] = Some state
 state_after next state (byte ∷ bytes) = option_and_then (λ after. state_after next after bytes) (next state byte)
@@ -32,7 +32,7 @@ with_digit (Some n) byte = if is_digit byte && not (n == 0) && nat_lt (n * 10 + 
 abbrev pub with_register_digit : Option ℕ → ℕ → Option SiteRead
 with_register_digit number byte = option_map (λ reg. sites.Whole (R reg)) (option_and_then reg_of (with_digit number byte))
 
--- a queue place of one digit
+-- the site with the queue place that a digit spells, if the place is below 8
 abbrev pub queue_place : (ℕ → Site) → ℕ → Option SiteRead
 queue_place site byte = if nat_le 48 byte && nat_le byte 55 then Some (sites.Whole (site (byte - 48))) else None
 

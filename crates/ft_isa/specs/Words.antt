@@ -36,7 +36,7 @@ code_address i = 1 + i
 abbrev pub cell_address : ℕ → ℕ
 cell_address k = 1048576 + k
 
--- the address of the array cell that a word selects: the first cell's place plus the word modulo the length
+-- the address of the array cell that a word selects: the word modulo the length is the index in the array
 abbrev pub cell_in_run : ℕ → ℕ → ℕ → ℕ
 cell_in_run first m w = cell_address (first + w % m)
 

@@ -1,6 +1,6 @@
 //! Basic types, which a `mov` claims and a cell declares.
 
-/// What a basic type is built on.
+/// The base of a basic type.
 #[derive(Clone, Copy, Debug, PartialEq, Eq)]
 pub enum Base {
     /// Any word.

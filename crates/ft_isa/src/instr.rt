@@ -6,8 +6,8 @@ use crate::colour::{Colour, Coloured};
 use crate::op::Op;
 use crate::reg::Reg;
 
-/// The substitution of a blue jump or branch: rows `first` up to `past` of the table of substitution rows, one for each
-/// of the target's integer variables in order, and the node for its memory.
+/// The substitution of a blue jump or branch: the rows from `first` up to but not including `past` of the table of
+/// substitution rows, one for each of the target's integer variables in order, and the node for its memory.
 #[derive(Clone, Copy, Debug, PartialEq, Eq)]
 pub struct Subst {
     pub first: u32,

@@ -19,7 +19,7 @@ pub(crate) fn with_digit(number: Option<u64>, byte: u8) -> Option<u64>
 }
 
 /// The number that a number text spells: `0`, or a digit from 1 to 9 followed by digits, with a value below 2^64.
-/// `None` exactly if the text is not one.
+/// `None` exactly when the text is not one.
 pub fn read_number(text: &[u8]) -> Option<u64>
     ensures some { IfSome result (IsNumberText text.now) }
     ensures exact { (n : ℕ) → IsNumberText text.now n → result ≡ Some n }

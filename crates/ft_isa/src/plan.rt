@@ -30,9 +30,9 @@ pub struct Strike {
 /// The answer to a wild load, a load from an address that has no cell.
 #[derive(Clone, Copy, Debug, PartialEq, Eq)]
 pub enum Wild {
-    /// The load gives this word.
+    /// The load returns this word.
     Word(u64),
-    /// The load stops the machine as detected.
+    /// The load stops the machine with the status Detected.
     Stop,
 }
 

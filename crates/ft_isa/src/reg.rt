@@ -11,7 +11,7 @@ pub struct Reg {
 impl Reg {
     ghost use Rattle.ft_isa.specs.Registers.{reg_of};
 
-    /// The register with this number; `None` exactly if the number is 64 or more.
+    /// The register with this number; `None` exactly when the number is 64 or more.
     pub fn new(n: u8) -> Option<Reg>
         ensures { result ≡ reg_of n }
     {

@@ -63,8 +63,8 @@ impl SiteRead {
     }
 }
 
-/// Reads the text of a site: `r0` to `r63`, `d`, `pcg`, `pcb`, `qa0` to `qa7` or `qv0` to `qv7`; `None` exactly if the
-/// text is not a site.
+/// Reads the text of a site: `r0` to `r63`, `d`, `pcg`, `pcb`, `qa0` to `qa7` or `qv0` to `qv7`; `None` exactly when
+/// the text is not a site.
 pub fn read_site(text: &[u8]) -> Option<Site>
     ensures some { IfSome result (IsSiteText text.now) }
     ensures exact { (site : Site) → IsSiteText text.now site → result ≡ Some site }

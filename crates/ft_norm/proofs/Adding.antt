@@ -58,7 +58,7 @@ total_add m c p q l w v = known (total (add_term m c p) q) (total p (add_term m 
     ∙ sym (weigh_total f s p (add_term m c q) ∙ mods_both (weigh f p) (weigh f p) (weigh f (add_term m c q))
     (f m c + weigh f q) refl (weigh_add f s m c q))))
 
--- the sum with the zero polynomial
+-- adding the zero polynomial changes nothing
 pub total_none : (p : Polynomial) → Rises p → total p nought ≡ p
 total_none p w = known (total p nought) p (rises_total p nought w tt) w
     (λ k. weigh_total (share k) (share_linear k) p nought
@@ -100,7 +100,7 @@ products_add m c p q r v = known (add_products (add_term m c p) q r) (add_produc
     ∙ mods_both (weigh g p) (weigh g p) (weigh f (add_multiple m c q r)) (g m c + weigh f r) refl
     (weigh_multiple f s m c q r))))
 
--- the negation of a sum, term by term
+-- negating the sum of a polynomial and a term negates both
 pub negation_add : (m : Monomial) (c : ℕ) (p : Polynomial) → c < 2 ^ 64 → Rises p → negation (add_term m c p)
     ≡ add_term m ((2 ^ 64 - c % 2 ^ 64) % 2 ^ 64) (negation p)
 negation_add m c p l w = known (negation (add_term m c p)) (add_term m ((2 ^ 64 - c % 2 ^ 64) % 2 ^ 64) (negation p))

@@ -1,4 +1,4 @@
--- Two polynomials differ by a constant exactly if their other terms are the same.
+-- Two polynomials differ by a nonzero constant exactly when they differ only in their constants.
 use Rattle.std.proofs.Common.{ℕ, ◌≡◌, ◌≢◌, ◌+◌, ◌-◌, ◌%◌, ◌^◌, ◌<◌, ◌==◌, Bool, true, false, if◌then◌else◌, List, []}
 use Rattle.std.proofs.Common.{◌∷◌, refl, sym, ap, ◌∙◌, subst, arith, lit<, true≢false, Decides}
 use Rattle.std.proofs.Math.Nat.{mod-lt, mod-eq_of_lt}
@@ -19,7 +19,7 @@ use Rattle.ft_norm.proofs.Sums.{form_rises}
 use Rattle.ft_norm.proofs.Weights.{Rises, known, rises_add, rises_negation, rises_total, share_linear, share_negation}
 use Rattle.ft_norm.proofs.Weights.{weigh, weigh_add, weigh_first, weigh_negation, weigh_total, words_same}
 
--- the first term is the constant, or there is no constant
+-- what holds in both cases, whether n is 0 or not, holds of the values chosen by the test
 first_split : (P : ℕ → List Term → Type 0) (n c : ℕ) (ts us : List Term) → (n ≡ 0 → P c ts) → ((n ≡ 0 → ⊥) → P 0 us) →
     P (if n == 0 then c else 0) (if n == 0 then ts else us)
 first_split P n c ts us f g = go (n == 0) refl
@@ -162,7 +162,7 @@ module _ (fs : List Form) (ps qs : List Term) (a : AreOver fs ps) (b : AreOver f
           ≡ (f + s) % 2 ^ 64 → c ≡ f → r % 2 ^ 64 ≡ 0 → s % 2 ^ 64 ≡ 0 → g % 2 ^ 64 ≡ 0
       none d g p q c f r s v w x y z o u = omega (arith, v, w, x, y, z, o, u)
 
-  -- and the others are the same
+  -- if the difference is a nonzero constant, the other terms are the same
   others_same : (e : ℕ) → difference ≡ plus one e nought → others ps ≡ others qs
   others_same e q =
       let o = others_over fs ps a in

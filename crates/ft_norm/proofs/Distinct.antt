@@ -1,4 +1,4 @@
--- Over distinct forms, two entries are equal exactly if their forms are.
+-- Over distinct forms, two entries are equal exactly when their forms are.
 use Rattle.std.proofs.Common.{ℕ, suc, zero, ◌≡◌, ◌≢◌, ◌+◌, ◌^◌, ◌<◌, ◌≤◌, ◌||◌, Bool, true, false, if◌then◌else◌, List}
 use Rattle.std.proofs.Common.{[], ◌∷◌, ◌++◌, length, get_or, refl, sym, ap, ◌∙◌, subst, arith, true≢false, Some}
 use Rattle.std.proofs.Common.{slice_get, inl, inr, map, length-append}
@@ -67,7 +67,7 @@ module _ (fs : List Form) (d : IsDistinct fs) where
   alone_linear x ts h r g n e = n (alone_is fs x ts (record { terms = h; distinct = d; reach = r }) g e).0
       (alone_is fs x ts (record { terms = h; distinct = d; reach = r }) g e).1
 
-  -- nor that of terms of degree at least 2
+  -- nor is it the polynomial of terms of degree at least 2
   alone_full : (x : Atom) (ts : List Term) → AreTerms ts → reach_of_terms fs ts ≤ length fs → 2 ≤ greatest ts → alone x
       ≡ polynomial_form fs ts → ⊥
   alone_full x ts h r g e = let q = degree_over fs ts (record { terms = h; distinct = d; reach = r }) in

@@ -118,31 +118,31 @@ forms_onto-at fs hs (x ∷ es) (suc i) e l r =
     let s : length fs + suc i ≡ length g + i = omega arith in
     rw s h
 
--- the form of entry i
+-- the form in place i is that of entry i
 pub form_at : (es : List Entry) (i : ℕ) (e : Entry) → NamesEarlier es → i < length es → slice_get (forms_of es) i
     ≡ Some (entry_form (forms_of es) (get_or es i e))
 form_at es i e h l = let z : 0 + i ≡ i = omega arith in
     rw z at (forms_onto-at [] (forms_of es) es i e l (let k = h i e l in omega arith))
 
--- the form of an entry that the code has read
+-- likewise for an entry that the code has read
 pub form_read : (es : List Entry) (i : ℕ) (e x : Entry) → NamesEarlier es → i < length es → e ≡ get_or es i e → e ≡ x →
     slice_get (forms_of es) i ≡ Some (entry_form (forms_of es) x)
 form_read es i e x h l r k = form_at es i e h l ∙ ap (λ (y : Entry). Some (entry_form (forms_of es) y)) (sym r ∙ k)
 
--- the polynomial of an entry that the code has read
+-- the polynomial in place i is that of the entry that the code has read there
 pub polynomial_read : (es : List Entry) (i : ℕ) (e x : Entry) → NamesEarlier es → i < length es → e ≡ get_or es i e → e
     ≡ x → polynomial_of (entry_form (forms_of es) x) ≡ polynomial_at (forms_of es) i
 polynomial_read es i e x h l r k = sym (ap (λ (o : Option Form). polynomial_of (unwrap_or o (integer_form nought)))
     (form_read es i e x h l r k))
 
--- the polynomial of an atom's entry is the term of its number
+-- the polynomial of an atom's entry is one term, with the atom's number
 pub lone_read : (es : List Entry) (i : ℕ) (e : Entry) (a : Shape) → NamesEarlier es → i < length es → e
     ≡ get_or es i e → e ≡ Lone a → polynomial_form (forms_of es) (alone_term (i + 1) ∷ [])
     ≡ polynomial_at (forms_of es) i
 lone_read es i e a h l r k = let p : polynomial_at (forms_of es) i ≡ alone (atom_form (forms_of es) a) =
     sym (polynomial_read es i e (Lone a) h l r k) in rw (add-one, p) refl
 
--- the updates of an entry that the code has read
+-- the updates in place i are those of the entry that the code has read there
 pub updates_read : (es : List Entry) (i : ℕ) (e x : Entry) → NamesEarlier es → i < length es → e ≡ get_or es i e → e
     ≡ x → updates_at (forms_of es) i ≡ updates_of (entry_form (forms_of es) x)
 updates_read es i e x h l r k = ap (λ (o : Option Form). updates_of (unwrap_or o (integer_form nought)))
@@ -221,7 +221,7 @@ push_agrees es e = record {
       ∙ get_front (forms_of es) (entry_form (forms_of es) e ∷ []) k (omega arith));
 }
 
--- one more entry that names only earlier ones
+-- if each entry names only earlier ones, this still holds after such an entry is appended
 pub names_push : (es : List Entry) (e : Entry) → NamesEarlier es → reach_of_entry (forms_of es) e ≤ length es →
     NamesEarlier (es ++ (e ∷ []))
 names_push es e h r k d l =
@@ -285,7 +285,7 @@ atom_reached fs n i l r = go (slice_get fs i) refl r
     go (Some (integer_form (plus (times a one) (suc zero) (plus m d p)))) e r =
         no (Some (integer_form (plus (times a one) (suc zero) (plus m d p)))) refl r
 
--- the reach of an atom's number is one more than its place
+-- the reach of an atom's number is one more than its place in the list
 pub atom_reaches : (fs : List Form) (i : ℕ) (a : Atom) → slice_get fs i ≡ Some (integer_form (alone a)) →
     atom_reach fs (i + 1) ≡ i + 1
 atom_reaches fs i a e = rw (add-one, e) (omega arith)

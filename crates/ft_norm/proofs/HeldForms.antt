@@ -32,23 +32,23 @@ within es xs fs i x v e h =
 as_many : (es xs : List Entry) (fs : List Normal) → forms_of es ≡ fs → xs ≡ es → length xs ≡ length fs
 as_many es xs fs v e = ap length e ∙ (sym (length-forms_of es) ∙ ap length v)
 
--- the forms after one more entry
+-- appending an entry appends its form
 pub grown : (es xs : List Entry) (fs : List Normal) (e : Entry) → forms_of es ≡ fs → xs ≡ es ++ e ∷ [] → forms_of xs
     ≡ fs ++ entry_form fs e ∷ []
 grown es xs fs e v h = ap forms_of h ∙ (forms_onto-push [] es e ∙ ap (λ gs. gs ++ entry_form gs e ∷ []) v)
 
--- the form that a call made, rewritten by an equation
+-- if a call made the form x, and x is y, it made the form y
 pub made : {E : Type 0} (r : Result Form E) (gs : List Normal) (x y : Normal) → x ≡ y →
     IfOk r (λ f. held gs f ≡ Some x) → IfOk r (λ f. held gs f ≡ Some y)
 made (Ok f) gs x y e h = h ∙ ap Some e
 made (Err d) gs x y e h = tt
 
--- the polynomial in a place that has an integer's form
+-- if the form in place i is that of a polynomial, `polynomial_at` returns this polynomial
 pub polynomial_found : (gs : List Normal) (i : ℕ) (p : Polynomial) → slice_get gs i ≡ Some (integer_form p) →
     polynomial_at gs i ≡ p
 polynomial_found gs i p h = ap (λ (o : Option Normal). polynomial_of (unwrap_or o (integer_form nought))) h
 
--- the updates in a place that has a memory's form
+-- if the form in place i is that of updates, `updates_at` returns these updates
 pub updates_found : (gs : List Normal) (i : ℕ) (u : Updates) → slice_get gs i ≡ Some (memory_form u) → updates_at gs i
     ≡ u
 updates_found gs i u h = ap (λ (o : Option Normal). updates_of (unwrap_or o (integer_form nought))) h
@@ -82,7 +82,7 @@ keeps_push fs gs x e = keeps_from fs gs (λ (f : Form) (y : Normal) h. ap (λ (h
 pub keeps_itself : (fs gs : List Normal) → gs ≡ fs → Keeps fs gs
 keeps_itself fs gs e = keeps_from fs gs (λ (f : Form) (y : Normal) h. ap (λ (hs : List Normal). slice_get hs f.0) e ∙ h)
 
--- two calls, one after the other, keep the forms
+-- if each of two calls keeps the forms, so do both, one after the other
 pub keeps_both : (fs gs hs : List Normal) → Keeps fs gs → Keeps gs hs → Keeps fs hs
 keeps_both fs gs hs j k = keeps_from fs hs (λ (f : Form) (x : Normal) h. k.forms_stay f x (j.forms_stay f x h))
 

@@ -19,7 +19,7 @@ first_of_all a d m h = by_cases (λ n. n ≡ times a (times d m)) (cmp_atom a d)
 later : (a d : Atom) (m : Monomial) → cmp_atom a d ≡ Greater → with_factor a (times d m) ≡ times d (with_factor a m)
 later a d m h = rw h refl
 
--- a comparison, reversed
+-- if one atom is less than another, the other is greater, and conversely
 less_turned : (a b : Atom) → cmp_atom a b ≡ Less → cmp_atom b a ≡ Greater
 less_turned a b e = cmp_atom_total.antisymm b a ∙ ap ordering_reverse e
 
@@ -30,7 +30,7 @@ greater_turned a b e = cmp_atom_total.antisymm b a ∙ ap ordering_reverse e
 less_not : (a b : Atom) → cmp_atom a b ≡ Less → cmp_atom a b ≢ Greater
 less_not a b e k = let x : Less ≡ Greater = sym e ∙ k in cc
 
--- the three cases of a comparison
+-- what follows from each result of a comparison holds
 cases : (G : Type 0) (a b : Atom) → (cmp_atom a b ≡ Less → G) → (a ≡ b → G) → (cmp_atom a b ≡ Greater → G) → G
 cases G a b f g h = go (cmp_atom a b) refl
   where
@@ -39,7 +39,7 @@ cases G a b f g h = go (cmp_atom a b) refl
     go Equal e = g (atom_equal a b e)
     go Greater e = h e
 
--- the three cases, with two of them taken together
+-- likewise, with two of the three results taken together
 either : (G : Type 0) (a b : Atom) → (cmp_atom a b ≢ Greater → G) → (cmp_atom a b ≡ Greater → G) → G
 either G a b f h = go (cmp_atom a b) refl
   where
@@ -48,7 +48,7 @@ either G a b f h = go (cmp_atom a b) refl
     go Equal e = f (λ k. let x : Equal ≡ Greater = sym e ∙ k in cc)
     go Greater e = h e
 
--- two atoms that are not greater than the first
+-- two atoms may be inserted in either order if neither is greater than the first atom
 both_first : (a b d : Atom) (m : Monomial) → cmp_atom a d ≢ Greater → cmp_atom b d ≢ Greater →
     with_factor a (with_factor b (times d m)) ≡ with_factor b (with_factor a (times d m))
 both_first a b d m h k =
@@ -68,7 +68,7 @@ above a b d h k = cases (cmp_atom b a ≡ Greater) a d
     (λ e. ap (cmp_atom b) e ∙ k)
     (λ e. absurd (h e))
 
--- one atom that is not greater than the first, and one that is
+-- likewise if one is not greater than the first atom, and the other is
 one_first : (a b d : Atom) (m : Monomial) → cmp_atom a d ≢ Greater → cmp_atom b d ≡ Greater →
     with_factor a (with_factor b (times d m)) ≡ with_factor b (with_factor a (times d m))
 one_first a b d m h k =
@@ -92,26 +92,26 @@ with_swap a b (times d m) = either (with_factor a (with_factor b (times d m))
     ∙ (ap (times d) (with_swap a b m) ∙ (sym (later b d (with_factor a m) k)
     ∙ ap (with_factor b) (sym (later a d m h)))))))
 
--- an atom multiplied into the second factor
+-- multiplying the second factor by an atom multiplies the product by it
 pub join_with : (m : Monomial) (a : Atom) (n : Monomial) → join m (with_factor a n) ≡ with_factor a (join m n)
 join_with one a n = refl
 join_with (times b m) a n = ap (join m) (with_swap b a n) ∙ join_with m a (with_factor b n)
 
--- an atom multiplied into the first factor
+-- multiplying the first factor by an atom multiplies the product by it
 join_added : (a : Atom) (m n : Monomial) → join (with_factor a m) n ≡ with_factor a (join m n)
 join_added a one n = refl
 join_added a (times b m) n = either (join (with_factor a (times b m)) n ≡ with_factor a (join (times b m) n)) a b
     (λ h. ap (λ k. join k n) (first_of_all a b m h) ∙ join_with (times b m) a n)
     (λ h. ap (λ k. join k n) (later a b m h) ∙ join_added a m (with_factor b n))
 
--- likewise for atoms given by number
+-- two atoms given by number may be multiplied in either order
 pub atoms_swap : (fs : List Form) (x y : ℕ) (m : Monomial) → with_atom fs x (with_atom fs y m)
     ≡ with_atom fs y (with_atom fs x m)
 atoms_swap fs zero y m = refl
 atoms_swap fs (suc i) zero m = refl
 atoms_swap fs (suc i) (suc j) m = with_swap (atom_at fs i) (atom_at fs j) m
 
--- an atom given by number, multiplied into the first factor
+-- multiplying the first factor by an atom given by number multiplies the product by it
 pub join_atom : (fs : List Form) (x : ℕ) (m n : Monomial) → join (with_atom fs x m) n ≡ with_atom fs x (join m n)
 join_atom fs zero m n = refl
 join_atom fs (suc i) m n = join_added (atom_at fs i) m n

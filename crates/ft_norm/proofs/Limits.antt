@@ -89,7 +89,7 @@ nothing : (fs : List Normal) (q : List Term) → length q ≡ 0 → polynomial_f
 nothing fs [] e = refl
 nothing fs (t ∷ q) e = absurd (omega (arith, e))
 
--- the normal form of a sum with zero
+-- the normal form of a sum with zero is the other operand
 pub sum_with_none : (fs : List Normal) (a b : Polynomial) (p : List Term) → AreOver fs p → length p ≤ 64 →
     polynomial_form fs p ≡ a → b ≡ nought → a ≡ norm_add a b
 sum_with_none fs a b p o l e f =
@@ -97,7 +97,7 @@ sum_with_none fs a b p o l e f =
     let t : terms a ≡ length p = ap terms (sym e) ∙ terms_over fs p o in
     norm_add_small a b a (length p) (sym (ap (total a) f ∙ total_none a w)) t l
 
--- the normal form of a sum, if the second operand has no terms
+-- if the second operand of a sum has no terms, the normal form is the first operand
 pub sum_with_empty : (fs : List Normal) (a b : Polynomial) (p q : List Term) → AreOver fs p → length p ≤ 64 →
     polynomial_form fs p ≡ a → polynomial_form fs q ≡ b → length q ≡ 0 → a ≡ norm_add a b
 sum_with_empty fs a b p q o l e f z = sum_with_none fs a b p o l e (sym f ∙ nothing fs q z)
@@ -107,26 +107,26 @@ pub less_empty : (fs : List Normal) (a b : Polynomial) (p q : List Term) → Are
     polynomial_form fs p ≡ a → polynomial_form fs q ≡ b → length q ≡ 0 → a ≡ norm_sub a b
 less_empty fs a b p q o l e f z = sum_with_none fs a (negation b) p o l e (ap negation (sym f ∙ nothing fs q z))
 
--- the normal form of a sum, if the first operand has no terms
+-- if the first operand of a sum has no terms, the normal form is the second operand
 pub empty_with_sum : (fs : List Normal) (a b : Polynomial) (p q : List Term) → AreOver fs q → length q ≤ 64 →
     polynomial_form fs p ≡ a → polynomial_form fs q ≡ b → length p ≡ 0 → b ≡ norm_add a b
 empty_with_sum fs a b p q o l e f z =
     let t : terms b ≡ length q = ap terms (sym f) ∙ terms_over fs q o in
     norm_add_small a b b (length q) (sym (ap (λ x. total x b) (sym e ∙ nothing fs p z))) t l
 
--- the normal form of a sum within the limit, by its terms
+-- if a sum has at most 64 terms, their polynomial is its normal form
 pub sum_small : (fs : List Normal) (a b x y : Polynomial) (s : List Term) → AreOver fs s → polynomial_form fs s
     ≡ total x y → x ≡ a → y ≡ b → length s ≤ 64 → polynomial_form fs s ≡ norm_add a b
 sum_small fs a b x y s o v e f l = norm_add_small a b (polynomial_form fs s) (length s) (v
     ∙ (ap (λ z. total z y) e ∙ ap (total a) f)) (terms_over fs s o) l
 
--- the normal form of a sum beyond the limit, by its terms
+-- if a sum has more than 64 terms, its normal form is an atom
 pub sum_large : (fs : List Normal) (a b x y : Polynomial) (s : List Term) → AreOver fs s → polynomial_form fs s
     ≡ total x y → x ≡ a → y ≡ b → 64 < length s → alone (operation_atom Add a b) ≡ norm_add a b
 sum_large fs a b x y s o v e f l = norm_add_large a b (polynomial_form fs s) (length s) (v
     ∙ (ap (λ z. total z y) e ∙ ap (total a) f)) (terms_over fs s o) l
 
--- the normal form of a product beyond the limits
+-- beyond the limits, the normal form of a product is an atom
 pub product_large : (a b x y : Polynomial) (t : Bool) → t
     ≡ (nat_le (terms x * terms y) 64 && nat_le (degree x + degree y) 4) → t ≡ false → x ≡ a → y ≡ b →
     alone (operation_atom Mul a b) ≡ norm_mul a b
@@ -134,7 +134,7 @@ product_large a b x y t h k e f =
     let n : (nat_le (terms a * terms b) 64 && nat_le (degree a + degree b) 4) ≡ false = rw (sym e, sym f) (sym h ∙ k) in
     rw n refl
 
--- the normal form of a product within the limits
+-- within the limits, the normal form of a product is the polynomial of all products of terms
 pub product_small : (a b x y s : Polynomial) (t : Bool) → t
     ≡ (nat_le (terms x * terms y) 64 && nat_le (degree x + degree y) 4) → t ≡ true → x ≡ a → y ≡ b → s
     ≡ add_products x y nought → s ≡ norm_mul a b

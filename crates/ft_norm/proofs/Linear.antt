@@ -29,7 +29,7 @@ linears_itself (x ∷ xs) (y ∷ ys) e =
     let t : map full xs ≡ map full ys = cc in
     rw (full_itself x y h, linears_itself xs ys t) refl
 
--- a number is that of at most one atom
+-- a number stands for at most one atom
 pub present_bound : (x : ℕ) → present x ≤ 1
 present_bound zero = omega arith
 present_bound (suc k) = omega arith
@@ -56,7 +56,7 @@ pub read_degree : (ts : List Term) (i : ℕ) (t : Term) → i < length ts → t 
 read_degree ts i t l r = let e = ap (λ (u : Term). size u.atoms) r in let h = term_degree ts i t l in
     omega (arith, e, h)
 
--- one more term is copied as a linear term
+-- appending term i, copied as a linear term, to copies of the first i terms gives copies of the first i + 1
 pub linear_more : (ts : List Term) (d : Term) (x : LinearTerm) (xs : List LinearTerm) (i : ℕ) → AreTerms ts →
     greatest ts ≤ 1 → map full xs ≡ take i ts → i < length ts
     → x.atom ≡ get_or (get_or ts i d).atoms 3 0 → x.coefficient ≡ (get_or ts i d).coefficient → map full (xs ++ x ∷ [])

@@ -92,7 +92,7 @@ module _ (ps : List Polynomial) (u : Updates) (ns : List Node) (h : AreNodes ns)
       ∙ memory_tree a m.node m.found m.sort)
 
   module _ (fs : List Normal) (look : ℕ → Option Form) (s : Stands fs look) where
-    -- the form made for an integer node
+    -- the form made for an integer node is that of its tree
     made_integer : (k scope a : ℕ) (f : Form) → MayName ns k scope false a → look a ≡ Some f → held fs f
         ≡ Some (integer_form (integer_in tree_forms a))
     made_integer k scope a f m e =
@@ -101,7 +101,7 @@ module _ (ps : List Polynomial) (u : Updates) (ns : List Node) (h : AreNodes ns)
         ap polynomial_of (get_or-map (form_under ps u) (trees ns) a (integer (word 0))) in
         s.each a f e ∙ ap Some (t ∙ ap integer_form (sym q))
 
-    -- the form made for a memory node
+    -- the form made for a memory node is that of its tree
     made_memory : (k scope a : ℕ) (f : Form) → MayName ns k scope true a → look a ≡ Some f → held fs f
         ≡ Some (memory_form (memory_in u tree_forms a))
     made_memory k scope a f m e = s.each a f e ∙ ap Some (memory_tree a m.node m.found m.sort
@@ -126,7 +126,7 @@ module _ (ps : List Polynomial) (u : Updates) (ns : List Node) (h : AreNodes ns)
       has_length (shape.Rem a l) h = h.1
       has_length y h = tt
 
-  -- the form with the number of a part is that of the part's tree
+  -- form i is that of the tree of node j
   abbrev IsSame : List Normal → ℕ → Bool → ℕ → Type 0
   IsSame fs i true j = updates_at fs i ≡ memory_in u tree_forms j
   IsSame fs i false j = polynomial_at fs i ≡ integer_in tree_forms j

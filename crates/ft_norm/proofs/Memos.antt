@@ -16,7 +16,7 @@ use Rattle.ft_norm.specs.Memos.{IsFresh, Remembers}
 use Rattle.ft_norm.proofs.Made.{Stands, held_count, integer_tree, memory_tree}
 use Rattle.ft_norm.proofs.HeldForms.{integer_from, memory_from, polynomials_kept}
 
--- a fresh memo remembers nothing wrong
+-- what a fresh memo remembers is right, since it remembers nothing
 pub remembers_none : (ns : List Node) (fs : List Normal) (ints : List Form) (memory : Form) (m : Memo) → IsFresh m →
     Remembers ns fs ints memory m
 remembers_none ns fs ints memory m n = record { each = λ k f e. let z : Some f ≡ None = sym e ∙ n k in cc }
@@ -87,7 +87,7 @@ pub told_answer : {E : Type 0} (ns : List Node) (h : AreNodes ns) (fs gs : List 
 told_answer ns h fs gs ints memory n (Ok f) x e q = told ns h fs gs ints memory n f x e q
 told_answer ns h fs gs ints memory n (Err d) x e q = tt
 
--- the sort of a call's result, and its number of updates
+-- if a call returns a form, it is of the node's sort, and its number of updates is within the bound
 pub integer_told : {E : Type 0} (ns : List Node) (fs gs : List Normal) (ints : List Form) (memory : Form) (n : ℕ)
     (r : Result Form E) → IfOk r (λ f. Tells ns fs gs ints memory n f) → (x : Node) → slice_get ns n ≡ Some x →
     is_memory x.shape ≡ false → IfOk r (λ f. IsInteger gs f)

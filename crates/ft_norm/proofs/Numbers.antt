@@ -51,7 +51,7 @@ none_below xs l = four (λ ys. (size ys ≡ 0 → ⊥) → cmp_atoms none ys ≡
     go zero zero zero (suc k) n = rw (less k) refl
     go zero zero zero zero n = absurd (n refl)
 
--- a number other than 0 is an atom
+-- a number other than 0 is that of an atom
 pub some_present : (x : ℕ) → 0 < x → present x ≡ 1
 some_present zero l = absurd (omega (arith, l))
 some_present (suc k) l = refl
@@ -104,6 +104,6 @@ size_counts xs = sym (is_count_by size (λ x. not (x == 0)) refl step xs)
         other true e = absurd (let z = eqb-true (suc k) 0 e in omega (arith, z))
         other false e = e
 
--- a list of four numbers, read element by element
+-- a list of four numbers consists of its elements 0 to 3
 pub numbers : (xs : List ℕ) → length xs ≡ 4 → xs ≡ get_or xs 0 0 ∷ get_or xs 1 0 ∷ get_or xs 2 0 ∷ get_or xs 3 0 ∷ []
 numbers = four (λ ys. ys ≡ get_or ys 0 0 ∷ get_or ys 1 0 ∷ get_or ys 2 0 ∷ get_or ys 3 0 ∷ []) (λ a b c d. refl)

@@ -21,7 +21,7 @@ atoms_equal (x ∷ xs) [] e = cc
 atoms_equal (x ∷ xs) (y ∷ ys) e = let t = then_both (nat_cmp x y) (cmp_atoms xs ys) e in
     rw (nat_cmp-IsAntisymmetric x y t.0, atoms_equal xs ys t.1) refl
 
--- a comparison, reversed
+-- if one monomial compares as greater than another, the other compares as less
 pub atoms_turned : (xs ys : List ℕ) → cmp_atoms xs ys ≡ Greater → cmp_atoms ys xs ≡ Less
 atoms_turned xs ys e = nat_list_cmp_total.antisymm ys xs ∙ ap ordering_reverse e
 
@@ -98,7 +98,7 @@ terms_negated (t ∷ ts) h =
     precede [] g = tt
     precede (u ∷ us) g = g
 
--- the last terms are in order
+-- dropping the first terms keeps the order
 pub terms_drop : (ts : List Term) (i : ℕ) → AreTerms ts → AreTerms (drop i ts)
 terms_drop [] zero h = tt
 terms_drop [] (suc i) h = tt

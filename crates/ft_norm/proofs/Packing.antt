@@ -88,7 +88,7 @@ small_read [] k d h l = absurd (omega (arith, l))
 small_read (t ∷ ts) zero d h l = h.0
 small_read (t ∷ ts) (suc k) d h l = small_read ts k d h.1 (omega (arith, l))
 
--- one more packed term
+-- appending a packed term to packed terms gives packed terms
 pub packed_push : (ps : List PackedTerm) (p : PackedTerm) → ArePacked ps → IsPacked p → ArePacked (ps ++ p ∷ [])
 packed_push [] p h k = (k, tt)
 packed_push (q ∷ ps) p h k = (h.0, packed_push ps p h.1 k)

@@ -137,7 +137,7 @@ pub path_end : {A : Type 0} (look : ℕ → Option A) (n k : ℕ) (xs : List ℕ
 path_end look n k [] p e = p.bottom 0
 path_end look n k (x ∷ xs) p e = absurd (omega arith)
 
--- at least one node still has no form
+-- as long as a form is to be made, at least one node has no form yet
 pub count_less : {A : Type 0} (look : ℕ → Option A) (x : A) (n k : ℕ) (xs : List ℕ) → Path look n k xs →
     count look (n + 1) + 1 ≤ n + 1
 count_less look x n k xs p =
@@ -150,7 +150,7 @@ count_less look x n k xs p =
 pub steps_all : (s i a n w : ℕ) → s ≤ i + a * w → a ≤ n + 1 → s ≤ i + (n + 1) * w
 steps_all s i a n w h l = let m : a * w ≤ (n + 1) * w = mul-le-mul_right w l in omega (arith, h, m)
 
--- the steps for one more node
+-- the bound on the steps still holds after one more node
 pub steps_more : (s t i a u p k n : ℕ) → s ≤ i + a * (1 + u + n) → t ≤ s + 1 + p → p ≤ u + k → k ≤ n →
     t ≤ i + (a + 1) * (1 + u + n)
 steps_more s t i a u p k n h g q l =

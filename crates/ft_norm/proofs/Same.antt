@@ -10,7 +10,7 @@ use Rattle.ft_norm.specs.declared.form.Form.{Form}
 use Rattle.ft_norm.specs.Held.{IsHeld, held, polynomial, updates_held}
 use Rattle.ft_norm.specs.Entries.{AreEntries, IsDistinct, forms_of}
 
--- numbers are equal exactly if the forms are
+-- numbers are equal exactly when the forms are
 pub one_number : (es : List Entry) (fs : List Normal) (a b : Form) → AreEntries es → forms_of es ≡ fs → IsHeld fs a →
     IsTrue (a.0 == b.0) ↔ (held fs a ≡ held fs b)
 one_number es fs a b h v i = (

@@ -11,14 +11,14 @@ use Rattle.ft_norm.specs.contracts.entry.TermPartialEq.TheImpl as term
 use Rattle.ft_norm.proofs.Packing.{rebuilt}
 use Rattle.ft_norm.specs.contracts.packed.PackedTermPartialEq.TheImpl as packed
 
--- the test of two terms
+-- the test of two terms decides whether they are equal
 term_decides : (a b : Term) → Decides ((term.ghosts).eq a b) (a ≡ b)
 term_decides a b = Decides-like _ (λ h. ap (λ x. let t : Term = record { atoms = x; coefficient = a.coefficient } in
     t) h.0 ∙ ap (λ x. let t : Term = record { atoms = b.atoms; coefficient = x } in t) h.1)
     (λ e. (ap (λ (t : Term). t.atoms) e, ap (λ (t : Term). t.coefficient) e))
     (Decides-and _ _ (slice_eq-Decides Decides-eqb a.atoms b.atoms _ refl) (Decides-eqb a.coefficient b.coefficient))
 
--- the test of two linear terms
+-- the test of two linear terms decides whether they are equal
 linear_decides : (a b : LinearTerm) → Decides ((linear.ghosts).eq a b) (a ≡ b)
 linear_decides a b = Decides-like _ (λ h. ap (λ x. let t : LinearTerm = record {
   atom = x;
@@ -28,7 +28,7 @@ linear_decides a b = Decides-like _ (λ h. ap (λ x. let t : LinearTerm = record
     (λ e. (ap (λ (t : LinearTerm). t.atom) e, ap (λ (t : LinearTerm). t.coefficient) e))
     (Decides-and _ _ (Decides-eqb a.atom b.atom) (Decides-eqb a.coefficient b.coefficient))
 
--- the test of two packed terms
+-- the test of two packed terms decides whether they are equal
 packed_decides : (a b : PackedTerm) → Decides ((packed.ghosts).eq a b) (a ≡ b)
 packed_decides a b = Decides-like _ (λ h. rebuilt a.first a.second a.third a.high a.low b.first b.second b.third b.high
     b.low h.0 h.1.0 h.1.1.0 h.1.1.1.0 h.1.1.1.1)
@@ -44,7 +44,7 @@ packed_decides a b = Decides-like _ (λ h. rebuilt a.first a.second a.third a.hi
     (Decides-and _ _ (Decides-eqb a.third b.third)
     (Decides-and _ _ (Decides-eqb a.high b.high) (Decides-eqb a.low b.low)))))
 
--- the tests of lists of terms
+-- the tests of two lists of terms decide whether they are equal
 pub terms_decide : (xs ys : List Term) (r : Bool) → r ≡ pointwise (term.ghosts).eq xs ys → Decides r (xs ≡ ys)
 terms_decide = slice_eq-Decides term_decides
 

@@ -110,7 +110,7 @@ abbrev pub Misses : Monomial → Polynomial → Type 0
 Misses k nought = Unit {0}
 Misses k (plus n d p) = (k ≢ n) × Misses k p
 
--- it still does not have it after another one is added
+-- a polynomial that does not have this monomial still does not have it after another one is added
 misses_add : (k m : Monomial) (c : ℕ) (p : Polynomial) → k ≢ m → Misses k p → Misses k (add_term m c p)
 misses_add k m c nought h w = if_cases (λ q. Misses k q) (c == 0) nought (plus m c nought) (λ e. tt) (λ e. (h, tt))
 misses_add k m c (plus n d p) h w = by_cases (λ q. Misses k q) (cmp_monomial m n) (led_by m c (plus n d p))
@@ -131,7 +131,7 @@ terms_add m c (plus n d p) l w = by_cases (λ q. terms q ≡ suc (suc (terms p))
     (λ e. absurd (w.0 (monomial_equal m n e)))
     (λ e. ap suc (terms_add m c p l w.1))
 
--- the degree after a new monomial is added
+-- after a new monomial is added, the degree is the larger of its degree and that of the polynomial
 degree_add : (m : Monomial) (c : ℕ) (p : Polynomial) → 0 < c → Misses m p → degree (add_term m c p)
     ≡ max (factors m) (degree p)
 degree_add m c nought l w = if_cases (λ q. degree q ≡ max (factors m) 0) (c == 0) nought (plus m c nought) (λ e.
@@ -193,7 +193,7 @@ module _ (fs : List Form) (d : IsDistinct fs) where
   one_atom i j a b e = d.one i j (integer_form (alone (atom_at fs j))) (atom_reached fs (length fs) i (omega arith) a
       ∙ ap (λ x. Some (integer_form (alone x))) e) (atom_reached fs (length fs) j (omega arith) b)
 
-  -- so two atoms are the same exactly if their numbers are
+  -- so two atoms are the same exactly when their numbers are
   meets_alike : (i j : ℕ) → atom_reach fs (suc i) ≤ length fs → atom_reach fs (suc j) ≤ length fs →
       meets (atom_at fs i) (atom_at fs j) ≡ alike (suc i) (suc j)
   meets_alike i j a b = order_split (meets (atom_at fs i) (atom_at fs j)
@@ -319,12 +319,12 @@ terms_over fs [] h = refl
 terms_over fs (t ∷ ts) h = terms_add (monomial_form fs t.atoms) t.coefficient (polynomial_form fs ts) h.terms.1
     (first_misses fs t ts h) ∙ ap suc (terms_over fs ts (rest_over fs t ts h))
 
--- the largest degree in two lists, appended
+-- the largest degree in two lists together is the larger of those in each
 greatest-append : (xs ys : List Term) → greatest (xs ++ ys) ≡ max (greatest xs) (greatest ys)
 greatest-append [] ys = omega arith
 greatest-append (x ∷ xs) ys = let h = greatest-append xs ys in omega (arith, h)
 
--- the largest degree, with one more term
+-- the largest degree of the first i + 1 terms is the larger of that of the first i and that of term i
 pub greatest_more : (xs : List Term) (x : Term) (i n : ℕ) → i < length xs → x ≡ get_or xs i x → n
     ≡ greatest (take i xs) → max n (size x.atoms) ≡ greatest (take (i + 1) xs)
 greatest_more xs x i n l r e =

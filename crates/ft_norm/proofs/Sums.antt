@@ -20,7 +20,7 @@ form_rises fs [] h = tt
 form_rises fs (t ∷ ts) h = rises_add (monomial_form fs t.atoms) t.coefficient (polynomial_form fs ts) h.2
     (form_rises fs ts h.4)
 
--- a term inserted anywhere
+-- inserting a term anywhere in the list adds it to the polynomial
 pub form_insert : (fs : List Form) (ts : List Term) (i : ℕ) (v : Term) → AreTerms ts → v.coefficient < 2 ^ 64
     → polynomial_form fs (take i ts ++ v ∷ drop i ts)
     ≡ add_term (monomial_form fs v.atoms) v.coefficient (polynomial_form fs ts)
@@ -32,7 +32,7 @@ form_insert fs (t ∷ ts) (suc i) v h w =
     ∙ add_swap (monomial_form fs t.atoms) (monomial_form fs v.atoms) t.coefficient v.coefficient (polynomial_form fs ts)
     h.2 w (form_rises fs ts h.4)
 
--- a coefficient that is increased
+-- adding c to the coefficient of a term adds the term with the coefficient c
 pub form_set : (fs : List Form) (ts : List Term) (i : ℕ) (y d : Term) (c : ℕ) → AreTerms ts → i < length ts →
     c < 2 ^ 64 → y.atoms ≡ (get_or ts i d).atoms → y.coefficient ≡ (c + (get_or ts i d).coefficient) % 2 ^ 64
     → polynomial_form fs (set ts i y) ≡ add_term (monomial_form fs (get_or ts i d).atoms) c (polynomial_form fs ts)
@@ -46,7 +46,7 @@ form_set fs (t ∷ ts) (suc i) y d c h l w f e =
     ∙ add_swap (monomial_form fs t.atoms) (monomial_form fs (get_or ts i d).atoms) t.coefficient c
     (polynomial_form fs ts) h.2 w (form_rises fs ts h.4)
 
--- a coefficient that becomes 0, whose term is dropped
+-- removing a term whose coefficient plus c is 0 adds the term with the coefficient c
 pub form_remove : (fs : List Form) (ts : List Term) (i : ℕ) (d : Term) (c : ℕ) → AreTerms ts → i < length ts →
     c < 2 ^ 64 → (c + (get_or ts i d).coefficient) % 2 ^ 64 ≡ 0
     → polynomial_form fs (take i ts ++ drop (suc i) ts)
@@ -62,7 +62,7 @@ form_remove fs (t ∷ ts) (suc i) d c h l w e =
     ∙ add_swap (monomial_form fs t.atoms) (monomial_form fs (get_or ts i d).atoms) t.coefficient c
     (polynomial_form fs ts) h.2 w (form_rises fs ts h.4)
 
--- an element set in place
+-- setting an element in a buffer that holds the list sets it in the list
 pub set_filled : (xs zs : List Term) (i : ℕ) (y : Term) → zs ≡ xs → refill (length xs) xs (set zs i y) ≡ set xs i y
 set_filled xs zs i y e =
     ap (λ us. refill (length xs) xs (set us i y)) e
@@ -75,19 +75,19 @@ pub form_skip : (fs : List Form) (ts : List Term) (m : Monomial) (c : ℕ) → A
 form_skip fs ts m c h e = sym (ap (λ k. add_term m k (polynomial_form fs ts)) e
     ∙ add_none m (polynomial_form fs ts) (form_rises fs ts h))
 
--- negated terms are the negation of the polynomial
+-- the polynomial of the negated terms is the negation of the polynomial
 pub form_negated : (fs : List Form) (ts : List Term) → AreTerms ts → polynomial_form fs (map negated_term ts)
     ≡ negation (polynomial_form fs ts)
 form_negated fs [] h = refl
 form_negated fs (t ∷ ts) h = rw (form_negated fs ts h.4)
     (sym (negation_add (monomial_form fs t.atoms) t.coefficient (polynomial_form fs ts) h.2 (form_rises fs ts h.4)))
 
--- the terms from place i: the first and the others
+-- the terms from place i on are term i and those after it
 dropped : (xs : List Term) (x : Term) (i : ℕ) → i < length xs → x ≡ get_or xs i x → drop i xs
     ≡ get_or xs i x ∷ drop (i + 1) xs
 dropped xs x i l r = rw (add-one, drop-cons xs i x) refl
 
--- one more term added to the sum
+-- adding the terms from place i on is adding term i and then those after it
 pub total_more : (fs : List Form) (xs : List Term) (x : Term) (q : Polynomial) (i : ℕ) → AreTerms xs → Rises q →
     i < length xs → x ≡ get_or xs i x
     → total (polynomial_form fs (drop i xs)) q ≡ total (polynomial_form fs (drop (i + 1) xs))
@@ -100,7 +100,7 @@ total_more fs xs x q i h w l r =
     ∙ ap (λ (t : Term). total (polynomial_form fs (drop (i + 1) xs))
     (add_term (monomial_form fs t.atoms) t.coefficient q)) (sym r))
 
--- the product of one more term with another, added
+-- likewise for adding their products with one term
 pub multiple_more : (fs : List Form) (M : Monomial) (c : ℕ) (xs : List Term) (x : Term) (q : Polynomial) (i : ℕ) →
     AreTerms xs → Rises q → i < length xs → x ≡ get_or xs i x
     → add_multiple M c (polynomial_form fs (drop i xs)) q
@@ -114,7 +114,7 @@ multiple_more fs M c xs x q i h w l r =
     ∙ ap (λ (t : Term). add_multiple M c (polynomial_form fs (drop (i + 1) xs))
     (add_term (join M (monomial_form fs t.atoms)) ((c * t.coefficient) % 2 ^ 64) q)) (sym r))
 
--- the products of one more term, added
+-- likewise for adding their products with a polynomial
 pub products_more : (fs : List Form) (xs : List Term) (x : Term) (p q : Polynomial) (i : ℕ) → Rises q → i < length xs →
     x ≡ get_or xs i x
     → add_products (polynomial_form fs (drop i xs)) p q
@@ -184,12 +184,12 @@ pub negated_reach : (fs : List Form) (ts : List Term) → reach_of_terms fs (map
 negated_reach fs [] = refl
 negated_reach fs (t ∷ ts) = ap (max (reach_of_atoms fs t.atoms)) (negated_reach fs ts)
 
--- one more term copied
+-- appending term i to a copy of the first i terms gives a copy of the first i + 1
 pub taken_more : (xs cs : List Term) (x : Term) (i : ℕ) → cs ≡ take i xs → i < length xs → x ≡ get_or xs i x → cs
     ++ x ∷ [] ≡ take (i + 1) xs
 taken_more xs cs x i e l r = ap (λ ys. ys ++ x ∷ []) e ∙ (ap (λ y. take i xs ++ y ∷ []) r ∙ sym (take_more xs i x l))
 
--- one more term negated
+-- likewise for terms that are negated as they are copied
 pub negated_more : (xs cs : List Term) (x : Term) (i : ℕ) → cs ≡ map negated_term (take i xs) → i < length xs → x
     ≡ get_or xs i x → cs ++ negated_term x ∷ [] ≡ map negated_term (take (i + 1) xs)
 negated_more xs cs x i e l r = ap (λ ys. ys ++ negated_term x ∷ []) e

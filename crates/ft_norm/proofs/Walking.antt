@@ -12,21 +12,21 @@ use Rattle.ft_norm.specs.Held.{polynomial_at, updates_at}
 use Rattle.ft_norm.specs.Entries.{AreEntries, IsDistinct, IsIntegerAt, IsMemoryAt, forms_of, memory_reach}
 use Rattle.ft_norm.proofs.Forms.{length-forms_of, link, link_address, link_sorts, memory_reaches}
 
--- at the end of the updates
+-- at the end of the updates, the result is an atom
 pub walk_end : (u : Updates) (p : Polynomial) → u ≡ unchanged → alone (sel_atom u p) ≡ norm_sel u p
 walk_end u p e = rw e refl
 
--- at an update with the address
+-- at an update with the address, the result is its value
 pub walk_value : (u w : Updates) (a v p : Polynomial) (b : Bool) → u ≡ update a v w → b ≡ same_polynomial a p → b
     ≡ true → v ≡ norm_sel u p
 walk_value u w a v p b e g h = let t : same_polynomial a p ≡ true = sym g ∙ h in rw (e, t) refl
 
--- at an update whose address is not known to differ
+-- at an update whose address is not known to differ, the result is an atom
 pub walk_stop : (u w : Updates) (a v p : Polynomial) (b d : Bool) → u ≡ update a v w → b ≡ same_polynomial a p → b
     ≡ false → d ≡ is_not_zero (constant_of (norm_sub p a)) → d ≡ false → alone (sel_atom u p) ≡ norm_sel u p
 walk_stop u w a v p b d e g h i j = let t : same_polynomial a p ≡ false = sym g ∙ h in rw (e, t, sym i, j) refl
 
--- at an update whose address is known to differ
+-- an update whose address is known to differ does not affect the result
 pub walk_on : (u w : Updates) (a v p : Polynomial) (b d : Bool) → u ≡ update a v w → b ≡ same_polynomial a p → b
     ≡ false → d ≡ is_not_zero (constant_of (norm_sub p a)) → d ≡ true → norm_sel w p ≡ norm_sel u p
 walk_on u w a v p b d e g h i j = let t : same_polynomial a p ≡ false = sym g ∙ h in rw (e, t, sym i, j) refl
@@ -42,15 +42,15 @@ pub upd_other : (u w : Updates) (a v p x : Polynomial) (b : Bool) → u ≡ upda
     ≡ false → update p x u ≡ norm_upd u p x
 upd_other u w a v p x b e g h = let t : same_polynomial a p ≡ false = sym g ∙ h in rw (e, t) refl
 
--- an update of the memory variable
+-- an update of the memory variable becomes its only update
 pub upd_first : (u : Updates) (p x : Polynomial) → u ≡ unchanged → update p x u ≡ norm_upd u p x
 upd_first u p x e = rw e refl
 
--- equal numbers have the same form
+-- equal numbers stand for the same form
 pub one_is_same : (fs : List Form) (a p : ℕ) → a ≡ p → same_polynomial (polynomial_at fs a) (polynomial_at fs p) ≡ true
 one_is_same fs a p e = (equal_polynomials (polynomial_at fs a) (polynomial_at fs p)).1 (ap (polynomial_at fs) e)
 
--- different numbers have different forms
+-- different numbers stand for different forms
 pub two_differ : (fs : List Form) (a p : ℕ) → IsDistinct fs → IsIntegerAt fs a → IsIntegerAt fs p → a ≢ p →
     same_polynomial (polynomial_at fs a) (polynomial_at fs p) ≡ false
 two_differ fs a p d i j n = go (same_polynomial (polynomial_at fs a) (polynomial_at fs p)) refl

@@ -58,7 +58,7 @@ pub rises_products : (p q r : Polynomial) → Rises r → Rises (add_products p 
 rises_products nought q r k = k
 rises_products (plus m c p) q r k = rises_products p q (add_multiple m c q r) (rises_multiple m c q r k)
 
--- the negation of a word other than 0
+-- the negation of a word c other than 0 is 2^64 - c
 pub negative : (c : ℕ) → 0 < c → c < 2 ^ 64 → (2 ^ 64 - c % 2 ^ 64) % 2 ^ 64 ≡ 2 ^ 64 - c
 negative c h l = let e : c % 18446744073709551616 ≡ c = mod-eq_of_lt l in rw e (mod-eq_of_lt (omega (arith, h, l)))
 
@@ -87,14 +87,14 @@ pub record IsLinear (f : Monomial → ℕ → ℕ) : Type 0 where
   pub sum : (m : Monomial) (c d : ℕ) → f m ((c + d) % 2 ^ 64) % 2 ^ 64 ≡ (f m c + f m d) % 2 ^ 64
 
 module _ (f : Monomial → ℕ → ℕ) (l : IsLinear f) where
-  -- a polynomial with a term in front
+  -- putting a term in front of a polynomial adds what f gives for it
   weigh_led : (m : Monomial) (c : ℕ) (p : Polynomial) → weigh f (led_by m c p) % 2 ^ 64 ≡ (f m c + weigh f p) % 2 ^ 64
   weigh_led m c p = if_cases (λ q. weigh f q % 2 ^ 64 ≡ (f m c + weigh f p) % 2 ^ 64) (c == 0) p (plus m c p)
       (λ e. let z : f m c % 2 ^ 64 ≡ 0 = rw (eqb-true c 0 e) (l.none m) in
       ap (λ t. t % 2 ^ 64) (sym (zero-add (weigh f p))) ∙ mods_both 0 (f m c) (weigh f p) (weigh f p) (sym z) refl)
       (λ e. refl)
 
-  -- a term added to a polynomial
+  -- adding a term to a polynomial adds what f gives for it
   pub weigh_add : (m : Monomial) (c : ℕ) (p : Polynomial) → weigh f (add_term m c p) % 2 ^ 64
       ≡ (f m c + weigh f p) % 2 ^ 64
   weigh_add m c nought = weigh_led m c nought
@@ -105,7 +105,7 @@ module _ (f : Monomial → ℕ → ℕ) (l : IsLinear f) where
       omega (arith, x, y)))
       (λ e. let x = weigh_add m c p in omega (arith, x))
 
-  -- the sum of two polynomials
+  -- what f gives for a sum is the sum of what it gives for the operands, modulo 2^64
   pub weigh_total : (p q : Polynomial) → weigh f (total p q) % 2 ^ 64 ≡ (weigh f p + weigh f q) % 2 ^ 64
   weigh_total nought q = rw zero-add refl
   weigh_total (plus m c p) q = let x = weigh_total p (add_term m c q) in let y = weigh_add m c q in omega (arith, x, y)
@@ -126,13 +126,13 @@ times_term f m c n d = f (join m n) ((c * d) % 2 ^ 64)
 abbrev pub times_terms : (Monomial → ℕ → ℕ) → Polynomial → Monomial → ℕ → ℕ
 times_terms f q m c = weigh (times_term f m c) q
 
--- a product with a sum as its second factor
+-- multiplication distributes over a sum in the second factor, modulo 2^64
 products_sum : (c d e : ℕ) → (c * ((d + e) % 2 ^ 64)) % 2 ^ 64 ≡ ((c * d) % 2 ^ 64 + (c * e) % 2 ^ 64) % 2 ^ 64
 products_sum c d e = mul-mod_second c (d + e) (2 ^ 64)
     ∙ (ap (λ t. t % 2 ^ 64) (mul-add c d e) ∙ mods_both (c * d) ((c * d) % 2 ^ 64) (c * e) ((c * e) % 2 ^ 64)
     (sym (mod-mod (c * d) (2 ^ 64))) (sym (mod-mod (c * e) (2 ^ 64))))
 
--- a product with a sum as its first factor
+-- multiplication distributes over a sum in the first factor, modulo 2^64
 sums_product : (c d e : ℕ) → (((c + d) % 2 ^ 64) * e) % 2 ^ 64 ≡ ((c * e) % 2 ^ 64 + (d * e) % 2 ^ 64) % 2 ^ 64
 sums_product c d e = mul-mod_first (c + d) e (2 ^ 64)
     ∙ (ap (λ t. t % 2 ^ 64) (add-mul c d e) ∙ mods_both (c * e) ((c * e) % 2 ^ 64) (d * e) ((d * e) % 2 ^ 64)
@@ -147,7 +147,7 @@ module _ (f : Monomial → ℕ → ℕ) (l : IsLinear f) where
         ∙ l.sum (join m n) ((c * d) % 2 ^ 64) ((c * e) % 2 ^ 64);
   }
 
-  -- a coefficient 0 times a polynomial
+  -- the products of a term with the coefficient 0 contribute nothing
   no_times : (q : Polynomial) (m : Monomial) → times_terms f q m 0 % 2 ^ 64 ≡ 0
   no_times nought m = refl
   no_times (plus n d q) m =
@@ -155,7 +155,7 @@ module _ (f : Monomial → ℕ → ℕ) (l : IsLinear f) where
       let y : f (join m n) ((0 * d) % 2 ^ 64) % 2 ^ 64 ≡ 0 = rw (zero-mul d) (l.none (join m n)) in
       mods_both (f (join m n) ((0 * d) % 2 ^ 64)) 0 (times_terms f q m 0) 0 y x
 
-  -- a sum of coefficients times a polynomial
+  -- the products of a term whose coefficient is a sum contribute what those of both summands do
   sum_times : (q : Polynomial) (m : Monomial) (c d : ℕ) → times_terms f q m ((c + d) % 2 ^ 64) % 2 ^ 64
       ≡ (times_terms f q m c + times_terms f q m d) % 2 ^ 64
   sum_times nought m c d = refl
@@ -171,7 +171,7 @@ module _ (f : Monomial → ℕ → ℕ) (l : IsLinear f) where
   pub terms_linear : (q : Polynomial) → IsLinear (times_terms f q)
   terms_linear q = record { none = no_times q; sum = sum_times q }
 
-  -- the products with one term, added
+  -- adding the products with one term adds what f gives for them
   pub weigh_multiple : (m : Monomial) (c : ℕ) (q r : Polynomial) → weigh f (add_multiple m c q r) % 2 ^ 64
       ≡ (times_terms f q m c + weigh f r) % 2 ^ 64
   weigh_multiple m c nought r = rw zero-add refl
@@ -181,7 +181,7 @@ module _ (f : Monomial → ℕ → ℕ) (l : IsLinear f) where
       x ∙ (mods_both (times_terms f q m c) (times_terms f q m c) _ (f (join m n) ((c * d) % 2 ^ 64) + weigh f r) refl y
       ∙ ap (λ t. t % 2 ^ 64) (omega arith))
 
-  -- all products, added
+  -- adding all products adds what f gives for them
   pub weigh_products : (p q r : Polynomial) → weigh f (add_products p q r) % 2 ^ 64
       ≡ (weigh (times_terms f q) p + weigh f r) % 2 ^ 64
   weigh_products nought q r = rw zero-add refl
@@ -204,7 +204,7 @@ weigh_first m c p h = rw (tied_itself cmp_monomial_total m, weigh_below m p h.3 
 pub words_same : (a b : ℕ) → a % 2 ^ 64 ≡ b % 2 ^ 64 → a < 2 ^ 64 → b < 2 ^ 64 → a ≡ b
 words_same a b e l m = sym (mod-eq_of_lt l) ∙ (e ∙ mod-eq_of_lt m)
 
--- cancels a summand modulo 2^64
+-- a common summand may be cancelled modulo 2^64
 pub mods_less : (a b c : ℕ) → (c + a) % 2 ^ 64 ≡ (c + b) % 2 ^ 64 → a % 2 ^ 64 ≡ b % 2 ^ 64
 mods_less a b c e = omega (arith, e)
 

@@ -15,7 +15,7 @@ abbrev pub Leads : ℕ → List ℕ → Type 0
 Leads x [] = Unit {0}
 Leads x (y ∷ ys) = x ≤ y
 
--- numbers that never decrease
+-- the numbers never decrease
 abbrev pub AreOrdered : List ℕ → Type 0
 AreOrdered [] = Unit {0}
 AreOrdered (x ∷ xs) = Leads x xs × AreOrdered xs

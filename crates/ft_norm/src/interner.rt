@@ -69,8 +69,8 @@ impl Interner {
         Interner::keyed(alloc, 0, 0)
     }
 
-    /// An empty interner whose table hashes with these two keys. The keys affect speed but not the forms. An attacker
-    /// who does not know them cannot make the table slow.
+    /// An empty interner whose table hashes with these two keys. The keys affect speed but not the forms. They make it
+    /// hard for an attacker who does not know them to slow the table down.
     pub fn keyed(alloc: Global, first: u64, second: u64) -> Result<Interner, NoMemory>
         ensures { IfOk result (λ s. s ≡ []) }
     {

@@ -13,8 +13,8 @@ const FIRST_MIX: u64 = 0x243f_6a88_85a3_08d3;
 
 const SECOND_MIX: u64 = 0x9e37_79b9_7f4a_7c15;
 
-/// The keys with which entries are hashed: an initial state and an odd factor. An attacker who does not know them
-/// cannot choose entries that collide.
+/// The keys with which entries are hashed: an initial state and an odd factor. They make it hard for an attacker who
+/// does not know them to choose entries that collide.
 #[derive(Clone, Copy)]
 pub struct Keys {
     state: u64,

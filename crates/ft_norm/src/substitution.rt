@@ -105,8 +105,8 @@ impl Memo {
         self.make(forms, nodes, n, ints, memory, steps)
     }
 
-    /// Makes the form of a node that has none yet. Each node that its tree reaches and that has no form yet is handled
-    /// once, after its parts and without recursion.
+    /// Makes the form of a node that has none yet. Each node of its tree that has no form yet is handled once, after
+    /// its parts and without recursion.
     #[inline(never)]
     fn make<N: Nodes, L: Ledger>(
         &mut self,

@@ -13,7 +13,7 @@ use crate::terms::{Terms, terms_at};
 use ft_isa::Steps;
 use std::sync::ledger::Ledger;
 
-/// Where a walk ends: at the value of an update, or at the memory past which nothing is known.
+/// Where a walk ends: at the value of an update with the address, or at the memory past which the walk cannot go.
 #[derive(Clone, Copy)]
 pub enum Walk {
     Value(u32),

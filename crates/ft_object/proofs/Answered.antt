@@ -11,7 +11,7 @@ use Rattle.ft_format.specs.Format.{AreBytes, Spells}
 use Rattle.ft_format.proofs.ReadWhole.{read_spells}
 use Rattle.ft_format.proofs.Write.{spells_unbroken, spells_read}
 
--- the bytes spell a returned object
+-- if an object is returned, the bytes spell it
 pub spelled : (bytes : List ℕ) (r : Result Object DecodeError) → AreBytes bytes → Judges r (broken bytes) →
     IfOk r (λ o. o ≡ object_of bytes) → IfOk r (Spells bytes (version_at bytes))
 spelled bytes (Ok o) b judged read = subst (Spells bytes (version_at bytes)) (sym read) (read_spells bytes b judged)

@@ -1,7 +1,7 @@
 //! Reads objects from bytes.
 //!
-//! The crate promises that `decode` returns the one object that bytes spell, or else the first rule of the
-//! format that they break, with its place. The format's definitions and laws are those of `ft_format`;
+//! The crate promises that, unless memory runs out, `decode` returns the one object that bytes spell, or else the first
+//! rule of the format that they break, with its place. The format's definitions and laws are those of `ft_format`;
 //! `specs/Judged.antt` says what a reader may return. For writing, see `encode` and `spell` of `ft_encode`.
 #![tactic(auto)]
 

@@ -1,4 +1,4 @@
-//! Vectors that grow within their capacity, and copies of tables. Each call may run out of memory.
+//! Vectors with reserved room, and copies of tables. Each call may run out of memory.
 ghost use Rattle.std.specs.Prelude.{◌≡◌, ◌∷◌, ◌++◌, [], IfOk, OnOk};
 ghost use Rattle.ft_object.specs.Judged.{OnlyMemory};
 

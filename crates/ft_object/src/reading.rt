@@ -35,7 +35,7 @@ pub fn decode(alloc: Global, bytes: &[u8]) -> Result<Object, DecodeError>
     ensures given { (v : Version) (o : Object) → Spells bytes.now v o → Gives result o }
     // An error is the first rule broken, and none is broken if an object is returned.
     ensures judged { Judges result (broken bytes.now) }
-    // No rule is broken exactly if the bytes spell some object, and they spell only one.
+    // No rule is broken exactly when the bytes spell some object, and they spell only one.
     ensures exact { (broken bytes.now ≡ None) ↔ ((v : Version) × (o : Object) × Spells bytes.now v o) }
     ensures one { (v w : Version) (o other : Object) → Spells bytes.now v o → Spells bytes.now w other → o ≡ other }
     // If a rule on the length, the header or the total is broken, it is returned, regardless of memory.

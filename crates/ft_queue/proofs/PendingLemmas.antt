@@ -22,7 +22,8 @@ newest_at-append (f ∷ q) e a =
     let p = cond (nat_eq f.0 a) (Some f.1) None in
     ap (λ o. option_or o p) (newest_at-append q e a) ∙ option_or-cond (nat_eq e.0 a) e.1 (newest_at q a) p
 
--- one more entry of a queue traversed from the oldest on
+-- among the first i + 1 entries, the newest with an address is entry i if it has that address, and otherwise the newest
+-- among the first i
 newest_at-take : (q : Pending) (i a : ℕ) (d : ℕ × ℕ) → i < length q
     → newest_at (take (i + 1) q) a ≡ cond (nat_eq (slice_index_or q i d).0 a) (Some (slice_index_or q i d).1)
     (newest_at (take i q) a)
@@ -41,7 +42,7 @@ newest_at-take_other q i a d below other =
     let e = slice_index_or q i d in
     sym (newest_at-take q i a d below ∙ ap (λ b. cond b (Some e.1) (newest_at (take i q) a)) (ne_eqb e.0 a other))
 
--- setting the address of an existing entry
+-- replacing the address of an existing entry in the list is the same as `with_address`
 pub set-with_address : (q : Pending) (i v : ℕ) (e : ℕ × ℕ) → i < length q → e ≡ slice_index_or q i e →
     slice_set q i (v, e.1) ≡ with_address q i v
 unfolding with_address
@@ -49,7 +50,7 @@ set-with_address [] i v e below is = absurd (omega arith)
 set-with_address (f ∷ q) zero v e below is = ap (λ (x : ℕ × ℕ). (v, x.1) ∷ q) is
 set-with_address (f ∷ q) (suc i) v e below is = ap (λ r. f ∷ r) (set-with_address q i v e (omega arith) is)
 
--- setting the value of an existing entry
+-- replacing the value of an existing entry in the list is the same as `with_value`
 pub set-with_value : (q : Pending) (i v : ℕ) (e : ℕ × ℕ) → i < length q → e ≡ slice_index_or q i e →
     slice_set q i (e.0, v) ≡ with_value q i v
 unfolding with_value
@@ -57,7 +58,7 @@ set-with_value [] i v e below is = absurd (omega arith)
 set-with_value (f ∷ q) zero v e below is = ap (λ (x : ℕ × ℕ). (x.0, v) ∷ q) is
 set-with_value (f ∷ q) (suc i) v e below is = ap (λ r. f ∷ r) (set-with_value q i v e (omega arith) is)
 
--- if there is no such entry, nothing changes
+-- replacing the address or the value of an entry that does not exist changes nothing
 pub with_address-beyond : (q : Pending) (i v : ℕ) → length q ≤ i → with_address q i v ≡ q
 unfolding with_address
 with_address-beyond [] i v beyond = refl
@@ -70,21 +71,21 @@ with_value-beyond [] i v beyond = refl
 with_value-beyond (f ∷ q) zero v beyond = absurd (omega arith)
 with_value-beyond (f ∷ q) (suc i) v beyond = ap (λ r. f ∷ r) (with_value-beyond q i v (omega arith))
 
--- the current entry has the address
+-- if entry i has the address, it is the newest with that address among the first i + 1
 pub newest_now : (q : Pending) (i a : ℕ) (e : ℕ × ℕ) → i < length q → slice_get q i ≡ Some e → e.0 ≡ a → Some e.1
     ≡ newest_at (take (i + 1) q) a
 newest_now q i a e below h here =
     let g = get_or_from_slice_get q i e (0, 0) h in
     ap (λ (x : ℕ × ℕ). Some x.1) (sym g) ∙ newest_at-take_here q i a (0, 0) below (ap (λ (x : ℕ × ℕ). x.0) g ∙ here)
 
--- the current entry has another address
+-- if entry i has another address, the newest with the address among the first i + 1 entries is among the first i
 pub newest_before : (q : Pending) (i a : ℕ) (e : ℕ × ℕ) → i < length q → slice_get q i ≡ Some e → e.0 ≢ a →
     newest_at (take i q) a ≡ newest_at (take (i + 1) q) a
 newest_before q i a e below h other =
     let g = get_or_from_slice_get q i e (0, 0) h in
     newest_at-take_other q i a (0, 0) below (λ is. other (ap (λ (x : ℕ × ℕ). x.0) (sym g) ∙ is))
 
--- setting the address of an entry that was found
+-- replacing the address of an entry that was found is the same as `with_address`
 pub address_put : (q : Pending) (i v : ℕ) (e : ℕ × ℕ) → Some e ≡ slice_get q i → slice_set q i (v, e.1)
     ≡ with_address q i v
 unfolding with_address
@@ -92,14 +93,14 @@ address_put [] i v e h = absurd (cc)
 address_put (f ∷ q) zero v e h = let same : e ≡ f = cc in ap (λ (x : ℕ × ℕ). (v, x.1) ∷ q) same
 address_put (f ∷ q) (suc i) v e h = ap (λ r. f ∷ r) (address_put q i v e h)
 
--- setting the value of an entry that was found
+-- replacing the value of an entry that was found is the same as `with_value`
 pub value_put : (q : Pending) (i v : ℕ) (e : ℕ × ℕ) → Some e ≡ slice_get q i → slice_set q i (e.0, v) ≡ with_value q i v
 unfolding with_value
 value_put [] i v e h = absurd (cc)
 value_put (f ∷ q) zero v e h = let same : e ≡ f = cc in ap (λ (x : ℕ × ℕ). (x.0, v) ∷ q) same
 value_put (f ∷ q) (suc i) v e h = ap (λ r. f ∷ r) (value_put q i v e h)
 
--- if no entry was found, nothing changes
+-- if no entry was found, replacing its address or its value changes nothing
 pub address_none : (q : Pending) (i v : ℕ) → None ≡ slice_get q i → q ≡ with_address q i v
 unfolding with_address
 address_none [] i v h = refl
@@ -112,7 +113,7 @@ value_none [] i v h = refl
 value_none (f ∷ q) zero v h = absurd (cc)
 value_none (f ∷ q) (suc i) v h = ap (λ r. f ∷ r) (value_none q i v h)
 
--- a queue of at most eight pairs fits into an empty one in two parts
+-- copying a queue of at most eight pairs in two parts into an empty queue copies all of it
 pub refilled : (xs ys zs : Pending) (n m : ℕ) → length zs ≤ 8 → xs ++ ys ≡ zs → n ≡ min (length xs) 8 → m
     ≡ min (length ys) (8 - length (take n xs)) → take n xs ++ take m ys ≡ zs
 refilled xs ys zs n m few is first second =

@@ -1,8 +1,8 @@
 //! The store queue: the stores that wait for their blue counterparts.
 //!
 //! The crate promises that a queue is a list of at most eight pairs of address and value, oldest first, and that no
-//! call but `new` allocates. `specs/Pending.antt` of `ft_isa` defines its calls; the machine's definition uses the same
-//! file.
+//! call but `new` allocates. `specs/Pending.antt` of `ft_isa` defines what the calls do, and the definition of the
+//! machine uses the same file.
 #![tactic(auto)]
 
 mod queue;

@@ -88,7 +88,7 @@ impl StoreQueue {
         self.pairs.is_empty()
     }
 
-    /// Pair `i`; pair 0 is the oldest. `None` exactly if there is none.
+    /// Pair `i`; pair 0 is the oldest. `None` exactly when there is none.
     #[inline]
     pub fn get(&self, i: usize) -> Option<(u64, u64)>
         ensures { result ≡ slice_get self.now i }
@@ -96,7 +96,7 @@ impl StoreQueue {
         self.pairs.get(i).copied()
     }
 
-    /// Adds a pair as the newest. Returns `Full`, with the queue unchanged, exactly if it already has eight pairs.
+    /// Adds a pair as the newest. Returns `Full`, with the queue unchanged, exactly when it already has eight pairs.
     #[inline]
     pub fn push(&mut self, addr: u64, value: u64) -> Result<(), Full>
         ensures full { IsErr result ↔ (length self.old ≡ ROOM) }
@@ -113,7 +113,7 @@ impl StoreQueue {
         }
     }
 
-    /// Removes the oldest pair; `None` exactly if the queue is empty.
+    /// Removes the oldest pair; `None` exactly when the queue is empty.
     #[inline]
     pub fn pop_oldest(&mut self) -> Option<(u64, u64)>
         ensures oldest { self.old ≡ option_to_list result ++ self.new }
@@ -122,7 +122,7 @@ impl StoreQueue {
         self.pairs.pop_front()
     }
 
-    /// The value of the newest pair with this address; `None` exactly if there is none.
+    /// The value of the newest pair with this address; `None` exactly when there is none.
     #[inline]
     pub fn newest_at(&self, addr: u64) -> Option<u64>
         ensures { result ≡ newest_at self.now addr }
@@ -138,7 +138,7 @@ impl StoreQueue {
         newest
     }
 
-    /// Replaces the address of pair `i`. Returns `false`, with the queue unchanged, exactly if there is no such pair.
+    /// Replaces the address of pair `i`. Returns `false`, with the queue unchanged, exactly when there is no such pair.
     pub fn strike_addr(&mut self, i: u8, addr: u64) -> bool
         ensures there { IsTrue result ↔ (i < length self.old) }
         ensures struck { self.new ≡ with_address self.old i addr }
@@ -152,7 +152,7 @@ impl StoreQueue {
         }
     }
 
-    /// Replaces the value of pair `i`. Returns `false`, with the queue unchanged, exactly if there is no such pair.
+    /// Replaces the value of pair `i`. Returns `false`, with the queue unchanged, exactly when there is no such pair.
     pub fn strike_value(&mut self, i: u8, value: u64) -> bool
         ensures there { IsTrue result ↔ (i < length self.old) }
         ensures struck { self.new ≡ with_value self.old i value }

@@ -6,7 +6,7 @@ use Rattle.ft_isa.specs.declared.colour.Coloured.{Coloured}
 use Rattle.ft_types.proofs.Maps.{get-insert}
 use Rattle.ft_semantics.specs.State.{Registers, held, with_held, green_zero}
 
--- what register q holds after register r is written
+-- after register r is written, it holds what was written, and every other register holds what it held before
 pub held-with_held : (m : Registers) (r : ℕ) (x : Coloured) (q : ℕ) → held (with_held m r x) q
     ≡ cond (q == r) x (held m q)
 unfolding held

@@ -1,4 +1,4 @@
--- Runs under a plan: they stop once, and their outputs only grow.
+-- Runs under a plan: a run no longer changes once it has stopped, and its outputs only grow.
 use Rattle.std.proofs.Common.{◌≡◌, ℕ, suc, ◌<◌, ◌≤◌, List, length, Option, Some, None, Bool, true, false, ◌&&◌, refl}
 use Rattle.std.proofs.Common.{ap, ◌∙◌, append-nil}
 use Rattle.std.specs.Prelude.{if◌then◌else◌, ◌==◌}

@@ -15,7 +15,7 @@ Tells key = (i j : ℕ) → (key i == key j) ≡ (i == j)
 pub cells_tell : Tells cell_address
 cells_tell i j = grind (arith, nat_tests)
 
--- the value at the key of entry k
+-- if k is below n, a map with n entries holds the value of entry k at its key
 pub tabulated : {X : Type 0} (n : ℕ) (key : ℕ → ℕ) → Tells key → (f : ℕ → X) (k : ℕ) → k < n →
     get (tabulate n key f) (key k) ≡ Some (f k)
 unfolding tabulate

@@ -58,7 +58,7 @@ abbrev pub fetch : Option Instr → State → List Wild → Stepping
 fetch (Some i) s w = quiet (record s { fetched = Some i }) w
 fetch None s w = detected s w
 
--- what a load finds without the plan: green looks at the pending stores first, blue only at the cells
+-- what a load finds without an answer from the plan: green looks at the pending stores first, blue only at the cells
 abbrev pub found : Colour → State → ℕ → Option ℕ
 found Green s a = option_or (newest_at s.queue a) (cell_at s.cells a)
 found Blue s a = cell_at s.cells a

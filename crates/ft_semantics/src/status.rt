@@ -7,6 +7,6 @@ pub enum Status {
     Running,
     /// The machine has executed `halt`.
     Done,
-    /// The machine has noticed a fault and stopped.
+    /// The machine has detected a fault and stopped.
     Detected,
 }

@@ -14,7 +14,7 @@ use Rattle.ft_static.proofs.Spelled.{cmp_monomial_total, monomial_equal}
 use Rattle.ft_static.proofs.Cases.{by_cases, if_cases}
 use Rattle.ft_static.proofs.Proper.{below_more, turned, proper_add_term, proper_join, factors_join, proper_multiple}
 
--- what follows in each case of a comparison
+-- what follows from each result of a comparison holds
 pub order_split : (G : Type 0) (o : Ordering) → (o ≡ Less → G) → (o ≡ Equal → G) → (o ≡ Greater → G) → G
 order_split G Less f g h = f refl
 order_split G Equal f g h = g refl
@@ -31,7 +31,7 @@ coefficient_is_word k nought h = lit< tt
 coefficient_is_word k (plus n d p) h = by_cases (λ t. t < 2 ^ 64) (cmp_monomial k n) (coefficient k p) d
     (coefficient k p) (λ e. coefficient_is_word k p h.5) (λ e. h.3) (λ e. coefficient_is_word k p h.5)
 
--- the coefficients after a term is put first
+-- putting a term first adds its share to each coefficient
 coefficient_led : (k m : Monomial) (c : ℕ) (p : Polynomial) → c < 2 ^ 64 → Below m p → IsProper p →
     coefficient k (led_by m c p) ≡ (share k m c + coefficient k p) % 2 ^ 64
 coefficient_led k m c p l b w = if_cases (λ q. coefficient k q ≡ (share k m c + coefficient k p) % 2 ^ 64) (c == 0) p
@@ -45,7 +45,7 @@ coefficient_led k m c p l b w = if_cases (λ q. coefficient k q ≡ (share k m c
     rw (o, z, add-zero) (sym (mod-eq_of_lt l)))
     (λ o. rw (o, zero-add) (sym (mod-eq_of_lt (coefficient_is_word k p w)))))
 
--- the coefficients after a term is added
+-- adding a term adds its share to each coefficient
 coefficient_add_term : (k m : Monomial) (c : ℕ) (p : Polynomial) → c < 2 ^ 64 → IsProper p →
     coefficient k (add_term m c p) ≡ (share k m c + coefficient k p) % 2 ^ 64
 coefficient_add_term k m c nought l w = coefficient_led k m c nought l tt tt
@@ -66,7 +66,7 @@ coefficient_add_term k m c (plus n d p) l w = by_cases (λ q. coefficient k q
     rw (o, q, zero-add) (sym (mod-eq_of_lt w.3)))
     (λ o. rw o (coefficient_add_term k m c p l w.5)))
 
--- the coefficients without the first term
+-- each coefficient of a polynomial is the one without the first term plus that term's share
 split_off : (k m : Monomial) (c : ℕ) (p : Polynomial) → IsProper (plus m c p) → coefficient k p + share k m c
     ≡ coefficient k (plus m c p)
 split_off k m c p h = order_split _ (cmp_monomial k m)
@@ -86,20 +86,20 @@ coefficient_total k (plus m c p) q h w = coefficient_total k p (add_term m c q) 
     ∙ ap (λ t. t % 2 ^ 64) (let s : coefficient k p + share k m c ≡ coefficient k (plus m c p) = split_off k m c p h in
     omega arith)))
 
--- what a term contributes, modulo 2^64
+-- reducing a term's coefficient modulo 2^64 reduces its share in the same way
 share_modulo : (k m : Monomial) (c : ℕ) → share k m (c % 2 ^ 64) ≡ share k m c % 2 ^ 64
 share_modulo k m c = order_split _ (cmp_monomial k m) (λ o. rw o refl) (λ o. rw o refl) (λ o. rw o refl)
 
--- adding three numbers in another order, modulo w
+-- three numbers may be added in another order, modulo w
 shares : (w x y z : ℕ) → (x + (y % w + z) % w) % w ≡ (y + x + z) % w
 shares w x y z = rw (add-mod-mod x (y % w + z) w) (let e : x + (y % w + z) ≡ y % w + (x + z) = omega arith in
     rw (e, mod-add-mod y w (x + z)) (ap (λ t. t % w) (omega arith)))
 
--- likewise, with one fewer remainder taken
+-- likewise, with one fewer remainder
 more_shares : (w x y z : ℕ) → (x + (y + z) % w) % w ≡ (y + x + z) % w
 more_shares w x y z = rw (add-mod-mod x (y + z) w) (ap (λ t. t % w) (omega arith))
 
--- the coefficients after the products with one term are added
+-- adding the products with one term adds their shares to each coefficient
 coefficient_multiple : (k m : Monomial) (c : ℕ) (q r : Polynomial) → IsProperMonomial m → factors m + degree q ≤ 4 →
     IsProper q → IsProper r → coefficient k (add_multiple m c q r)
     ≡ (share_of_multiple k m c q + coefficient k r) % 2 ^ 64
@@ -115,7 +115,7 @@ coefficient_multiple k m c (plus n d q) r h f w v =
     ∙ ap (λ t. (t + coefficient k r) % 2 ^ 64) (share_modulo k (join m n) (c * d)))
     ∙ shares (2 ^ 64) (share_of_multiple k m c q) (share k (join m n) (c * d)) (coefficient k r))
 
--- the coefficients after all products are added
+-- adding all products adds their shares to each coefficient
 coefficient_onto : (k : Monomial) (p q r : Polynomial) → degree p + degree q ≤ 4 → IsProper p → IsProper q →
     IsProper r → coefficient k (add_products p q r) ≡ (share_of_products k p q + coefficient k r) % 2 ^ 64
 coefficient_onto k nought q r f h w v = rw zero-add (sym (mod-eq_of_lt (coefficient_is_word k r v)))

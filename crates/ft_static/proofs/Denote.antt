@@ -37,7 +37,7 @@ pub same_denotes : (a b : Expression) (s : Valuation) → IsLawful s → HasWord
 same_denotes a b s lawful h k e = sym (norm_denotes a s lawful h)
     ∙ (ap (λ f. form_denotation f s) ((same_forms a b).0 e) ∙ norm_denotes b s lawful k)
 
--- the form of a node's tree is that of its shape, from the forms of its parts
+-- the form of a node's tree is the form built for its shape from the forms of its parts
 pub node_form : (ps : List Polynomial) (u : Updates) (nodes : List Node) (n : ℕ) (node : Node) → AreNodes nodes →
     slice_get nodes n ≡ Some node → form_under ps u (tree_at nodes n)
     ≡ form_of ps u (map (form_under ps u) (trees nodes)) node.shape

@@ -10,7 +10,7 @@ use Rattle.ft_static.specs.Form.{cmp_updates, same_polynomial, same_updates}
 use Rattle.ft_static.proofs.Spelled.{cmp_atom_total, cmp_monomial_total, cmp_polynomial_total, cmp_updates_total}
 use Rattle.ft_static.proofs.Spelled.{atom_equal, monomial_equal, polynomial_equal, updates_equal}
 
--- the test for `Equal`
+-- a result that passes the test for `Equal` is `Equal`
 is_equal : (o : Ordering) → is_eq o ≡ true → o ≡ Equal
 is_equal Less e = cc
 is_equal Equal e = refl

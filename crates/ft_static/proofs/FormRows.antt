@@ -67,7 +67,7 @@ value_rem p m s lawful = go (constant_of p) refl
     go None e = value_alone (rem_atom p m) s (let h = value_polynomial_is_word p s in
         let k = mod-le (value_polynomial p s) m in omega (arith, h, k))
 
--- updates
+-- the form of an upd denotes the memory with the word written at the address
 pub value_upd : (u : Updates) (p v : Polynomial) (s : Valuation) → value_updates (norm_upd u p v) s
     ≡ with_word (value_updates u s) (value_polynomial p s) (value_polynomial v s)
 value_upd unchanged p v s = refl
@@ -78,7 +78,7 @@ value_upd (update a w u) p v s = if_cases (λ t. value_updates t s
     (value_polynomial w s) (value_polynomial v s))))
     (λ e. refl)
 
--- the walk of a sel
+-- a word minus itself is 0
 itself : (x : ℕ) → IsWord x → apply Sub x x ≡ 0
 unfolding apply
 itself x w = let g : x + (2 ^ 64 - x) ≡ 2 ^ 64 = omega arith in rw g refl
@@ -100,7 +100,7 @@ apart p q s lawful = go (constant_of (norm_sub p q)) refl
         let n : (c == 0) ≡ true = eq-eqb c 0 (d ∙ z) in
         cc)
 
--- the walk finds the word that the memory has at the address
+-- the form of a sel denotes the word that the memory has at the address
 pub value_sel : (u : Updates) (p : Polynomial) (s : Valuation) (lawful : IsLawful s) → value_polynomial (norm_sel u p) s
     ≡ word_at (value_updates u s) (value_polynomial p s)
 value_sel unchanged p s lawful = value_alone (sel_atom unchanged p) s (lawful.memory _)

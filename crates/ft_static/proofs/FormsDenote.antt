@@ -24,7 +24,7 @@ negated k c =
     let h : c % suc k < suc k = mod-lt c (omega arith) in
     sym (negative k (c % suc k) (omega arith)) ∙ mul-mod_second k c (suc k)
 
--- negating one term and the rest
+-- negating the first term and the rest of a sum negates the sum
 negated_term : (k c x y : ℕ) → ((suc k - c % suc k) % suc k * x + (k * y) % suc k) % suc k
     ≡ (k * ((c * x + y) % suc k)) % suc k
 negated_term k c x y =
@@ -38,7 +38,7 @@ negated_term k c x y =
     ∙ (ap (λ t. t % suc k) whole
     ∙ sym (mul-mod_second k (c * x + y) (suc k))))))
 
--- a negation denotes the negative
+-- the negation of a polynomial denotes the negated value
 value_negation : (p : Polynomial) (s : Valuation) → value_polynomial (negation p) s
     ≡ (18446744073709551615 * value_polynomial p s) % 2 ^ 64
 value_negation nought s = refl
@@ -57,7 +57,7 @@ value_sub p q s lawful =
     ∙ negative 18446744073709551615 (value_polynomial q s) (omega arith))
     ∙ add-mod-mod (value_polynomial p s) (2 ^ 64 - value_polynomial q s) (2 ^ 64))
 
--- constants
+-- a constant denotes its number modulo 2^64
 pub value_constant : (c : ℕ) (s : Valuation) → value_polynomial (constant c) s ≡ c % 2 ^ 64
 value_constant c s = if_cases (λ q. value_polynomial q s ≡ c % 2 ^ 64) (c % 2 ^ 64 == 0) _ _
     (λ e. sym (eqb-true _ _ e))

@@ -50,7 +50,7 @@ names_sum = record {
 given : (n : ℕ) (x node : Node) → ◌≡◌ {A = Option Node} (Some x) (Some node) → IsNode nodes n x → IsNode nodes n node
 given n x node e h = let q : x ≡ node = cc in subst (IsNode nodes n) q h
 
--- each of the five nodes
+-- each of the five nodes obeys the rules
 each_node : (n : ℕ) (node : Node) → slice_get nodes n ≡ Some node → IsNode nodes n node
 each_node zero node e = given 0 (record { scope = 0; shape = shape.Memory }) node e (record {
   scope = lit≤ tt;

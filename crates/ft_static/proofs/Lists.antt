@@ -10,17 +10,17 @@ use Rattle.ft_static.specs.Form.{Monomial, Polynomial, Updates, one, times, noug
 use Rattle.ft_static.specs.Form.{terms, updates, atoms, monomials, stores, cmp_atom, cmp_monomial, cmp_polynomial}
 use Rattle.ft_static.specs.Form.{cmp_updates, cmp_lists, cmp_pairs}
 
--- the number of atoms
+-- a monomial's list of atoms is as long as the monomial has factors
 length_atoms : (m : Monomial) → length (atoms m) ≡ factors m
 length_atoms one = refl
 length_atoms (times a m) = ap suc (length_atoms m)
 
--- the number of monomials
+-- a polynomial's list of monomials is as long as the polynomial has terms
 length_monomials : (p : Polynomial) → length (monomials p) ≡ terms p
 length_monomials nought = refl
 length_monomials (plus m c p) = ap suc (length_monomials p)
 
--- the number of updates
+-- a memory form's list of stores is as long as the form has updates
 length_stores : (u : Updates) → length (stores u) ≡ updates u
 length_stores unchanged = refl
 length_stores (update p v u) = ap suc (length_stores u)

@@ -88,7 +88,7 @@ pub each_part : (P R : Bool → ℕ → Type 0) → ((s : Bool) (k : ℕ) → P 
     EachPart R x
 each_part P R f x h = each_part_both P P R (λ s k p q. f s k p) x h h
 
--- the parts of a renamed node
+-- what holds of a node's parts under their new numbers holds of the parts of the renamed node
 pub each_renamed : (P : Bool → ℕ → Type 0) (f : ℕ → ℕ) (x : Shape) → EachPart (λ s k. P s (f k)) x →
     EachPart P (renamed f x)
 each_renamed P f (shape.Word w) h = tt
@@ -163,14 +163,14 @@ pub memory_tree : (ts : List Expression) (x : Shape) → is_memory x ≡ true �
 memory_tree ts (shape.Word w) e = cc
 memory_tree ts x e = cc
 
--- the tree of a node that is named as an integer
+-- the tree of a node that is named as an integer is an integer
 pub integer_named : (nodes : List Node) (n scope m : ℕ) → AreNodes nodes → MayName nodes n scope false m →
     tree_at nodes m ≡ integer (integer_at (trees nodes) m)
 integer_named nodes n scope m h k =
     let e = tree_at-row nodes m k.node h k.found in
     subst (λ t. t ≡ integer (integer_part t)) (sym e) (integer_tree (trees nodes) k.node.shape k.sort)
 
--- the tree of a node that is named as a memory
+-- the tree of a node that is named as a memory is a memory
 pub memory_named : (nodes : List Node) (n scope m : ℕ) → AreNodes nodes → MayName nodes n scope true m → tree_at nodes m
     ≡ memory (memory_at (trees nodes) m)
 memory_named nodes n scope m h k =
@@ -214,7 +214,7 @@ pub stands_for_tree : (nodes : List Node) (n : ℕ) (x : Node) → AreNodes node
     StandsFor nodes n (tree_at nodes n)
 stands_for_tree nodes n x h f = stands_below nodes (suc n) n x h (omega arith) f
 
--- the tree of a node that has this shape
+-- the tree of a node is that of its shape
 shaped : (nodes : List Node) (n : ℕ) (x : Shape) → AreNodes nodes → HasShape nodes n x → tree_at nodes n
     ≡ tree_of (trees nodes) x
 shaped nodes n x h s = tree_at-row nodes n s.node h s.found ∙ ap (tree_of (trees nodes)) s.shape

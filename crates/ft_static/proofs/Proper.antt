@@ -15,7 +15,7 @@ use Rattle.ft_static.specs.Form.{IsNormal}
 use Rattle.ft_static.proofs.Spelled.{cmp_atom_total, cmp_monomial_total}
 use Rattle.ft_static.proofs.Cases.{by_cases, if_cases}
 
--- a reversed comparison
+-- if the reversed comparison is `Greater`, the comparison is `Less`
 pub turned : (o p : Ordering) → o ≡ ordering_reverse p → p ≡ Greater → o ≡ Less
 turned o p e h = rw (e, h) refl
 
@@ -31,7 +31,7 @@ less_not_greater o e k = let x : Less ≡ Greater = sym e ∙ k in cc
 equal_not_greater : (o : Ordering) → o ≡ Equal → o ≢ Greater
 equal_not_greater o e k = let x : Equal ≡ Greater = sym e ∙ k in cc
 
--- factors
+-- an atom that leads a monomial still leads it after an atom that is not less than it is inserted
 leads_with : (a b : Atom) (m : Monomial) → cmp_atom b a ≢ Greater → Leads b m → Leads b (with_factor a m)
 leads_with a b one h k = h
 leads_with a b (times d m) h k = by_cases (λ n. Leads b n) (cmp_atom a d) (times a (times d m)) (times a (times d m))
@@ -57,12 +57,12 @@ factors_with a one = refl
 factors_with a (times b m) = by_cases (λ n. factors n ≡ suc (suc (factors m))) (cmp_atom a b) (times a (times b m))
     (times a (times b m)) (times b (with_factor a m)) (λ e. refl) (λ e. refl) (λ e. ap suc (factors_with a m))
 
--- the numbers of atoms add up
+-- the number of atoms in a product is the sum of the numbers in its factors
 pub factors_join : (m n : Monomial) → factors (join m n) ≡ factors m + factors n
 factors_join one n = omega arith
 factors_join (times a m) n = let h = factors_join m (with_factor a n) in let k = factors_with a n in omega arith
 
--- terms
+-- a monomial below a polynomial stays below it when a larger term is put first
 pub below_led : (k m : Monomial) (c : ℕ) (p : Polynomial) → cmp_monomial k m ≡ Less → Below k p → Below k (led_by m c p)
 below_led k m c p h g = if_cases (λ q. Below k q) (c == 0) p (plus m c p) (λ e. g) (λ e. h)
 
@@ -109,7 +109,7 @@ pub proper_total : (p q : Polynomial) → IsProper p → IsProper q → IsProper
 proper_total nought q h k = k
 proper_total (plus m c p) q h k = proper_total p (add_term m c q) h.5 (proper_add_term m c q h.0 h.1 h.3 k)
 
--- the products with one term are in order
+-- adding the products with one term keeps a polynomial in order
 pub proper_multiple : (m : Monomial) (c : ℕ) (p q : Polynomial) → IsProperMonomial m → factors m + degree p ≤ 4 →
     IsProper p → IsProper q → IsProper (add_multiple m c p q)
 proper_multiple m c nought q h f w v = v
@@ -118,14 +118,14 @@ proper_multiple m c (plus n d p) q h f w v =
     proper_multiple m c p (add_term (join m n) ((c * d) % 2 ^ 64) q) h (omega arith) w.5
     (proper_add_term (join m n) ((c * d) % 2 ^ 64) q (proper_join m n h w.0) (omega arith) (mod-lt _ (lit< tt)) v)
 
--- all products are in order
+-- adding all products keeps a polynomial in order
 proper_products : (p q r : Polynomial) → degree p + degree q ≤ 4 → IsProper p → IsProper q → IsProper r →
     IsProper (add_products p q r)
 proper_products nought q r f h k w = w
 proper_products (plus m c p) q r f h k w = proper_products p q (add_multiple m c q r) (omega arith) h.5 k
     (proper_multiple m c q r h.0 (omega arith) k w)
 
--- numbers of terms
+-- putting a term first adds at most one to the number of terms
 terms_led : (m : Monomial) (c : ℕ) (p : Polynomial) → terms (led_by m c p) ≤ suc (terms p)
 terms_led m c p = if_cases (λ q. terms q ≤ suc (terms p)) (c == 0) p (plus m c p) (λ e. omega arith) (λ e. omega arith)
 
@@ -172,7 +172,7 @@ proper_norm_mul p q h k m n = if_cases (λ t. IsProper t × (terms t ≤ 64)) (n
     (proper_products p q nought (leb-true _ _ b.1) h k tt, omega arith))
     (λ e. (proper_alone (operation_atom Mul p q) (h, k, m, n), lit≤ tt))
 
--- negation keeps the monomials
+-- a monomial below a polynomial is below its negation
 pub below_negation : (k : Monomial) (p : Polynomial) → Below k p → Below k (negation p)
 below_negation k nought h = tt
 below_negation k (plus m c p) h = h

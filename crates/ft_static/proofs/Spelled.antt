@@ -23,28 +23,28 @@ abbrev mutual
   spell_atom (sel_atom u p) = 3 ∷ (spell_updates u ++ spell_polynomial p)
   spell_atom (rem_atom p m) = 11 ∷ (spell_polynomial p ++ (m ∷ []))
 
-  -- a monomial
+  -- a monomial as a list of numbers
   pub spell_monomial : Monomial → List ℕ
   spell_monomial one = 0 ∷ []
   spell_monomial (times a m) = 1 ∷ (factors m ∷ (spell_atom a ++ spell_monomial m))
 
-  -- a polynomial
+  -- a polynomial as a list of numbers
   pub spell_polynomial : Polynomial → List ℕ
   spell_polynomial nought = 0 ∷ []
   spell_polynomial (plus m c p) = 1 ∷ (terms p ∷ (spell_monomial m ++ (c ∷ spell_polynomial p)))
 
-  -- a memory form
+  -- a memory form as a list of numbers
   pub spell_updates : Updates → List ℕ
   spell_updates unchanged = 0 ∷ []
   spell_updates (update p v u) = 1 ∷ (updates u ∷ (spell_polynomial p ++ (spell_polynomial v ++ spell_updates u)))
 
--- three comparisons in a row
+-- three comparisons in a row may be grouped either way
 pub then_assoc : (a b c : Ordering) → ordering_then (ordering_then a b) c ≡ ordering_then a (ordering_then b c)
 then_assoc Less b c = refl
 then_assoc Equal b c = refl
 then_assoc Greater b c = refl
 
--- `Equal` means equality
+-- numbers that compare as `Equal` are equal
 nat_cmp_equal : (i j : ℕ) → nat_cmp i j ≡ Equal → i ≡ j
 nat_cmp_equal i j e = grind (arith, nat_tests)
 
@@ -145,7 +145,7 @@ atom_spelled a b = simp (append-nil, then_equal) at (sym (lex_atom a b [] []))
 pub updates_spelled : (a b : Updates) → cmp_updates a b ≡ lex (spell_updates a) (spell_updates b)
 updates_spelled a b = simp (append-nil, then_equal) at (sym (lex_updates a b [] []))
 
--- an order that agrees with a total one
+-- an order that agrees with a total order is total
 agreeing : {K : Type 0} (R S : K → K → Ordering) → ((x y : K) → R x y ≡ S x y) → IsTotalOrder S → IsTotalOrder R
 agreeing R S e t = record {
   antisymm = λ x y. rw (e x y, e y x) (t.antisymm x y);
@@ -169,7 +169,7 @@ cmp_polynomial_total = agreeing cmp_polynomial (on spell_polynomial lex) polynom
 pub cmp_updates_total : IsTotalOrder cmp_updates
 cmp_updates_total = agreeing cmp_updates (on spell_updates lex) updates_spelled (on_texts spell_updates)
 
--- two comparisons that tie
+-- if two comparisons in a row tie, each of them ties
 pub then_both : (a b : Ordering) → ordering_then a b ≡ Equal → (a ≡ Equal) × (b ≡ Equal)
 then_both Less b e = cc
 then_both Equal b e = (refl, e)
@@ -242,6 +242,6 @@ spell_form-injective (memory_form u) (memory_form v) e =
     let h : spell_updates u ≡ spell_updates v = cc in
     ap memory_form (updates_equal u v (updates_spelled u v ∙ spelled_alike (spell_updates u) (spell_updates v) h))
 
--- forms as codes
+-- the encoding of forms by their spellings
 pub form_code : Coded Form
 form_code = coded_via (coded_list coded_ℕ) spell_form spell_form-injective

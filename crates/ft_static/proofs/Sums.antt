@@ -17,29 +17,29 @@ use Rattle.ft_static.proofs.Cases.{by_cases, if_cases}
 use Rattle.ft_static.proofs.Words.{with_word_is_word}
 use Rattle.ft_static.proofs.Spelled.{monomial_equal}
 
--- sums and products modulo w
+-- adding 0 modulo w leaves a number below w unchanged
 led : (w x : ℕ) → x < w → x ≡ (0 + x) % w
 led w x h = rw zero-add (sym (mod-eq_of_lt h))
 
--- sums in another order
+-- three numbers may be added in another order, modulo w
 swap_sums : (w x y z : ℕ) → (y + (x + z) % w) % w ≡ (x + (y + z) % w) % w
 swap_sums w x y z = rw (add-mod-mod, add-mod-mod) (ap (λ t. t % w) (omega arith))
 
--- merging two terms of the same monomial
+-- merging two terms of the same monomial keeps the sum, modulo w
 merged : (w c d x y : ℕ) → ((c + d) % w * x + y) % w ≡ (c * x + (d * x + y) % w) % w
 merged w c d x y = let e : ((c + d) % w * x + y) % w ≡ ((c + d) * x + y) % w = sym (mod-add-mod ((c + d) % w * x) w y)
     ∙ ap (λ t. (t + y) % w) (mul-mod_first (c + d) x w) ∙ mod-add-mod ((c + d) * x) w y in
     e ∙ rw (add-mod-mod, add-mul) (ap (λ t. t % w) (omega arith))
 
--- products in another order
+-- three numbers may be multiplied in another order, modulo w
 swap_products : (w x y z : ℕ) → (y * ((x * z) % w)) % w ≡ (x * ((y * z) % w)) % w
 swap_products w x y z = rw (mul-mod_second, mul-mod_second) (ap (λ t. t % w) (grind arith))
 
--- regrouping sums
+-- a sum of three numbers may be regrouped, modulo w
 onto_sums : (w x y z : ℕ) → (y + (x + z) % w) % w ≡ ((x + y) % w + z) % w
 onto_sums w x y z = rw (add-mod-mod, mod-add-mod) (ap (λ t. t % w) (omega arith))
 
--- regrouping products
+-- a product of three numbers may be regrouped, modulo w
 onto_products : (w x y z : ℕ) → (y * ((x * z) % w)) % w ≡ ((x * y) % w * z) % w
 onto_products w x y z = rw (mul-mod_second, mul-mod_first) (ap (λ t. t % w) (grind arith))
 
@@ -59,7 +59,7 @@ multiple_more w c d x y z q =
     ∙ (ap (λ t. (t + q) % w) (sym right)
     ∙ mod-add-mod (c * x * ((d * y + z) % w)) w q))))
 
--- the first term of a product
+-- p q + (c x q + r) is (c x + p) q + r, modulo w
 product_more : (w c x p q r : ℕ) → (p * q + (c * x * q + r) % w) % w ≡ ((c * x + p) % w * q + r) % w
 product_more w c x p q r =
     let right : ((c * x + p) % w * q) % w ≡ ((c * x + p) * q) % w = mul-mod_first (c * x + p) q w in
@@ -87,7 +87,7 @@ value_updates_are_words unchanged s lawful x = lawful.memory x
 value_updates_are_words (update p v u) s lawful x = with_word_is_word (value_updates u s) (value_polynomial p s)
     (value_polynomial v s) x (value_polynomial_is_word v s) (value_updates_are_words u s lawful x)
 
--- sums
+-- putting a term first adds the term's value
 value_led : (m : Monomial) (c : ℕ) (p : Polynomial) (s : Valuation) → value_polynomial (led_by m c p) s
     ≡ (c * value_monomial m s + value_polynomial p s) % 2 ^ 64
 value_led m c p s = if_cases (λ q. value_polynomial q s ≡ (c * value_monomial m s + value_polynomial p s) % 2 ^ 64)
@@ -95,7 +95,7 @@ value_led m c p s = if_cases (λ q. value_polynomial q s ≡ (c * value_monomial
     (λ e. rw (eqb-true c 0 e, zero-mul) (led (2 ^ 64) (value_polynomial p s) (value_polynomial_is_word p s)))
     (λ e. refl)
 
--- adding a term
+-- adding a term adds the term's value
 pub value_add_term : (m : Monomial) (c : ℕ) (p : Polynomial) (s : Valuation) → value_polynomial (add_term m c p) s
     ≡ (c * value_monomial m s + value_polynomial p s) % 2 ^ 64
 value_add_term m c nought s = value_led m c nought s
@@ -128,7 +128,7 @@ value_add p q s lawful = if_cases (λ t. value_polynomial t s ≡ apply Add (val
     (λ e. value_total p q s)
     (λ e. value_alone (operation_atom Add p q) s (mod-lt _ (lit< tt)))
 
--- products
+-- inserting an atom multiplies a monomial's value by the atom's
 pub value_with_factor : (a : Atom) (m : Monomial) (s : Valuation) → value_monomial (with_factor a m) s
     ≡ (value_atom a s * value_monomial m s) % 2 ^ 64
 value_with_factor a one s = refl
@@ -147,7 +147,7 @@ value_join (times a m) n s = value_join m (with_factor a n) s
     ∙ (ap (λ t. (value_monomial m s * t) % 2 ^ 64) (value_with_factor a n s)
     ∙ onto_products (2 ^ 64) (value_atom a s) (value_monomial m s) (value_monomial n s))
 
--- adding the products with one term
+-- adding the products with one term adds the product of the two values
 value_add_multiple : (m : Monomial) (c : ℕ) (p q : Polynomial) (s : Valuation) →
     value_polynomial (add_multiple m c p q) s ≡ (c * value_monomial m s * value_polynomial p s + value_polynomial q s) %
     2 ^ 64
@@ -159,7 +159,7 @@ value_add_multiple m c (plus n d p) q s = value_add_multiple m c p (add_term (jo
     ∙ multiple_more (2 ^ 64) c d (value_monomial m s) (value_monomial n s) (value_polynomial p s)
     (value_polynomial q s))
 
--- adding all products
+-- adding all products adds the product of the two values
 value_products : (p q r : Polynomial) (s : Valuation) → value_polynomial (add_products p q r) s
     ≡ (value_polynomial p s * value_polynomial q s + value_polynomial r s) % 2 ^ 64
 value_products nought q r s = rw zero-mul (led (2 ^ 64) (value_polynomial r s) (value_polynomial_is_word r s))

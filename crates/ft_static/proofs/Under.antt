@@ -100,7 +100,7 @@ module _ (n : ℕ) (ps : List Polynomial) (own : (i : ℕ) → i < n → slice_i
         stored memory_variable k h = refl
         stored m k h = cc
 
--- the polynomial at a place among the forms of trees
+-- the polynomial at a place among the forms of trees is the form of the tree at that place
 integer_in-map : (ps : List Polynomial) (u : Updates) (ts : List Expression) (n : ℕ) →
     integer_in (map (form_under ps u) ts) n ≡ norm_under (integer_at ts n) ps u
 integer_in-map ps u ts n = ap polynomial_of (get_or-map (form_under ps u) ts n (integer (word 0)))
@@ -110,7 +110,7 @@ integer_in-map ps u ts n = ap polynomial_of (get_or-map (form_under ps u) ts n (
     part (integer e) = refl
     part (memory m) = refl
 
--- the updates at a place
+-- likewise for the updates at a place
 memory_in-map : (ps : List Polynomial) (u : Updates) (ts : List Expression) (n : ℕ) →
     memory_in u (map (form_under ps u) ts) n ≡ norm_memory_under (memory_at ts n) ps u
 memory_in-map ps u ts n = ap (updates_or u) (get_or-map (form_under ps u) ts n (integer (word 0)))

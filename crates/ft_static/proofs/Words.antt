@@ -8,11 +8,11 @@ use Rattle.ft_isa.specs.Words.{IsWord}
 use Rattle.ft_static.specs.Expression.{WordMap, word_at, with_word}
 use Rattle.ft_static.proofs.Cases.{if_cases}
 
--- what an address holds after a word is written
+-- after a word is written, its address holds this word, and every other address holds what it held before
 get-with_word : (m : WordMap) (k v q : ℕ) → map.get (with_word m k v) q ≡ cond (q == k) (Some v) (map.get m q)
 get-with_word m k v q = rw (map.get-insert nat_cmp_total m k v q, unsigned_tied q k) refl
 
--- reading the word from either choice
+-- reading a word from the chosen option is choosing between the words read
 cond_read : (b : Bool) (v : ℕ) (o : Option ℕ) → unwrap_or (cond b (Some v) o) 0 ≡ (if b then v else unwrap_or o 0)
 cond_read true v o = refl
 cond_read false v o = refl

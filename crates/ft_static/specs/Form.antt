@@ -119,7 +119,7 @@ kind (rem_atom p m) = 11
 
 -- Lengths are compared again at each element; after the first element they are equal.
 abbrev mutual
-  -- atoms; those of different kinds by kind
+  -- compares atoms: those of different kinds by kind, and others by their parts
   pub cmp_atom : Atom → Atom → Ordering
   cmp_atom (variable_atom i) (variable_atom j) = nat_cmp i j
   cmp_atom (operation_atom o p q) (operation_atom k r s) = ordering_then (nat_cmp (operation_kind o) (operation_kind k)) (ordering_then (cmp_polynomial p r) (cmp_polynomial q s))
@@ -127,21 +127,21 @@ abbrev mutual
   cmp_atom (rem_atom p m) (rem_atom r n) = ordering_then (cmp_polynomial p r) (nat_cmp m n)
   cmp_atom a b = nat_cmp (kind a) (kind b)
 
-  -- lists of atoms
+  -- compares monomials as lists of atoms
   pub cmp_monomial : Monomial → Monomial → Ordering
   cmp_monomial one one = Equal
   cmp_monomial one (times b n) = Less
   cmp_monomial (times a m) one = Greater
   cmp_monomial (times a m) (times b n) = ordering_then (nat_cmp (factors m) (factors n)) (ordering_then (cmp_atom a b) (cmp_monomial m n))
 
-  -- lists of pairs of monomial and coefficient
+  -- compares polynomials as lists of pairs of monomial and coefficient
   pub cmp_polynomial : Polynomial → Polynomial → Ordering
   cmp_polynomial nought nought = Equal
   cmp_polynomial nought (plus n d q) = Less
   cmp_polynomial (plus m c p) nought = Greater
   cmp_polynomial (plus m c p) (plus n d q) = ordering_then (nat_cmp (terms p) (terms q)) (ordering_then (cmp_monomial m n) (ordering_then (nat_cmp c d) (cmp_polynomial p q)))
 
-  -- lists of pairs of address and value
+  -- compares memory forms as lists of pairs of address and value
   pub cmp_updates : Updates → Updates → Ordering
   cmp_updates unchanged unchanged = Equal
   cmp_updates unchanged (update r w x) = Less
@@ -156,11 +156,11 @@ same_polynomial p q = is_eq (cmp_polynomial p q)
 abbrev pub same_updates : Updates → Updates → Bool
 same_updates u w = is_eq (cmp_updates u w)
 
--- lists by length and then by the first elements that differ
+-- compares lists by length and then by the first elements that differ
 abbrev pub cmp_lists : {A : Type 0} → (A → A → Ordering) → List A → List A → Ordering
 cmp_lists cmp xs ys = ordering_then (nat_cmp (length xs) (length ys)) (slice_cmp cmp xs ys)
 
--- pairs by the first part and then the second
+-- compares pairs by the first part and then by the second
 abbrev pub cmp_pairs : {A B : Type 0} → (A → A → Ordering) → (B → B → Ordering) → A × B → A × B → Ordering
 cmp_pairs cmp_first cmp_second p q = ordering_then (cmp_first p.0 q.0) (cmp_second p.1 q.1)
 

@@ -62,7 +62,7 @@ abbrev pub negation : Polynomial → Polynomial
 negation nought = nought
 negation (plus m c p) = plus m ((2 ^ 64 - c % 2 ^ 64) % 2 ^ 64) (negation p)
 
--- the value of a constant polynomial
+-- the value of a polynomial, if it is a constant
 abbrev pub constant_of : Polynomial → Option ℕ
 constant_of nought = Some 0
 constant_of (plus one c nought) = Some (c % 2 ^ 64)
@@ -102,7 +102,7 @@ folded o c d a = alone a
 abbrev pub norm_folded : Op → Polynomial → Polynomial → Polynomial
 norm_folded o p q = folded o (constant_of p) (constant_of q) (operation_atom o p q)
 
--- sel of a memory form at p: walks the updates from the newest on. It gives the value at an equal address, passes an
+-- sel of a memory form at p: walks the updates from the newest on. It returns the value at an equal address, skips an
 -- address that differs from p by a nonzero constant, and stops at any other update and at the end.
 abbrev pub norm_sel : Updates → Polynomial → Polynomial
 norm_sel unchanged p = alone (sel_atom unchanged p)

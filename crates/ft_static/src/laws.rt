@@ -14,9 +14,9 @@ ghost use Rattle.ft_static.specs.declared.node.Node.{Node};
 
 use std::cmp::Ordering;
 
-/// The order of forms is total, and two forms compare as equal exactly if they are the same. Forms compare as lists do:
-/// by length, then by the first elements that differ. A polynomial is a list of pairs of monomial and coefficient, and
-/// a memory form a list of pairs of address and value.
+/// The order of forms is total, and two forms compare as equal exactly when they are the same. Forms compare as lists
+/// do: by length, then by the first elements that differ. A polynomial is a list of pairs of monomial and coefficient,
+/// and a memory form a list of pairs of address and value.
 pub fn forms_are_ordered()
     ensures atoms { IsTotalOrder cmp_atom }
     ensures monomials { IsTotalOrder cmp_monomial }
@@ -56,9 +56,9 @@ pub fn forms_are_known_by_coefficients()
     ensures counts { (k : Atom) (m n : Monomial) → count k (join m n) ≡ count k m + count k n }
 {}
 
-/// Two expressions are the same exactly if their normal forms are equal. If the numbers in an expression are words, its
-/// form denotes the same value as the expression, under every valuation of the integer variables and of the memory by
-/// words. So two such expressions that are the same denote the same value.
+/// Two expressions are the same exactly when their normal forms are equal. If the numbers in an expression are words,
+/// its form denotes the same value as the expression, under every valuation of the integer variables and of the memory
+/// by words. So two such expressions that are the same denote the same value.
 pub fn forms_denote_as_expressions()
     ensures same_forms { (a b : Expression) → same a b ≡ true ↔ norm a ≡ norm b }
     ensures denotes { (e : Expression) (s : Valuation) → IsLawful s → HasWords e → form_denotation (norm e) s ≡ denotation e s }

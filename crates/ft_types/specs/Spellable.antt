@@ -39,12 +39,12 @@ abbrev pub is_name : List ℕ → Bool
 is_name [] = false
 is_name (b ∷ bs) = is_letter b && list_all is_name_byte bs
 
--- the base `int`, or one of this many code types
+-- a base is `int`, or one of this many code types
 abbrev pub IsBase : ℕ → Base → Type 0
 IsBase types Int = Unit {0}
 IsBase types (Code t) = t < types
 
--- a basic type of at most 8 refs, if there are `types` code types
+-- a basic type has at most 8 refs and a valid base, if there are `types` code types
 pub record IsBasic (types : ℕ) (b : Basic) : Type 0 where
   pub refs : b.refs ≤ 8
   pub base : IsBase types b.base
@@ -85,7 +85,7 @@ pub record IsCodeType (types : ℕ) (nodes : List Node) (t : CodeType) : Type 0 
   pub queue : All (IsQueueRow nodes t.ints) t.queue
   pub memory : IsNodeIn nodes t.ints true t.memory
 
--- a block of one of `types` code types
+-- a block has one of `types` code types
 abbrev pub HasCodeType : ℕ → Block → Type 0
 HasCodeType types b = b.code_type < types
 
@@ -99,7 +99,7 @@ abbrev pub BeginAtZero : List Block → Type 0
 BeginAtZero [] = ⊥
 BeginAtZero (b ∷ bs) = b.start ≡ 0
 
--- a run of m cells from `first`, out of `cells`
+-- the m cells from number `first` on are a run of valid length, and exist if there are `cells` cells
 pub record IsRun (cells first m : ℕ) : Type 0 where
   pub begins : first < cells
   pub length : IsLength m

@@ -13,9 +13,9 @@ pub struct RegType {
     pub expr: u32,
 }
 
-/// What holds at the start of a block of this type: the number of its integer variables (0 to 128); the registers that
-/// have a type, in increasing order; the pairs of address node and value node in the store queue, oldest first (at most
-/// 8); and the node of the memory.
+/// What is known at the start of a block of this type: the number of its integer variables (0 to 128); the registers
+/// that have a type, in increasing order; the pairs of address node and value node in the store queue, oldest first (at
+/// most 8); and the node of the memory.
 #[derive(Drop)]
 pub struct CodeType {
     pub ints: u8,
@@ -40,7 +40,7 @@ pub struct Cell {
     pub init: u64,
 }
 
-/// Code with its types, its blocks and its cells, and the number of the block in which a run begins. `substs` has the
+/// Code with its types, its blocks and its cells, and the number of the block in which a run begins. `substs` lists the
 /// nodes that blue jumps and branches substitute for variables, in the order of the code.
 #[derive(Drop)]
 pub struct Object {

@@ -12,7 +12,7 @@ use ft_static::{Node, Nodes};
 /// The size of an instruction in the object format, in bytes.
 pub const INSTR_BYTES: usize = 16;
 
-/// An object in any representation. It represents one `Object`, and each call returns a part of that.
+/// An object in any representation. It represents one `Object`, and each call returns a part of it.
 pub trait Program: Nodes {
     ghost use Rattle.ft_types.specs.NodeRows.{node_words};
     ghost use Rattle.ft_types.specs.Objects.{IsCounted, cell_head_of, name_of, type_head_of, reg_rows, queue_rows};
@@ -24,8 +24,8 @@ pub trait Program: Nodes {
     /// no fetch has to find them again.
     type Code: Copy;
 
-    // Whether a value is the result of `code` for the program. An implementation whose `fetch` does not read it may
-    // allow any value.
+    // Whether a value is the result of `code` for the program. An implementation whose `fetch` ignores the value may
+    // allow any.
     ghost is_code: { Self → Self.Code → Type 0 };
 
     /// How many parts of each kind there are.

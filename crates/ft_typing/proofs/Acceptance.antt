@@ -94,7 +94,7 @@ walk_applied o c k (i ∷ is) (next_row d e a) = after_goes o d k is (row o c i)
 
 -- FIRST REFUSALS
 
--- if `option_or` gives nothing, neither option has a value
+-- if `option_or` of two options has no value, neither of them has one
 pub or_parts : {A : Type 0} (x y : Option A) → option_or x y ≡ None → (x ≡ None) × (y ≡ None)
 or_parts None y e = (refl, e)
 or_parts (Some a) y e = cc
@@ -127,7 +127,7 @@ none_first refuse k (y ∷ ys) h =
 
 -- THE WHOLE OBJECT
 
--- a cell escapes refusal exactly when its initial word has its type
+-- a cell causes no refusal exactly when its initial word has its basic type
 cell_typed : (o : Object) (k : ℕ) (x : Cell) → Decides (has_type o x.init x.basic) (cell_refusal o k x ≡ None)
 cell_typed o k x = (λ e. rw e refl, λ e. by_test (has_type o x.init x.basic) e)
   where
@@ -135,7 +135,7 @@ cell_typed o k x = (λ e. rw e refl, λ e. by_test (has_type o x.init x.basic) e
     by_test true e = refl
     by_test false e = cc
 
--- a block escapes refusal exactly when its walk refuses nothing
+-- a block causes no refusal exactly when its walk refuses nothing
 walk_of_block : (o : Object) (b : ℕ) (w : Option (ℕ × Premise)) → option_map (λ r. Refused b r.0 r.1) w ≡ None ↔ w
     ≡ None
 walk_of_block o b None = (λ e. refl, λ e. refl)

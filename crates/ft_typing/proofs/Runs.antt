@@ -31,7 +31,7 @@ taken_within (suc n) [] k x e = cc
 taken_within (suc n) (y ∷ xs) zero x e = omega arith
 taken_within (suc n) (y ∷ xs) (suc k) x e = let h = taken_within n xs k x e in omega (arith, h)
 
--- a run: the first m elements once `first` elements are dropped
+-- the m elements from number `first` on are the first m after `first` elements are dropped
 range_is : {X : Type 0} (xs : List X) (first m : ℕ) → slice_range xs first (first + m) ≡ take m (drop first xs)
 range_is xs first m = let n : first + m - first ≡ m = omega arith in rw n refl
 

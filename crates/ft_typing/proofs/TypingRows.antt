@@ -24,7 +24,7 @@ use Rattle.ft_typing.specs.RowTests.{is_conditional, code_of_d, form_of_d, test_
 abbrev unknown : Typed
 unknown = record { colour = Green; basic = int; form = nought }
 
--- a list of tests as a chain: if the first one holds, its result is that of the others
+-- the tests of a list in turn: if the first one holds, the result is that of the others
 judged : Object → Context → List Test → Outcome → Outcome
 judged o c [] e = e
 judged o c (t ∷ ts) e = need (premise_of t) (holds o c t) (judged o c ts e)
@@ -54,21 +54,21 @@ unfolding need
 need_both p true b e = ap (need p b) e
 need_both p false b e = refl
 
--- Untyped
+-- the step that tests Untyped
 typed_next : (x : Option Typed) (f : Typed → Outcome) {y : Outcome} → f (unwrap_or x unknown) ≡ y → for_typed x f
     ≡ need premise.Untyped (is_some x) y
 unfolding need for_typed
 typed_next None f e = refl
 typed_next (Some t) f e = e
 
--- NotRef
+-- the step that tests NotRef
 ref_next : (n : ℕ) (base : Base) (f : Basic → Outcome) {y : Outcome} → f (referred n base) ≡ y → for_ref_over n base f
     ≡ need premise.NotRef (refers n) y
 unfolding need for_ref_over
 ref_next zero base f e = refl
 ref_next (suc k) base f e = e
 
--- NotCode
+-- the step that tests NotCode
 code_next : (n : ℕ) (base : Base) (f : ℕ → Outcome) {y : Outcome} → f (code_led_to n base) ≡ y → for_code_over n base f
     ≡ need premise.NotCode (leads_to_code n base) y
 unfolding need for_code_over
@@ -76,14 +76,14 @@ code_next zero Int f e = refl
 code_next zero (Code t) f e = e
 code_next (suc k) base f e = refl
 
--- StateOfD, which requires Zero
+-- the step that tests StateOfD, where d must be Zero
 zero_next : (d : StateOfD) {x y : Outcome} → x ≡ y → for_zero d x ≡ need premise.StateOfD (is_zero d) y
 unfolding need for_zero
 zero_next d_zero e = e
 zero_next (d_code t f) e = refl
 zero_next (d_conditional z t f) e = refl
 
--- StateOfD, which requires Code
+-- the step that tests StateOfD, where d must be Code
 target_next : (d : StateOfD) (f : ℕ → Polynomial → Outcome) {y : Outcome} → f (code_of_d d) (form_of_d d) ≡ y →
     for_target d f ≡ need premise.StateOfD (is_code d) y
 unfolding need for_target
@@ -91,7 +91,7 @@ target_next d_zero f e = refl
 target_next (d_code t p) f e = e
 target_next (d_conditional z t p) f e = refl
 
--- StateOfD, which requires Conditional
+-- the step that tests StateOfD, where d must be Conditional
 conditional_next : (d : StateOfD) (f : Polynomial → ℕ → Polynomial → Outcome) {y : Outcome} →
     f (test_of_d d) (code_of_d d) (form_of_d d) ≡ y → for_conditional d f ≡ need premise.StateOfD (is_conditional d) y
 unfolding need for_conditional
@@ -99,14 +99,14 @@ conditional_next d_zero f e = refl
 conditional_next (d_code t p) f e = refl
 conditional_next (d_conditional z t p) f e = e
 
--- QueueEmpty
+-- the step that tests QueueEmpty
 oldest_next : (q : List FormPair) (f : FormPair → List FormPair → Outcome) {y : Outcome} → f (oldest q) (others q) ≡ y →
     for_oldest q f ≡ need premise.QueueEmpty (not (is_empty q)) y
 unfolding need for_oldest is_empty
 oldest_next [] f e = refl
 oldest_next (p ∷ r) f e = e
 
--- Array
+-- the step that tests Array
 run_next : (x : Option Basic) (f : Basic → Outcome) {y : Outcome} → f (unwrap_or x int) ≡ y → for_run x f
     ≡ need premise.Array (is_some x) y
 unfolding need for_run

@@ -57,19 +57,19 @@ for_code_over (suc k) base next = Fails premise.NotCode
 abbrev pub for_code : Basic → (ℕ → Outcome) → Outcome
 for_code b next = for_code_over b.refs b.base next
 
--- premise StateOfD, which requires Zero
+-- premise StateOfD, where d must be Zero
 unfoldable pub for_zero : StateOfD → Outcome → Outcome
 for_zero d_zero next = next
 for_zero (d_code t f) next = Fails premise.StateOfD
 for_zero (d_conditional z t f) next = Fails premise.StateOfD
 
--- premise StateOfD, which requires Code: the row continues with the code type and the form
+-- premise StateOfD, where d must be Code: the row continues with the code type and the form
 unfoldable pub for_target : StateOfD → (ℕ → Polynomial → Outcome) → Outcome
 for_target d_zero next = Fails premise.StateOfD
 for_target (d_code t f) next = next t f
 for_target (d_conditional z t f) next = Fails premise.StateOfD
 
--- premise StateOfD, which requires Conditional: the row continues with the test, the code type and the form
+-- premise StateOfD, where d must be Conditional: the row continues with the test, the code type and the form
 unfoldable pub for_conditional : StateOfD → (Polynomial → ℕ → Polynomial → Outcome) → Outcome
 for_conditional d_zero next = Fails premise.StateOfD
 for_conditional (d_code t f) next = Fails premise.StateOfD

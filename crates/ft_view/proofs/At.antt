@@ -14,7 +14,7 @@ use Rattle.ft_view.specs.Ends.{AreEnds}
 use Rattle.ft_view.specs.Viewed.{last_end}
 use Rattle.ft_view.proofs.EndsRise.{types_more}
 
--- the value of the record at a position
+-- the value at a position is that of the record at this position
 pub mapped : {X : Type 0} (v : List ℕ → X) (rs : List (List ℕ)) (i : ℕ) (row : List ℕ) (x : X) → slice_get rs i
     ≡ Some row → x ≡ v row → slice_get (map v rs) i ≡ Some x
 mapped v rs i row x there is = slice_get-map v rs i ∙ ap (option_map v) there ∙ ap Some (sym is)
@@ -35,7 +35,7 @@ ends_at end_of all start (r ∷ rs) zero row h e = let same : r ≡ row = cc in
     (subst (λ x. start ≤ end_of x) same h.0, subst (λ x. end_of x ≤ all) same h.1)
 ends_at end_of all start (r ∷ rs) (suc k) row h e = ends_at end_of all (end_of r) rs k row h.2 e
 
--- a cell
+-- cell k is that of record k, and its name begins where the names before it end
 pub cell_at : (names : List ℕ) (start : ℕ) (rs : List (List ℕ)) (k : ℕ) (row : List ℕ) → slice_get rs k ≡ Some row →
     slice_get (cells_of names start rs) k ≡ Some (cell_of names (last_end past_of start (take k rs)) row)
 cell_at names start [] k row e = absurd (cc)
@@ -67,13 +67,13 @@ type_at from queue_from all queue_all (r ∷ rs) (suc t) row regs queue h q e =
     q.0 refl refl)
     ∙ type_at (regs_end_of r) (queue_end_of r) all queue_all rs t row regs queue h.2 q.2 e
 
--- one of the rows that a type takes
+-- row j of a type is row `from` + j of all rows
 pub taken_at : {X : Type 0} (from past j : ℕ) (xs : List X) (x : X) → from + j < past → slice_get xs (from + j)
     ≡ Some x → slice_get (take (past - from) (drop from xs)) j ≡ Some x
 taken_at from past j xs x lt there = get_taken (past - from) (drop from xs) j (omega arith) ∙ get_dropped from xs j
     ∙ there
 
--- how many rows a type takes
+-- a type takes as many rows as there are between its bounds
 pub taken_count : {X : Type 0} (from past : ℕ) (xs : List X) → from ≤ past → past ≤ length xs →
     length (take (past - from) (drop from xs)) ≡ past - from
 taken_count from past xs le within = length-take-le (past - from) (drop from xs) (omega (arith, length-drop from xs))

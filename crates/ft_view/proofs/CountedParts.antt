@@ -32,7 +32,7 @@ use Rattle.ft_view.proofs.At.{mapped, ends_at, cell_at, type_taken, type_at, tak
 use Rattle.ft_view.proofs.EndsRise.{ends_of_cells, ends_of_types}
 use Rattle.ft_view.proofs.Whole.{unbroken}
 
--- how many parts of each kind there are
+-- there are as many parts of each kind as the header says
 pub cell_count : (bytes : List ℕ) → length (object_of bytes).cells ≡ (header_at bytes).cells
 unfolding tables_read
 cell_count bytes = length_cells_of (names_part (header_at bytes) bytes) 0 (cell_records bytes)
@@ -71,7 +71,7 @@ pub entry_is : (bytes : List ℕ) → (object_of bytes).entry ≡ (header_at byt
 unfolding tables_read
 entry_is bytes = refl
 
--- parts that their records alone determine
+-- a part that its record alone determines is the one that this record encodes
 pub node_is : (bytes row : List ℕ) (i : ℕ) (x : Node) → slice_get (node_records bytes) i ≡ Some row → x ≡ node_of row →
     slice_get (object_of bytes).nodes i ≡ Some x
 unfolding tables_read
@@ -93,7 +93,7 @@ pub subst_is : (bytes row : List ℕ) (i x : ℕ) → slice_get (subst_records b
 unfolding tables_read
 subst_is bytes row i x there is = mapped subst_node_of (subst_records bytes) i row x there is
 
--- a cell without its name
+-- a cell without its name is that of its record
 pub cell_is : (bytes : List ℕ) (k past refs base code_type init : ℕ) (x : CellHead) → slice_get (cell_records bytes) k
     ≡ Some (past ∷ refs ∷ base ∷ code_type ∷ init ∷ []) → x.basic ≡ basic_type_of refs base code_type → x.init ≡ init
     → option_map cell_head_of (slice_get (object_of bytes).cells k) ≡ Some x
@@ -102,7 +102,7 @@ cell_is bytes k past refs base code_type init x there basic word =
     ap (option_map cell_head_of) (cell_at (names_part (header_at bytes) bytes) 0 (cell_records bytes) k _ there)
     ∙ rw (sym basic, sym word) refl
 
--- a name
+-- the name of a cell is the slice of the name bytes between two ends
 pub name_is : (bytes name : List ℕ) (k start past refs base code_type init : ℕ) → slice_get (cell_records bytes) k
     ≡ Some (past ∷ refs ∷ base ∷ code_type ∷ init ∷ []) → start ≡ last_end past_of 0 (take k (cell_records bytes))
     → name ≡ take (past - start) (drop start (names_part (header_at bytes) bytes)) →
@@ -112,7 +112,7 @@ name_is bytes name k start past refs base code_type init there last is =
     ap (option_map name_of) (cell_at (names_part (header_at bytes) bytes) 0 (cell_records bytes) k _ there)
     ∙ sym (ap Some (is ∙ ap (λ s. take (past - s) (drop s (names_part (header_at bytes) bytes))) last))
 
--- the ends of names and rows, if no rule is broken
+-- if no rule is broken, the ends of names and of rows do not decrease
 pub cell_ends : (h : Header) (p : Places) (bytes seen : List ℕ) → IsView h p bytes → bytes ≡ seen →
     AreEnds past_of (header_at seen).names 0 (cell_records seen)
 cell_ends h p bytes seen v e =
@@ -127,7 +127,7 @@ type_ends h p bytes seen v e =
     ends_of_types (header_at seen) (nodes_read (header_at seen) seen) (header_at seen).types
     (types_part (header_at seen) seen) 0 0 _ u.types
 
--- a type with its rows
+-- a code type is that of its record and of the rows between two ends
 pub type_is : (bytes row : List ℕ) (t from queue_from : ℕ) →
     AreEnds regs_end_of (header_at bytes).regs 0 (type_records bytes) →
     AreEnds queue_end_of (header_at bytes).queue 0 (type_records bytes) → slice_get (type_records bytes) t ≡ Some row
@@ -144,7 +144,7 @@ type_is bytes row t from queue_from h q there e f =
     ∙ ap (λ a. Some (type_taken from a row (regs_read (header_at bytes) bytes) (queue_read (header_at bytes) bytes)))
     (sym f)
 
--- a type without its rows
+-- a code type without its rows is that of its record
 pub head_is : (bytes row : List ℕ) (t from queue_from : ℕ) (x : TypeHead) →
     AreEnds regs_end_of (header_at bytes).regs 0 (type_records bytes) →
     AreEnds queue_end_of (header_at bytes).queue 0 (type_records bytes) → slice_get (type_records bytes) t ≡ Some row
@@ -168,7 +168,7 @@ head_is bytes row t from queue_from x h q there e f is =
     (omega (arith, b.0, f)) (omega (arith, b.1, queue_count bytes)) in
     ap (option_map type_head_of) (type_is bytes row t from queue_from h q there e f) ∙ rw (is, regs, queue) refl
 
--- the rows of a type
+-- the rows of a code type are those between two ends
 pub regs_are : (bytes row : List ℕ) (t from queue_from : ℕ) →
     AreEnds regs_end_of (header_at bytes).regs 0 (type_records bytes) →
     AreEnds queue_end_of (header_at bytes).queue 0 (type_records bytes) → slice_get (type_records bytes) t ≡ Some row

@@ -19,7 +19,7 @@ use Rattle.ft_format.proofs.Unbroken.{both}
 use Rattle.ft_format.proofs.Shapes.{shape_5, shape_7}
 use Rattle.ft_format.proofs.Layouts.{rows_more}
 
--- the end in the first record
+-- the first record's end is within the bounds, and the other ends do not decrease from there
 pub first_end : (end_of : List ℕ → ℕ) (all start : ℕ) (ws : List Width) (m n : ℕ) (bs row : List ℕ) → m ≡ suc n → row
     ≡ numbers ws (take (size ws) bs)
     → AreEnds end_of all start (rows ws m bs) → (start ≤ end_of row) × (end_of row ≤ all)
@@ -46,7 +46,7 @@ types_more from queue_from row rest regs queue own_regs own_queue le queue_le p 
     drop-drop (queue_end_of row - queue_from) queue_from queue ∙ ap (λ n. drop n queue) b in
     rw (k, l, p, q) refl
 
--- the ends of a type's rows, if it breaks no rule
+-- if a type breaks no rule, the ends of its rows are within the bounds
 type_ends : (h : Header) (nodes : List Node) (regs queue at : ℕ) (row : List ℕ) → length row ≡ 7 →
     type_broken h nodes regs queue at row ≡ None
     → (regs ≤ regs_end_of row) × (regs_end_of row ≤ h.regs) × (queue ≤ queue_end_of row) × (queue_end_of row ≤ h.queue)
@@ -60,7 +60,7 @@ type_ends h nodes regs queue at row seven =
       grind (arith, nat_tests),
     )) row seven
 
--- the ends of the rows of types that break no rule
+-- if types break no rule, the ends of their rows do not decrease
 pub ends_of_types : (h : Header) (nodes : List Node) (n : ℕ) (bs : List ℕ) (regs queue at : ℕ) →
     types_broken h nodes regs queue at (rows type_layout n bs) ≡ None
     → AreEnds regs_end_of h.regs regs (rows type_layout n bs)
@@ -76,7 +76,7 @@ ends_of_types h nodes (suc n) bs regs queue at none =
     let after = ends_of_types h nodes n (drop 16 bs) (regs_end_of row) (queue_end_of row) (at + 16) parts.1 in
     ((here.0, here.1, after.0), (here.2, here.3, after.1))
 
--- the ends of names that break no rule
+-- if cells break no rule, the ends of their names do not decrease
 cell_ends : (h : Header) (start at : ℕ) (row : List ℕ) → length row ≡ 5 → cell_broken h start at row ≡ None →
     (start ≤ past_of row) × (past_of row ≤ h.names)
 cell_ends h start at row five =
@@ -94,7 +94,7 @@ ends_of_cells h (suc n) bs start at none =
     let here = cell_ends h start at row refl parts.0 in
     (here.0, here.1, ends_of_cells h n (drop 16 bs) (past_of row) (at + 16) parts.1)
 
--- what follows if a reader found no broken rule
+-- what holds if no rule is broken holds if a reader found no broken rule
 pub found_fine : {X : Type 0} (r : Result X ObjectError) (rule : Option ObjectError) (P : Type 0) → Finds r rule →
     (rule ≡ None → P) → OnOk r P
 found_fine (Ok x) rule P h f = f h

@@ -16,12 +16,12 @@ use Rattle.ft_view.specs.Ends.{AreEnds}
 use Rattle.ft_view.specs.Viewed.{last_end}
 use Rattle.ft_view.proofs.RowsAfter.{rows_snoc}
 
--- splitting the first row off the remaining rows
+-- the remaining rows are the first of them and those after it
 first_row : (m n : ℕ) (bs row : List ℕ) → m ≡ suc n → row ≡ numbers cell_layout (take 16 bs) → rows cell_layout m bs
     ≡ row ∷ rows cell_layout n (drop 16 bs)
 first_row m n bs row e is = rows_more cell_layout m n bs e ∙ ap (λ r. r ∷ rows cell_layout n (drop 16 bs)) (sym is)
 
--- the first name is another one
+-- if the first cell fails a test, the others decide whether any cell passes it
 pub any_more : (f : Cell → Bool) (names : List ℕ) (start m n : ℕ) (bs row : List ℕ) (all : Bool) → m ≡ suc n → row
     ≡ numbers cell_layout (take 16 bs) → f (cell_of names start row) ≡ false
     → list_any f (cells_of names start (rows cell_layout m bs)) ≡ all →
@@ -30,7 +30,7 @@ any_more f names start m n bs row all e is other h =
     let rest = list_any f (cells_of names (past_of row) (rows cell_layout n (drop 16 bs))) in
     sym (ap (λ rs. list_any f (cells_of names start rs)) (first_row m n bs row e is) ∙ ap (λ b. b || rest) other) ∙ h
 
--- the first name is this one
+-- if the first cell passes a test, some cell passes it
 pub any_here : (f : Cell → Bool) (names : List ℕ) (start m n : ℕ) (bs row : List ℕ) (all : Bool) → m ≡ suc n → row
     ≡ numbers cell_layout (take 16 bs) → f (cell_of names start row) ≡ true
     → list_any f (cells_of names start (rows cell_layout m bs)) ≡ all → true ≡ all
@@ -38,13 +38,13 @@ any_here f names start m n bs row all e is same h =
     let rest = list_any f (cells_of names (past_of row) (rows cell_layout n (drop 16 bs))) in
     sym (ap (λ rs. list_any f (cells_of names start rs)) (first_row m n bs row e is) ∙ ap (λ b. b || rest) same) ∙ h
 
--- no name is left
+-- if no cell is left, none passes a test
 pub any_none : (f : Cell → Bool) (names : List ℕ) (start m : ℕ) (bs : List ℕ) (all : Bool) → m ≡ 0 →
     list_any f (cells_of names start (rows cell_layout m bs)) ≡ all → false ≡ all
 any_none f names start m bs all e h = sym (ap (λ rs. list_any f (cells_of names start rs))
     (rows_none cell_layout m bs e)) ∙ h
 
--- ends of the first records
+-- if the ends in some records do not decrease, neither do those in the first of these records
 pub ends_first : (end_of : List ℕ → ℕ) (all start n i : ℕ) (bs : List ℕ) → i ≤ n →
     AreEnds end_of all start (rows cell_layout n bs) → AreEnds end_of all start (rows cell_layout i bs)
 unfolding rows AreEnds
@@ -53,7 +53,7 @@ ends_first end_of all start zero (suc i) bs le h = absurd (omega arith)
 ends_first end_of all start (suc n) (suc i) bs le h =
     (h.0, h.1, ends_first end_of all (end_of (numbers cell_layout (take 16 bs))) n i (drop 16 bs) (omega arith) h.2)
 
--- the cells of some records and of one more
+-- one more record appends one more cell, whose name begins where the others end
 cells_snoc : (names : List ℕ) (start : ℕ) (rs : List (List ℕ)) (r : List ℕ) → cells_of names start (rs ++ r ∷ [])
     ≡ cells_of names start rs ++ cell_of names (last_end past_of start rs) r ∷ []
 cells_snoc names start [] r = refl
@@ -63,13 +63,13 @@ last_snoc : (start : ℕ) (rs : List (List ℕ)) (r : List ℕ) → last_end pas
 last_snoc start [] r = refl
 last_snoc start (x ∷ rs) r = last_snoc (past_of x) rs r
 
--- where the next name begins
+-- the next name begins where the last one ends
 pub last_more : (i : ℕ) (records rest row : List ℕ) → rest ≡ drop (16 * i) records → row
     ≡ numbers cell_layout (take 16 rest) → past_of row ≡ last_end past_of 0 (rows cell_layout (i + 1) records)
 last_more i records rest row at is = sym (ap (last_end past_of 0) (rows_snoc cell_layout i records rest row at is)
     ∙ last_snoc 0 (rows cell_layout i records) row)
 
--- a name that breaks no rule
+-- after a name that breaks no rule, the result is that of the remaining names
 pub name_goes : (v : Version) (end at start i m n past refs base code_type init : ℕ) (names records rest : List ℕ)
     (broken : Option ObjectError) → m ≡ suc n
     → past ∷ refs ∷ base ∷ code_type ∷ init ∷ [] ≡ numbers cell_layout (take 16 rest) → rest ≡ drop (16 * i) records →
@@ -102,7 +102,7 @@ name_goes v end at start i m n past refs base code_type init names records rest 
     ap (λ cs. names_broken v end cs (at + past) after) more
     ∙ ap (λ p. names_broken v end (earlier ++ cell ∷ []) p after) (sym place) ∙ sym step ∙ h
 
--- a name that breaks a rule
+-- a name that breaks a rule determines the result
 pub name_halts : (v : Version) (end at start m n past refs base code_type init : ℕ) (names rest : List ℕ)
     (earlier : List Cell) (broken : Option ObjectError) (why : ObjectError) → m ≡ suc n
     → past ∷ refs ∷ base ∷ code_type ∷ init ∷ [] ≡ numbers cell_layout (take 16 rest)
@@ -118,7 +118,7 @@ name_halts v end at start m n past refs base code_type init names rest earlier b
     ∙ ap (λ r. r next names_broken v end (earlier ++ cell ∷ [])
     (at + start + length (take (past - start) (drop start names))) after) some
 
--- no name is left
+-- if no name is left, the result is the one for an empty list
 pub names_end : (v : Version) (end place start m : ℕ) (names rest : List ℕ) (earlier : List Cell)
     (broken : Option ObjectError) → m ≡ 0
     → names_broken v end earlier place (cells_of names start (rows cell_layout m rest)) ≡ broken → broken
@@ -126,7 +126,7 @@ pub names_end : (v : Version) (end place start m : ℕ) (names rest : List ℕ) 
 names_end v end place start m names rest earlier broken e h = sym h
     ∙ ap (λ rs. names_broken v end earlier place (cells_of names start rs)) (rows_none cell_layout m rest e)
 
--- no records encode no cells
+-- zero records encode no cells
 pub no_cells : (names records : List ℕ) → cells_of names 0 (rows cell_layout 0 records) ≡ []
 unfolding rows
 no_cells names records = refl

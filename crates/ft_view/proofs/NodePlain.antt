@@ -18,7 +18,7 @@ pub record IsPlain (row : List ℕ) : Type 0 where
   pub at : ℕ
   pub unbroken : node_broken version earlier at row ≡ None
 
--- one of the valid records of nodes
+-- if records of nodes break no rule, neither does each of them
 pub node_at : (v : Version) (earlier : List Node) (at : ℕ) (rs : List (List ℕ)) (i : ℕ) (row : List ℕ) →
     nodes_broken v earlier at rs ≡ None → slice_get rs i ≡ Some row → IsPlain row
 unfolding nodes_broken
@@ -36,7 +36,7 @@ node_at v earlier at (r ∷ rs) (suc i) row n e =
     let p = both (node_broken v earlier at r) (nodes_broken v (earlier ++ node_of r ∷ []) (at + 16) rs) n in
     node_at v (earlier ++ node_of r ∷ []) (at + 16) rs i row p.1 e
 
--- the number of a variable
+-- the number of a variable is below 256
 pub plain_variable : (kind op scope pad a b c : ℕ) → IsPlain (kind ∷ op ∷ scope ∷ pad ∷ a ∷ b ∷ c ∷ []) → kind ≡ 1 →
     a < 256
 plain_variable kind op scope pad a b c p =

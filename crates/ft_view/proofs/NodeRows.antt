@@ -14,13 +14,13 @@ use Rattle.ft_format.proofs.Layouts.{length_rows}
 use Rattle.std.proofs.lemmas.Bool.Decides.{nat_tests}
 use Rattle.ft_view.proofs.Records.{record_at}
 
--- how many nodes there are
+-- there are as many nodes as records
 pub count_is : (count : ℕ) (bytes : List ℕ) (nodes : List Node) → map node_of (rows code_layout count bytes) ≡ nodes →
     length nodes ≡ count
 count_is count bytes nodes e = sym (ap length e) ∙ length-map (rows code_layout count bytes) node_of
     ∙ length_rows code_layout count bytes
 
--- one of the nodes
+-- node n is that of record n
 pub row_is : (count n : ℕ) (bytes part row : List ℕ) (nodes : List Node) → map node_of (rows code_layout count bytes)
     ≡ nodes → n < length nodes → part ≡ take 16 (drop (16 * n) bytes) → row ≡ numbers code_layout part
     → slice_get nodes n ≡ Some (node_of row)
@@ -31,7 +31,7 @@ row_is count n bytes part row nodes e lt is numbers_are =
     sym (ap (λ l. slice_get l n) e) ∙ slice_get-map node_of (rows code_layout count bytes) n
     ∙ ap (option_map node_of) there
 
--- the sort of a kind
+-- a node is a memory exactly when its kind is 4 or 5
 sort_is : (kind op a b c : ℕ) → is_memory (shape_of kind op a b c) ≡ ((kind == 4) || (kind == 5))
 sort_is kind op a b c = grind (arith, nat_tests)
 

@@ -1,4 +1,4 @@
--- What a view's bytes hold at a place.
+-- What a view's bytes contain at a place.
 use Rattle.std.proofs.Common.{◌≡◌, ℕ, ◌+◌, ◌-◌, ◌*◌, ◌<◌, ◌≤◌, List, [], ◌∷◌, length, take, drop, None, Some, refl, sym}
 use Rattle.std.proofs.Common.{ap, ◌∙◌, subst, arith}
 use Rattle.std.specs.Prelude.{slice_get}
@@ -25,7 +25,7 @@ use Rattle.ft_view.proofs.Records.{record_at, row_at}
 use Rattle.ft_view.specs.InPlace.{kind_in, a_in, b_in, c_in, x_in, high_in, low_in}
 use Rattle.ft_view.specs.Known.{IsKnown}
 
--- the sections under the view's own header
+-- the sections break no rule under the header that the view keeps
 pub sections : (h : Header) (p : Places) (bytes : List ℕ) → IsView h p bytes → AreUnbroken h bytes
 sections h p bytes v = subst (λ k. AreUnbroken k bytes) (sym v.header) (unbroken bytes v.unbroken)
 
@@ -34,7 +34,7 @@ pub below : (h : Header) (p : Places) (bytes seen : List ℕ) (count : Header �
     ≡ bytes → i < count (header_at seen) → i < count h
 below h p bytes seen count i v e lt = subst (λ k. i < count k) (ap header_at e ∙ sym v.header) lt
 
--- how many instructions the object has
+-- the object has as many instructions as the header says, and each is that of its record
 pub instr_count : (bytes : List ℕ) → length (object_of bytes).instrs ≡ (header_at bytes).instrs
 unfolding tables_read
 instr_count bytes =
@@ -48,7 +48,7 @@ instr_is bytes row i x there is =
     let h = header_at bytes in
     slice_get-map instr_of (instr_rows_of h bytes) i ∙ ap (option_map instr_of) there ∙ ap Some (sym is)
 
--- record i of a section
+-- the record read at the place of record i of a section is record i
 pub row_there : (ws : List Width) (count start : Header → ℕ) (h : Header) (p : Places) (bytes seen part row : List ℕ)
     (i at : ℕ) → IsView h p bytes → seen ≡ bytes → i < count (header_at seen) → at ≡ start h + size ws * i
     → part ≡ take (size ws) (drop at bytes) → row ≡ numbers ws part →
@@ -59,7 +59,7 @@ row_there ws count start h p bytes seen part row i at v e lt place is numbers_ar
     ≡ Some row = record_at ws (count h) i (start h) at bytes part row lower place is numbers_are in
     rw (e, ← v.header) there
 
--- the record of an instruction, from the section of the instructions
+-- the same record, read from the section of the instructions instead of from all bytes
 pub code_inside : (h : Header) (p : Places) (bytes seen code : List ℕ) (i : ℕ) → IsView h p bytes → seen ≡ bytes → code
     ≡ section_of Instrs seen → i < (header_at seen).instrs → 16 * i + 16 ≤ length code
 code_inside h p bytes seen code i v e is lt =
@@ -95,7 +95,7 @@ numbers_in bs =
     let two = drop-drop 1 1 bs in
     rw (two, drop-drop 1 2 bs, drop-drop 1 3 bs, drop-drop 4 4 bs, drop-drop 4 8 bs) refl
 
--- what is known of a valid instruction record
+-- an instruction record of bytes that break no rule has a known kind, operation and registers
 pub instr_known : (bytes part : List ℕ) (i : ℕ) → AreBytes bytes → broken bytes ≡ None
     → slice_get (instr_rows_of (header_at bytes) bytes) i ≡ Some (numbers code_layout part) → IsKnown part
 instr_known bytes part i b n there =

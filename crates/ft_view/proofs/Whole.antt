@@ -17,7 +17,7 @@ use Rattle.ft_format.proofs.Read.{header_again}
 use Rattle.ft_format.specs.declared.header.Header.{Header}
 use Rattle.ft_format.specs.Places.{IsWhole}
 
--- the header's counts are within their limits, there are as many bytes as they give, and no section breaks a rule
+-- the header's counts are within their limits, there are as many bytes as they require, and no section breaks a rule
 pub record AreUnbroken (h : Header) (bytes : List ℕ) : Type 0 where
   pub whole : IsWhole h bytes
   pub cells : cells_broken h 0 48 (rows cell_layout h.cells (cells_part bytes)) ≡ None

@@ -63,7 +63,7 @@ impl<'a> View<'a> {
         // The bytes spell the object that is viewed, and no other.
         ensures spelled { IfOk result (λ v. Spells bytes.now (version_at bytes.now) (object_of v)) }
         ensures one { (version : Version) (o : Object) → Spells bytes.now version o → IfOk result (λ v. object_of v ≡ o) }
-        // No rule is broken exactly if the bytes spell some object.
+        // No rule is broken exactly when the bytes spell some object.
         ensures exact { (broken bytes.now ≡ None) ↔ ((version : Version) × (o : Object) × Spells bytes.now version o) }
     {
         let header = judge(bytes)?;

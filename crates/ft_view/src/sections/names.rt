@@ -55,7 +55,7 @@ fn check_name(
 }
 
 /// Checks the cells' names, whose bytes begin at a place and must reach the end: `Name` for a byte that is not allowed
-/// there or a name that an earlier cell has, `Order` for a left-over byte.
+/// there or a name that an earlier cell has, `Order` for a leftover byte.
 pub(crate) fn check_names(
     version: Version,
     end: usize,

@@ -10,7 +10,7 @@ use Rattle.ft_format.proofs.ReadWhole.{read_spells}
 use Rattle.ft_format.proofs.Write.{spells_unbroken, spells_read, spells_version}
 use Rattle.ft_format.proofs.laws.rules_are_exact.Goals as goal
 
--- byte 7 of a spelling
+-- byte 7 of a spelling is the number of the version
 byte_7 : (v : Version) (o : Object) → slice_get (spelling v o) 7 ≡ Some (number v)
 unfolding spelling written bytes_of
 byte_7 First o = refl

@@ -6,7 +6,7 @@ use Rattle.ft_format.specs.Rows.{spelling}
 use Rattle.ft_format.proofs.Versions.{has_all}
 use Rattle.ft_format.proofs.laws.versions_differ_in_byte_7.Goals as goal
 
--- the spellings in the two versions
+-- a version 1 spelling with byte 7 set to 2 is the version 2 spelling
 with_byte_7 : (o : Object) → set (spelling First o) 7 2 ≡ spelling Second o
 unfolding spelling written bytes_of
 with_byte_7 o = refl

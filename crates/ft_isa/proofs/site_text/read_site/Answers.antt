@@ -9,14 +9,14 @@ use Rattle.ft_isa.proofs.Readers.{state_after-more, reads_ok, reads_only, refuse
 use Rattle.ft_isa.proofs.SiteRead.{site_told, IsSiteRead, site_reader}
 use Rattle.ft_isa.proofs.site_text.read_site.Goals as goal
 
--- at the end of the text
+-- at the end of the text, a site is returned only if the text is its text
 ends_as : (text : List ℕ) (read : SiteRead) (o : Option Site) → state_after next_site Empty text ≡ Some read →
     whole_site read ≡ o → IfSome o (IsSiteText text)
 ends_as text read None e f = tt
 ends_as text read (Some site) e f = reads_ok next_site whole_site Empty site_told IsSiteRead IsSiteText site_reader read
     site text e f
 
--- the state after the whole text
+-- once all bytes of a text are read, the state is the one after the whole text
 whole_text : (text : List ℕ) (i : ℕ) (read : SiteRead) → length text ≤ i → state_after next_site Empty (take i text)
     ≡ Some read → state_after next_site Empty text ≡ Some read
 whole_text text i read past e = ap (state_after next_site Empty) (sym (take_all i text past)) ∙ e

@@ -12,13 +12,13 @@ use Rattle.ft_isa.proofs.Readers.{state_after-more, reads_ok, reads_only, refuse
 use Rattle.ft_isa.proofs.StrikeRead.{strike_told, IsStrikeRead, strike_reader}
 use Rattle.ft_isa.proofs.strike_text.read_strike.Goals as goal
 
--- the result is what the text means
+-- the result is the strike that the text spells, or else the error for this text
 record Means (text : List ℕ) (r : Result Strike Form) : Type 0 where
   ok : IfOk r (IsStrikeText text)
   exact : (strike : Strike) → IsStrikeText text strike → r ≡ Ok strike
   err : IfErr r (λ form. IsRefusedAt IsStrikeText text form.at)
 
--- at the end of the text the result is the strike that was read completely
+-- at the end of the text, the result is the strike that was read completely, or else the error
 at_end : (text : List ℕ) (read : StrikeRead) (o : Option Strike) → state_after next_strike (AtStep None) text
     ≡ Some read → whole_strike read ≡ o → Means text (ok_or o (record { at = length text }))
 at_end text read None e f =

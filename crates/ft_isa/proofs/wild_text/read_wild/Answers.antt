@@ -34,7 +34,7 @@ refused_end text done part e f =
 pub loop-at-init : goal.loop-at-init
 loop-at-init c = ap (λ ds. Some (wild_at ds Empty)) (sym c.new-answers.ensures.items)
 
--- the byte is a comma, and there is no room for one more answer
+-- the text is refused at a comma if there is no room for one more answer
 full : (c : goal.After-drop-answers) → IsRefusedAt IsWildText c.args.text.now c.loop-at.at
 full c =
     refused c.args.text.now c.loop-at.at (wild_at c.loop-at.answers.items c.loop-at.read) c.loop-at-test.true
@@ -47,7 +47,7 @@ returns-then-len-ge-WILD_LIMIT-clause-exact c = let none = full c in λ answers 
 pub returns-then-len-ge-WILD_LIMIT-clause-err : goal.returns-then-len-ge-WILD_LIMIT-clause-err
 returns-then-len-ge-WILD_LIMIT-clause-err c = full c
 
--- the byte is a comma after a part that is not an answer
+-- the text is refused at a comma after a part that is not an answer
 early : (c : goal.After-drop-answers-in_default) → IsRefusedAt IsWildText c.args.text.now c.loop-at.at
 early c =
     refused c.args.text.now c.loop-at.at (wild_at c.loop-at.answers.items c.loop-at.read) c.loop-at-test.true
@@ -62,7 +62,7 @@ returns-in_default-clause-exact c = let none = early c in λ answers h. absurd (
 pub returns-in_default-clause-err : goal.returns-in_default-clause-err
 returns-in_default-clause-err c = early c
 
--- the byte is not a comma, and does not continue the part
+-- the text is refused at a byte that is not a comma and does not continue the part
 stuck : (c : goal.After-drop-answers-in_default-next) → IsRefusedAt IsWildText c.args.text.now c.loop-at.at
 stuck c =
     refused c.args.text.now c.loop-at.at (wild_at c.loop-at.answers.items c.loop-at.read) c.loop-at-test.true
@@ -108,12 +108,12 @@ loop-at-preserved c =
           c.loop-at.invariant (step ∙ ap Some same)
     ]
 
--- the whole text was read
+-- once all bytes of a text are read, the state is the one after the whole text
 read_all : (text : List ℕ) (at : ℕ) (read : WildRead) → length text ≤ at → state_after next_wild start (take at text)
     ≡ Some read → state_after next_wild start text ≡ Some read
 read_all text at read past e = ap (state_after next_wild start) (sym (take_all at text past)) ∙ e
 
--- the text ends within a part
+-- a text that ends within a part is refused at its end
 short : (c : goal.After-drop-answers-in_default-whole) → IsRefusedAt IsWildText c.args.text.now (length c.args.text.now)
 short c =
     refused_end c.args.text.now c.loop-at.answers.items c.loop-at.read
@@ -127,7 +127,7 @@ returns-in_default-whole-clause-exact c = let none = short c in λ answers h. ab
 pub returns-in_default-whole-clause-err : goal.returns-in_default-whole-clause-err
 returns-in_default-whole-clause-err c = short c
 
--- the last answer was added
+-- a push that succeeds adds the last answer
 pushed_last : (c : goal.In_ok-map_err-2) → c.loop-at.answers.items ++ c.in-Some-whole.answer ∷ []
     ≡ c.push-2.new.self.items
 pushed_last c =
