@@ -104,7 +104,7 @@ module _ (is : List Instr) (front : ℕ) (writers touchers : List ℕ) (blue : �
     blue_last = (λ j. cond (is_blue_store i) (at j) (kept.blue_last j)) ∙ sym (last_more is_blue_store is i);
   }
 
--- one more instruction, with the marks set for it
+-- the records are right again after one more instruction is added and its marks are set
 pub kept_pushed : (is new : List Instr) (front : ℕ) (writers writers_new touchers first_marked then_marked touchers_new
     : List ℕ) (blue blue_new : ℕ) (i : Instr) (w f s : Option Reg) (place : ℕ) → IsKept is front writers touchers blue
     → new ≡ is ++ i ∷ [] → number_of w ≡ written i → number_of f ≡ first_read i → number_of s ≡ second_read i → place

@@ -8,7 +8,7 @@ abbrev pub place_of : List ℕ → Option ℕ → ℕ
 place_of ps None = 0
 place_of ps (Some r) = slice_index_or ps r 0
 
--- the places, with place p for a register, if one is given
+-- the places after place p is recorded for a register, if one is given
 abbrev pub marked : List ℕ → Option ℕ → ℕ → List ℕ
 marked ps None p = ps
 marked ps (Some r) p = slice_set ps r p
