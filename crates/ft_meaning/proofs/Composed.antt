@@ -85,7 +85,7 @@ ready_kept names r q k h = record {
   room = subst (λ n. HasRoom names (n - 22)) (sym k.line) h.room;
 }
 
--- what a result says about a meaning
+-- a result and the lines written agree with a meaning
 pub record Meant (e : MeanEnd) (names : List (List ℕ)) (m : Outcome) (old new : SinkLog) : Type 0 where
   pub ends : EndsAs e m
   pub lines : Puts (put_end e) (output_lines names (outputs m)) old new
@@ -105,7 +105,7 @@ start_is : (p : Program) (t : ℕ) (r : Run) → r.vars.items ≡ replicate p.va
     state r [] 0 ≡ start p t
 start_is p t r a b c = λ i. record { vars = a i; cells = b i; out = []; left = c i; work = 0 }
 
--- a run of the whole program from its start
+-- a run of the whole program from its start agrees with the program's meaning
 pub meant : (prog : Prog) (t : ℕ) (r q : Run) (names : List (List ℕ)) (bs : List (Stmt Slot)) (old new : SinkLog)
     (res : Result (Unit {0}) Stop)
     → names ≡ (program_of prog).names → bs ≡ prog.body.items → r.vars.items ≡ replicate prog.vars 0
