@@ -63,7 +63,7 @@ module _ (cs : List Cell) (ns : List Node) where
   pends_walked ts t rs qs (p ∷ ps) rest = pends_walked ts t rs (qs ++ p ∷ []) ps rest
       ∙ ap (λ xs. walk (InType cs ns ts (rows_are t rs xs)) rest) (append_assoc qs (p ∷ []) ps)
 
-  -- from a code type without rows, the lines of its rows lead to the code type with them
+  -- the lines of a code type's rows lead from the code type without rows to the whole code type
   type_walked : (ts : List CodeType) (t : CodeType) (rest : List Line) →
       walk (InType cs ns ts (fresh_type t.ints t.memory)) ((map lines.Reg t.regs ++ map pend_line t.queue) ++ rest)
       ≡ walk (InType cs ns ts t) rest

@@ -149,7 +149,7 @@ regs_at o t u e = ap (λ x. unwrap_or (option_map regs_of x) []) e
 pub queue_at : (o : Object) (t : ℕ) (u : CodeType) → slice_get o.types t ≡ Some u → queue_rows o t ≡ u.queue
 queue_at o t u e = ap (λ x. unwrap_or (option_map queue_of x) []) e
 
--- the text of a code type is its own line, then those of its register rows and of its queue rows
+-- the text of a code type consists of its own line, then those of its register rows and of its queue rows
 pub type_pieces : (u : CodeType) → line_text (lines.Type u.ints u.memory)
     ++ (flat_map reg_text u.regs ++ flat_map pend_text u.queue) ≡ type_text u
 type_pieces u =
@@ -158,7 +158,7 @@ type_pieces u =
     ∙ ap (λ l. flat_map line_text (map lines.Reg u.regs) ++ l) (sym (flat_of_map pend_line u.queue))
     ∙ sym (flat_map-append line_text (map lines.Reg u.regs) (map pend_line u.queue)))
 
--- its head gives the numbers of its rows
+-- the head of a code type counts its register rows and its queue rows
 pub regs_count : (o : Object) (t : ℕ) (head : TypeHead) → t < length o.types →
     option_map type_head_of (slice_get o.types t) ≡ Some head → head.regs ≡ length (reg_rows o t)
 regs_count o t head lt e =
@@ -215,7 +215,7 @@ begins_last end [] (suc n) le = refl
 begins_last end (b ∷ bs) zero le = absurd (omega arith)
 begins_last end (b ∷ bs) (suc n) le = begins_last end bs n (omega arith)
 
--- the text of a block is its own line, then those of its instructions
+-- the text of a block consists of its own line, then those of its instructions
 pub part_pieces : (o : Object) (b : Block) (bs : List Block) → line_text (lines.Block b.code_type)
     ++ flat_map (instr_text o.substs) (slice_range o.instrs b.start (begins_at (length o.instrs) bs))
     ≡ part_text (part_of o b bs)
@@ -273,7 +273,7 @@ part_ends o b old all le h = sym (append-nil old) ∙ ap (λ bs. old ++ flat_map
 
 -- OBJECTS
 
--- the text of an object is the texts of its cells, nodes, code types and blocks, then the line of the entry block
+-- the text of an object consists of those of its cells, nodes, code types and blocks, and the line of the entry block
 pub text_pieces : (o : Object) → flat_map cell_text o.cells
     ++ (flat_map node_text o.nodes ++ (flat_map type_text o.types
     ++ (flat_map part_text (parts_of o.instrs o.substs o.blocks) ++ line_text (lines.Entry o.entry)))) ≡ text_of o

@@ -87,7 +87,7 @@ lead_on text before after line d e split lead (inr more) =
     lead_more before d e line more.0 lead more.1 (line_sound (words_of line)
     (words_are line (free_line text before after line split).1) more.0 more.2) more.3
 
--- if a draft's object is given after the last line, the text reads as that object
+-- if the draft after the last line gives an object, the text reads as that object
 pub ends_reads : (text : List ℕ) (o : Object) (d : Draft) → Lead (lines_of text) d → Ends (Some o) d → Reads text o
 ends_reads text o (Start cs ns) h e = absurd e
 ends_reads text o (InType cs ns ts t) h e = absurd e

@@ -76,7 +76,7 @@ pub record PutsCode (t u : tables.Draft) (code : Code) (i : Instr) : Type 0 wher
   pub substs : u.substs.items ≡ t.substs.items ++ rows_of code
   pub instr : i ≡ instr_at (length t.substs.items) code
 
--- a draft's object is given exactly when the draft is done
+-- the object of a draft that is done; none for any other draft
 abbrev pub Ends : Option Object → Draft → Type 0
 Ends (Some o) (Done l) = o ≡ object_of l
 Ends (Some o) d = ⊥

@@ -50,7 +50,7 @@ unfolding instrs_cost
 cost_push o [] i = omega arith
 cost_push o (j ∷ is) i = let h = cost_push o is i in omega (arith, h)
 
--- the same for one more than the first k instructions
+-- likewise for the first k instructions and the next one
 pub cost_more : (o : Object) (is : List Instr) (k : ℕ) (i : Instr) → slice_get is k ≡ Some i →
     instrs_cost o (take (k + 1) is) ≡ instrs_cost o (take k is) + (transfers i * visit_cost o + walk_cost o)
 cost_more o is k i e =

@@ -33,7 +33,7 @@ use Rattle.ft_typing.specs.TypingRow.{row}
 use Rattle.ft_typing.specs.RowWords.{Outcome, Goes, Ends, Fails}
 use Rattle.ft_contexts.proofs.Lists.{range_there}
 
--- after a row that continues, the walk is refused if no instruction is left; otherwise it goes on
+-- after a row that continues, the walk refuses the instruction if it is the last one, and otherwise goes on
 pub on_last : (x : Outcome) (d : Context) (k : ℕ) (others : List Instr) (next : Context → Option (ℕ × Premise)) → x
     ≡ Goes d → has_none others ≡ true → after_row x k others next ≡ Some (k, BlockEnd)
 unfolding after_row
@@ -46,7 +46,7 @@ unfolding after_row
 on_more x d k [] next e h = cc
 on_more x d k (i ∷ is) next e h = rw e refl
 
--- after a row that ends the block, the walk refuses nothing if no instruction is left; otherwise it is refused
+-- after a row that ends the block, the walk refuses the instruction unless it is the last one
 pub end_last : (x : Outcome) (k : ℕ) (others : List Instr) (next : Context → Option (ℕ × Premise)) → x ≡ Ends →
     has_none others ≡ true → after_row x k others next ≡ None
 unfolding after_row
@@ -59,7 +59,7 @@ unfolding after_row
 end_more x k [] next e h = cc
 end_more x k (i ∷ is) next e h = rw e refl
 
--- a row that fails refuses the walk, with its premise
+-- after a row that fails, the walk refuses the instruction, with the failing premise
 pub row_fails : (x : Outcome) (p : Premise) (k : ℕ) (others : List Instr) (next : Context → Option (ℕ × Premise)) → x
     ≡ Fails p → after_row x k others next ≡ Some (k, p)
 unfolding after_row
@@ -71,7 +71,7 @@ pub walk_turn : (o : Object) (c : Context) (k : ℕ) (is : List Instr) (i : Inst
 unfolding walk
 walk_turn o c k is i others e = rw e refl
 
--- without an instruction, the walk is refused: the block lacks its end
+-- with no instruction left, the walk refuses: the block has not ended
 pub walk_none : (o : Object) (c : Context) (k : ℕ) (is : List Instr) → is ≡ [] → walk o c k is ≡ Some (k, BlockEnd)
 unfolding walk
 walk_none o c k is e = rw e refl
@@ -189,7 +189,7 @@ pub walk_there : (o : Object) (c : Context) (k : ℕ) (xs : List Instr) (i past 
 walk_there o c k xs i past x l e = walk_turn o c k (slice_range xs i past) x (slice_range xs (i + 1) past)
     (range_there xs i past x l e)
 
--- past the last instruction, the walk is refused: the block lacks its end
+-- past the last instruction, the walk refuses: the block has not ended
 pub walk_past : (o : Object) (c : Context) (k : ℕ) (xs : List Instr) (i past : ℕ) → past ≤ i →
     walk o c k (slice_range xs i past) ≡ Some (k, BlockEnd)
 walk_past o c k xs i past l = walk_none o c k (slice_range xs i past) (range_past xs i past l)

@@ -30,7 +30,7 @@ all_turn p xs ys x e h = rw (e, h) refl
 pub all_stop : {X : Type 0} (p : X → Bool) (xs ys : List X) (x : X) → xs ≡ x ∷ ys → p x ≡ false → list_all p xs ≡ false
 all_stop p xs ys x e h = rw (e, h) refl
 
--- moving an element from the front of one list to the end of the other keeps their concatenation
+-- moving an element from the front of the second list to the end of the first keeps their concatenation
 pub one_more : {X : Type 0} (made : List X) (x : X) (others : List X) → (made ++ x ∷ []) ++ others ≡ made
     ++ (x ∷ others)
 one_more made x others = append_assoc made (x ∷ []) others

@@ -31,7 +31,7 @@ pub memory_under : (o : Object) (x : Replacement) (scope n : ℕ) → AreNodes o
 unfolding memory_form_after
 memory_under o x scope n h k = ap (form_under x.integers x.memory) (memory_in o.nodes scope n h k)
 
--- the polynomial at an index is the one that is held as the form there
+-- the polynomial at an index is that of the form at this index
 polynomial_in : (fs : List Normal) (xs : List Form) (i : ℕ) (p : Polynomial) → i < length xs →
     ((f : Form) → slice_get xs i ≡ Some f → held fs f ≡ Some (integer_form p)) →
     slice_index_or (polynomials fs xs) i nought ≡ p

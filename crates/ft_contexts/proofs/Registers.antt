@@ -68,12 +68,12 @@ get_at fs n (x ∷ xs) (suc r) q e =
     get_unchanged (option_map (typed_in fs) x) (registers_in fs (suc n) xs) n q ne
     ∙ get_at fs (suc n) xs r q (omega arith)
 
--- in the whole array, the index of a register is its number
+-- what is known of register r is what the array of all registers has at index r
 pub known_of : (fs : List Normal) (xs : List (Option RegForm)) (r : ℕ) → finite.get (registers_in fs 0 xs) r
     ≡ option_map (typed_in fs) (get_or xs r None)
 known_of fs xs r = get_at fs 0 xs r r (omega arith)
 
--- setting one entry of the array notes what is known of that register, and changes no other
+-- setting an entry of the array changes what is known of that register, and of no other
 get_set : (fs : List Normal) (xs : List (Option RegForm)) (r : ℕ) (k : RegForm) (q : ℕ) → r < length xs →
     finite.get (registers_in fs 0 (set xs r (Some k))) q
     ≡ finite.get (finite.insert (registers_in fs 0 xs) r (typed_in fs k)) q

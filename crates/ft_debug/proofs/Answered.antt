@@ -29,7 +29,7 @@ at_there : (o : Object) (w : List Wild) (t : Session) (e : Debugger) → Holds o
     at_line e.present.position e.present.machine ≡ at_line t.position (present o w t).state
 at_there o w t e h = ap (λ (m : Moment). at_line m.position m.machine) h.present
 
--- writing the position after a reply completes the reply that ends with it
+-- a reply that ends with the position is complete once the position is written
 pub does_report : (go : List Wild → Session → Reply) (o : Object) (d e : Debugger) (r : Result (Unit {0}) Failed)
     (old mid new : SinkLog) → Does go o d e (Ok tt) old mid
     → Puts (end_of_puts r) (at_line e.present.position e.present.machine ∷ []) mid new

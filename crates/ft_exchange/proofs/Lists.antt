@@ -17,7 +17,7 @@ length-exchanged (i ∷ j ∷ is) zero = refl
 
 -- PARTS
 
--- the rest from a place before the exchange has the same exchange in it
+-- in the rest from a place before the exchange, the same two elements are swapped
 drop_before : (a : ℕ) (is : List Instr) (n k : ℕ) → n ≡ a + k → drop a (exchanged is n) ≡ exchanged (drop a is) k
 drop_before zero is n k e = ap (exchanged is) (omega arith)
 drop_before (suc a) [] n k e = refl
@@ -33,7 +33,7 @@ drop_after (suc a) (i ∷ []) zero h = refl
 drop_after (suc zero) (i ∷ j ∷ is) zero h = absurd (omega arith)
 drop_after (suc (suc a)) (i ∷ j ∷ is) zero h = refl
 
--- the front up to a place after the exchange has the same exchange in it
+-- in the front up to a place after the exchange, the same two elements are swapped
 pub take_around : (m : ℕ) (is : List Instr) (k : ℕ) → k + 2 ≤ m → take m (exchanged is k) ≡ exchanged (take m is) k
 take_around zero is k h = absurd (omega arith)
 take_around (suc m) [] k h = refl
@@ -49,7 +49,7 @@ take_before (suc m) [] k h = refl
 take_before (suc m) (i ∷ is) zero h = absurd (omega arith)
 take_before (suc m) (i ∷ is) (suc k) h = ap (λ z. i ∷ z) (take_before m is k (omega arith))
 
--- a part that contains the exchange has the same exchange in it
+-- in a part that contains the exchange, the same two elements are swapped
 pub range_around : (is : List Instr) (n k a e : ℕ) → n ≡ a + k → n + 2 ≤ e → slice_range (exchanged is n) a e
     ≡ exchanged (slice_range is a e) k
 range_around is n k a e p h = ap (take (e - a)) (drop_before a is n k p)

@@ -18,7 +18,7 @@ use Rattle.ft_machine.specs.declared.bank.Effect.TheVariants.{On, Commit, Detect
 use Rattle.ft_machine.specs.Answers.{next_answer}
 use Rattle.ft_machine.specs.Effects.{Does, DoesQuietly, doing, followed, put_out}
 
--- if the condition holds, what the first case does is what the choice does
+-- if the condition holds, the choice does what its first case does
 pub first : (test : State → Bool) (t u : State → List Wild → Stepping) (old new : Bank) (e : Effect) →
     ((g b : ℕ) (f : Option Instr) → test (doing old g b f) ≡ true) → DoesQuietly t old new e
     → DoesQuietly (λ s w. if test s then t s w else u s w) old new e
@@ -27,7 +27,7 @@ first test t u old new e holds h = record {
       ap (λ v. if v then t (doing old g b f) w else u (doing old g b f) w) (holds g b f) ∙ h.does g b f w;
 }
 
--- if it fails, what the second case does is what the choice does
+-- if it fails, the choice does what its second case does
 pub second : (test : State → Bool) (t u : State → List Wild → Stepping) (old new : Bank) (e : Effect) →
     ((g b : ℕ) (f : Option Instr) → test (doing old g b f) ≡ false) → DoesQuietly u old new e
     → DoesQuietly (λ s w. if test s then t s w else u s w) old new e

@@ -116,7 +116,7 @@ module _ {T : Type 0} (outlet : Ghosts T) where
       subst (λ zs. outlet.heard first zs b t2) (append_assoc before xs ys)
       (k first (before ++ xs) (h first before given))
 
-  -- after a step without an output, the outlet is unchanged and the machine goes on
+  -- after a step without an output, the outlet is unchanged and the machine still running
   pub passes_quiet : (t : T) → PassesOn outlet Quiet t t pauses.Running
   passes_quiet t = record { status_is = refl; given = λ e. absurd (cc); hears = hears_none t; still = λ x h. h }
 
@@ -126,7 +126,7 @@ module _ {T : Type 0} (outlet : Ghosts T) where
   pub passes_detected : (t : T) → PassesOn outlet Detected t t pauses.Detected
   passes_detected t = record { status_is = refl; given = λ e. absurd (cc); hears = hears_none t; still = λ x h. h }
 
-  -- after an output that the outlet takes, and after which it goes on, the machine goes on
+  -- if the outlet takes an output and goes on, the machine is still running
   pub passes_on : (x : Output) (b : Bool) (t t' : T) → b ≡ true → Hears outlet.heard t (x ∷ []) b t' →
       ((other : Output) → outlet.may t other → outlet.may t' other) → PassesOn outlet (Commit x) t t' pauses.Running
   passes_on x b t t' is h still = record {
@@ -161,7 +161,7 @@ module _ {T : Type 0} (outlet : Ghosts T) where
           still = λ x h. h;
         }
 
-    -- steps, and then further steps, are steps from where the first ones began
+    -- steps and the steps that follow them, taken together, are steps from the first state
     pub goes_more : (s s1 s2 : State) (w w1 w2 : List Wild) (t t1 t2 : T) (n m : ℕ) (pause : Pause) →
         Goes outlet o s w t s1 w1 t1 n pauses.Running → Goes outlet o s1 w1 t1 s2 w2 t2 m pause →
         Goes outlet o s w t s2 w2 t2 (n + m) pause

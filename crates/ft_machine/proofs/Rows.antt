@@ -16,12 +16,12 @@ use Rattle.ft_semantics.specs.Strike.{is_running, is_there, struck_state}
 use Rattle.ft_machine.specs.declared.stepped.Stepped.{Stepped}
 use Rattle.ft_machine.specs.Answers.{TakesQuietly}
 
--- if the condition holds, what takes the first case takes the choice
+-- if the condition holds, the choice takes the step of its first case
 takes_first : (b : Bool) (t u : List Wild → Stepping) (s : State) (answer : Stepped) → b ≡ true →
     TakesQuietly t s answer → TakesQuietly (λ w. if b then t w else u w) s answer
 takes_first b t u s answer holds h = subst (λ v. TakesQuietly (λ w. if v then t w else u w) s answer) (sym holds) h
 
--- if it fails, what takes the second case takes the choice
+-- if it fails, the choice takes the step of its second case
 takes_second : (b : Bool) (t u : List Wild → Stepping) (s : State) (answer : Stepped) → b ≡ false →
     TakesQuietly u s answer → TakesQuietly (λ w. if b then t w else u w) s answer
 takes_second b t u s answer fails h = subst (λ v. TakesQuietly (λ w. if v then t w else u w) s answer) (sym fails) h

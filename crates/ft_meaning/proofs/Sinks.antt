@@ -71,7 +71,7 @@ map_push : (xs : List (Vec ℕ Global)) (x : Vec ℕ Global) → map (λ n. n.it
 map_push [] x = refl
 map_push (y ∷ xs) x = ap (λ v. y.items ∷ v) (map_push xs x)
 
--- the room for the longest name so far is room for one more
+-- with one more name, the room needed is the larger of its length and the room so far
 pub room_step : (xs : List (Vec ℕ Global)) (i a b : ℕ) (d : Vec ℕ Global) → i < length xs →
     HasRoom (map (λ n. n.items) (take i xs)) a → b ≡ max (length (get_or xs i d).items) a →
     HasRoom (map (λ n. n.items) (take (i + 1) xs)) b

@@ -30,19 +30,19 @@ use Rattle.ft_norm.proofs.HeldForms.{integer_from, memory_from}
 pub refused : (x y : Outcome) (e : RuleError) → x ≡ y → IsRefusal y e → IsRefusal x e
 refused x y e s h = subst (λ z. IsRefusal z e) (sym s) h
 
--- leaving at a failing premise, with its refusal, is a correct result
+-- returning the refusal of a failing premise is a correct result
 pub passes_exit : {A : Type 0} (r : Result A RuleError) (e : RuleError) (x y : Outcome) (after : A → Outcome) →
     IsErrAnd r (λ f. f ≡ e) → x ≡ y → IsRefusal y e → Passes x after r
 passes_exit (Ok a) e x y after h s k = absurd h
 passes_exit (Err f) e x y after h s k = subst (λ (g : RuleError). IsRefusal x g) (sym h) (refused x y e s k)
 
--- so is leaving when memory runs out
+-- so is returning because memory ran out
 pub passes_stop : {A : Type 0} (r : Result A RuleError) (x : Outcome) (after : A → Outcome) →
     IsErrAnd r (λ f. f ≡ NoMemory) → Passes x after r
 passes_stop (Ok a) x after h = absurd h
 passes_stop (Err f) x after h = subst (λ (g : RuleError). IsRefusal x g) (sym h) tt
 
--- if the premises before have passed, a correct result for those after them is a correct result for all
+-- a correct result for the remaining premises is correct for the whole row if the premises before them have passed
 pub passes_after : {A : Type 0} (r : Result A RuleError) (x y : Outcome) (after : A → Outcome) → x ≡ y →
     Passes y after r → Passes x after r
 passes_after r x y after e h = subst (λ z. Passes z after r) (sym e) h
@@ -65,7 +65,7 @@ grows_same fs gs c d keeps held a b =
     let g = grows_none fs gs c keeps held in
     record { memory = omega (arith, g.memory, a); queue = λ l. let h = g.queue l in omega (arith, h, b) }
 
--- leaving at a failing premise meets the contract of a row
+-- returning the refusal of a failing premise meets the contract of a row
 pub does_exit : (r : Result Next RuleError) (e : RuleError) (x y : Outcome) (o : Object) (fs gs : List Normal)
     (c : Context) → IsErrAnd r (λ f. f ≡ e) → x ≡ y → IsRefusal y e → Keeps fs gs → HoldsForms fs c → NamesTypes o c →
     Does x o fs gs c c r
@@ -79,7 +79,7 @@ does_exit (Err f) e x y o fs gs c h s k keeps held types = record {
   grows = grows_none fs gs c keeps held;
 }
 
--- so does leaving when memory runs out
+-- so does returning because memory ran out
 pub does_stop : (r : Result Next RuleError) (x : Outcome) (o : Object) (fs gs : List Normal) (c : Context) →
     IsErrAnd r (λ f. f ≡ NoMemory) → Keeps fs gs → HoldsForms fs c → NamesTypes o c → Does x o fs gs c c r
 does_stop (Ok n) x o fs gs c h keeps held types = absurd h

@@ -32,7 +32,7 @@ all_at test (y ∷ xs) zero x h e = (let same : y ≡ x = cc in
     subst (λ (z : Instr). test z ≡ true) same (and_parts (test y) (list_all test xs) h).0)
 all_at test (y ∷ xs) (suc k) x h e = all_at test xs k x (and_parts (test y) (list_all test xs) h).1 e
 
--- a list is the elements before its last one, followed by that one
+-- a list consists of the elements before its last one and then that one
 pub last_apart : (xs : List Instr) (k : ℕ) (x : Instr) → slice_get xs k ≡ Some x → suc k ≡ length xs → xs ≡ take k xs
     ++ x ∷ []
 last_apart [] k x e l = cc
@@ -79,12 +79,12 @@ range_front xs ys a e l h =
 pub range_end : (xs : List Instr) (a : ℕ) → slice_range xs a (length xs) ≡ drop a xs
 range_end xs a = take_whole (length xs - a) (drop a xs) (let d = length_drop a xs in omega arith)
 
--- a part of a list is the rest of a front
+-- the part of a list from a up to e is its first e elements without the first a
 pub rest_of_front : (xs : List Instr) (a e : ℕ) → a ≤ e → slice_range xs a e ≡ drop a (take e xs)
 rest_of_front xs a e l = sym ((let q : e ≡ a + (e - a) = omega arith in ap (λ n. drop a (take n xs)) q)
     ∙ drop-take a (e - a) xs)
 
--- the exchange of the two elements after xs swaps them
+-- the exchange right after xs swaps the two elements there
 pub exchanged_seam : (xs : List Instr) (a b : Instr) (ys : List Instr) → exchanged (xs ++ a ∷ b ∷ ys) (length xs) ≡ xs
     ++ b ∷ a ∷ ys
 exchanged_seam [] a b ys = refl

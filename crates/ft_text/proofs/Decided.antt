@@ -23,7 +23,7 @@ IsDecided {A} P = ((x : A) × P x) ⊎ ((x : A) → ¬ (P x))
 abbrev pub IsOf : {A : Type 0} → (A → Type 0) → (A → List ℕ) → List ℕ → A → Type 0
 IsOf Good written text x = Good x × (text ≡ written x)
 
--- if values that satisfy P lead to values that satisfy Q and the other way round, deciding P decides Q
+-- if each value that satisfies P yields one that satisfies Q, and vice versa, then deciding P decides Q
 pub moved : {A B : Type 0} (P : A → Type 0) (Q : B → Type 0) → ((x : A) → P x → (y : B) × Q y) →
     ((y : B) → Q y → (x : A) × P x) → IsDecided P → IsDecided Q
 moved P Q there back (inl x) = inl (there x.0 x.1)

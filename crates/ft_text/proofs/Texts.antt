@@ -12,7 +12,7 @@ use Rattle.ft_text.specs.Lines.{with_byte, lines_of}
 abbrev feed : List ℕ → ℕ
 feed text = position_or_len (λ byte. byte == 10) text
 
--- the first line ends at the first line feed also with one more byte before the text
+-- if a text's first line ends at its first line feed, this still holds with one more byte before the text
 ends_step : (t : Bool) (b : ℕ) (bs : List ℕ) (p : ℕ) →
     (p < length bs → lines_of bs ≡ take p bs ∷ lines_of (drop (p + 1) bs)) → cond (not t) (1 + p) 0 < length (b ∷ bs)
     → (if t then [] ∷ lines_of bs else with_byte b (lines_of bs))

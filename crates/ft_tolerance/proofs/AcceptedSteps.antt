@@ -206,7 +206,7 @@ module _ (o : Object) (p : Place) (s : State) (w : List Wild) (spelled : IsSpell
             (running (g.status ∙ go) is_place is_fit);
       }
 
-  -- a step leads to the next index if its row goes on, and as assumed if its row ends the block
+  -- a step leads to the next index if its row goes on; if its row ends the block, where it leads is a premise
   by_row : (t : Stepping) (E : Type 0) (h : Here o p at.number) (x : Outcome) → row o p.context h.instr ≡ x →
       After (GoesOn o p.valuation s w t) E x → Passes o p.context h.instr → (E → Lands o (further x p) w t) →
       Lands o (further x p) w t

@@ -34,7 +34,7 @@ use Rattle.ft_types.proofs.Maps.{get-insert}
 
 -- THE CELLS
 
--- of two words, where a missing one counts as 0, whichever a test selects is a word
+-- whichever of two values a test selects is a word if both are; a missing value counts as 0
 word_by : (b : Bool) (x : ℕ) (u : Option ℕ) → IsWord x → IsWord (unwrap_or u 0) →
     IsWord (unwrap_or (cond b (Some x) u) 0)
 word_by true x u h k = h

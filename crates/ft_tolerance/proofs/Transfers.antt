@@ -94,7 +94,7 @@ like_fits o u v (Some t) r y nodes lawful l h =
       basic = has_seen o y.word t.basic r.basic q.1 m.basic;
     }
 
--- a register fits what is known of it, whether the last row says it or something before
+-- a register fits what is known of it, whether that comes from the last row or from before
 by_row : (o : Object) (v : Valuation) (b : Bool) (t y : Typed) (u : Option Typed) (x : Coloured) →
     (b ≡ true → FitsRegister o v t x) → (u ≡ Some y → FitsRegister o v y x) → cond b (Some t) u ≡ Some y →
     FitsRegister o v y x

@@ -48,7 +48,7 @@ has_colour : (o : Object) (v : Valuation) (c : Context) (s : State) (r : Reg) (t
     FitsContext o v c s → typed c r.number ≡ Some t → same_colour t.colour k ≡ true → colour s r ≡ k
 has_colour o v c s r t k h it e = (h.registers r.number t it).colour ∙ same_colour_is t.colour k e
 
--- if a register is typed, its type with a default is its type
+-- if something is known of a register, looking it up with a default finds just that
 typed_is : (x : Option Typed) (d : Typed) → is_some x ≡ true → x ≡ Some (unwrap_or x d)
 typed_is None d e = cc
 typed_is (Some t) d e = refl

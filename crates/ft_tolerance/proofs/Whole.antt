@@ -39,7 +39,7 @@ along o w (suc n) spelled acc =
     let h = along o w n spelled acc in
     along_step o (place o w n) (state_after o None w n) (wild_after o None w n) w spelled acc h.after h.wild
 
--- a state for which this holds is as `FitsAfter` says
+-- a run of which this holds is as `FitsAfter` says
 fits_by : (o : Object) (w : List Wild) (n : ℕ) → IsSpellable o → IsAccepted o →
     EndsOrFits o (place o w n) (state_after o None w n) → wild_after o None w n ≡ w → FitsAfter o w n
 fits_by o w n spelled acc (ended d) e = record {

@@ -44,8 +44,9 @@ pub fn steps_keep_states_alike()
     ensures { (c : Colour) (o : Object) (p : Place) (s t : State) (w v : List Wild) → IsSpellable o → IsAccepted o → IsPlace o p → s.status ≡ Running → Fits o p s → AreAlike c s t → Follows c (step o s w) (step o t v) }
 {}
 
-/// Right after a strike, and after each later step, the run of an accepted object that was struck and the run without
-/// the strike are in alike states, for the colour of the struck site, or the struck run is detected.
+/// Right after a strike, and after each later step, the struck run of an accepted object and the run without the
+/// strike, after the same number of steps, are in states that are alike for the colour of the struck site, or the
+/// struck run is detected.
 pub fn struck_runs_stay_alike()
     ensures from_strike { (o : Object) (strike : Strike) (w : List Wild) (n : ℕ) → IsSpellable o → IsAccepted o → StaysAlike o strike w n }
     ensures later { (o : Object) (strike : Strike) (w : List Wild) (n : ℕ) → IsSpellable o → IsAccepted o → IsAlikeLater o strike w n }
