@@ -76,7 +76,7 @@ cost_rises o (i ∷ is) zero (suc l) h = omega arith
 cost_rises o (i ∷ is) (suc k) zero h = absurd (omega arith)
 cost_rises o (i ∷ is) (suc k) (suc l) h = let r = cost_rises o is k l (omega arith) in omega (arith, r)
 
--- the cost of the first instructions is within that of all
+-- the first instructions cost no more than all
 pub cost_all : (o : Object) (is : List Instr) (k : ℕ) → instrs_cost o (take k is) ≤ instrs_cost o is
 unfolding instrs_cost
 cost_all o [] zero = omega arith

@@ -1,4 +1,4 @@
--- The run of an accepted object compared with that of the object after one exchange.
+-- The run of an accepted object, compared with the run of the object after one exchange.
 use Rattle.std.proofs.Common.{◌≡◌, ◌≢◌, ⊎_elim, ℕ, zero, suc, ◌+◌, ◌<◌, ◌==◌, Bool, true, false, if◌then◌else◌, List}
 use Rattle.std.proofs.Common.{[], ◌∷◌, ◌++◌, length, Option, Some, None, refl, sym, ap, ◌∙◌, subst, arith, eq-eqb}
 use Rattle.std.proofs.Common.{append-nil, mod-eq_of_lt}

@@ -122,7 +122,7 @@ pub span_lost : (o : Object) (b : Bank) (pc : ℕ) (w : List Wild) → instr_at 
     }
 span_lost o b pc w is = span_one o (doing b pc pc None) w ∙ ap (extended []) (fetched_step o b pc None w is)
 
--- the bounds on the address of one of n cells
+-- the address of one of n cells is within these bounds
 pub cell_bounds : (n a : ℕ) → (nat_le 1048576 a && nat_lt a (1048576 + n)) ≡ true → (1048576 ≤ a) × (a < 1048576 + n)
 cell_bounds n a h = (grind (arith, nat_tests), grind (arith, nat_tests))
 

@@ -49,7 +49,7 @@ room_for [] room k h = omega arith
 room_for (n ∷ names) room zero h = h.0
 room_for (n ∷ names) room (suc k) h = room_for names room k h.1
 
--- the line of a cell's output
+-- the line of a cell's output has the cell's name and the value
 pub line_is : (names : List (List ℕ)) (k v : ℕ) (name : List ℕ) → name_of names k ≡ name →
     line_of names (record { addr = cell_address k; value = v }) ≡ line name v
 line_is names k v name h =

@@ -1,4 +1,4 @@
--- A run that is struck once: its beginning, and a step of it.
+-- A run that is struck once: how it begins, and one of its steps.
 use Rattle.std.proofs.Common.{◌≡◌, ◌⊎◌, inl, inr, ℕ, ◌+◌, ◌<◌, true, List, None, Some, sym, ap, ◌∙◌, subst, arith}
 use Rattle.ft_isa.specs.declared.colour.Colour.{Colour}
 use Rattle.ft_isa.specs.declared.plan.Site.{Site}

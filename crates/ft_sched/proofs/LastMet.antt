@@ -60,7 +60,7 @@ is_behind test (i ∷ is) (suc f) = behind_next f (last_place test is) (test i) 
 
 -- MARKS
 
--- the place of register q after place p is recorded for register r
+-- after place p is recorded for register r, that register has place p and the others are unchanged
 pub marked_at : (ps : List ℕ) (r p q : ℕ) → r < length ps → slice_index_or (slice_set ps r p) q 0
     ≡ cond (r == q) p (slice_index_or ps q 0)
 marked_at ps r p q l =

@@ -139,7 +139,7 @@ pub record Lands (o : Object) (p : Place) (w : List Wild) (t : Stepping) : Type 
   pub wild : t.wild ≡ w
   pub after : EndsOrFits o p t.state
 
--- the code address after that of instruction n is that of instruction n + 1
+-- the code address of instruction n + 1 comes right after that of instruction n
 pub next_address : (n : ℕ) → n < 65536 → next (code_address n) ≡ code_address (suc n)
 next_address n h = let a : 1 + n + 1 ≡ 1 + suc n = omega arith in let b : 1 + n + 1 < 2 ^ 64 = omega arith in
     mod-eq_of_lt b ∙ a
@@ -238,7 +238,7 @@ module _ (o : Object) (p : Place) (s : State) (w : List Wild) (spelled : IsSpell
   jumped rd u (Fails n) f a (ends g) = cc
   jumped rd u (Fails n) f a (goes d g) = cc
 
-  -- a blue branch is taken or not
+  -- a blue branch leads to the place after it, whether it is taken or not
   branched_by : (h : Here o p at.number) (rz rd : Reg) (u : Subst) → h.instr ≡ BzB rz rd u → (d : Context) →
       row o p.context (BzB rz rd u) ≡ Goes d → Branch o p.valuation (valuation_by o u p.valuation) (word s rd) s w
       (execute (BzB rz rd u) s w) d (word s rz == 0) →

@@ -128,7 +128,7 @@ module _ (o : Object) (x : Strike) (w : List Wild) where
   abbrev c : Colour
   c = colour_of_site (state_after o None w x.step) x.site
 
-  -- the run about to take step n
+  -- the run just before step n, struck if the strike is due there
   abbrev ready : ℕ → Ran → Ran
   ready n r = record r { state = struck_before (Some x) n r.state }
 

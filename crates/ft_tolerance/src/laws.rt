@@ -54,7 +54,7 @@ pub fn struck_runs_stay_alike()
 
 /// One fault is masked or detected: after any number of steps, the run of an accepted object under a plan with at most
 /// one strike has the outputs and the status of the run without the strike, or it is detected and its outputs are a
-/// prefix of those.
+/// prefix of that run's outputs.
 pub fn one_fault_is_masked_or_detected()
     ensures { (o : Object) (strike : Option Strike) (w : List Wild) (n : ℕ) → IsSpellable o → IsAccepted o → Agrees (outputs_after o strike w n) (status_after o strike w n) (outputs_after o None w n) (status_after o None w n) }
 {}
