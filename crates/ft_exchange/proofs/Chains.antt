@@ -182,7 +182,7 @@ goes_free : (o : Object) (c : Context) (i : Instr) → Passes o c i → is_fixed
 goes_free o c i (ends e) free = (let f = ends_fixed o c i e in absurd (cc))
 goes_free o c i (goes d e) free = (d, e)
 
--- 1 if something is fetched
+-- 1 if something is fetched, and 0 otherwise
 abbrev fetched_one : Option Instr → ℕ
 fetched_one None = 0
 fetched_one (Some i) = 1

@@ -17,8 +17,8 @@ marked ps (Some r) p = slice_set ps r p
 abbrev pub unmet : List ℕ
 unmet = replicate 64 0
 
--- the last place that passes a test, given the last one in the rest (0 if there is none) and whether the first
--- instruction passes
+-- the place of the last instruction that passes a test, given that place in the rest (0 if none passes) and whether the
+-- first instruction passes
 abbrev pub or_first : ℕ → Bool → ℕ
 or_first zero passes = cond passes 1 0
 or_first (suc n) passes = suc (suc n)
