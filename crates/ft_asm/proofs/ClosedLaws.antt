@@ -56,7 +56,7 @@ entry_next (InBlock cs ns ts ps p) l n e = let same : record {
 } ≡ l = cc in ap (λ (m : Listing). Some (Done (entered m n))) same
 entry_next (Done k) l n e = absurd cc
 
--- a draft that is not in a block
+-- outside a block, the line of a code type is allowed: it ends the draft so far and begins a new code type
 type_next : (t : tables.Draft) (d : Draft) (l : Listing) (i m : ℕ) → is_block t.place ≡ false → Holds t d → shut d
     ≡ Some l → (next d (lines.Type i m) ≡ Some (InType l.cells l.nodes l.types (fresh_type i m))) × (l.parts ≡ [])
 type_next t (Start cs ns) l i m b h e = let same : record { cells = cs; nodes = ns; types = []; parts = []; entry = 0 }

@@ -26,7 +26,7 @@ use Rattle.ft_asm.proofs.Texts.{text_says}
 
 -- LISTS
 
--- what two lists of lines say, one after the other
+-- two lists of lines together say what the first says, followed by what the second says
 pub said_on : (xs ys : List (List ℕ)) → said_in (xs ++ ys) ≡ said_in xs ++ said_in ys
 said_on [] ys = refl
 said_on (x ∷ xs) ys = ap (with_said (words_of x)) (said_on xs ys)
@@ -77,7 +77,7 @@ pub lines_free : (text : List ℕ) → HaveNoFeed (lines_of text)
 lines_free [] = tt
 lines_free (b ∷ bs) = lines_step (b == 10) b (lines_of bs) refl (lines_free bs)
 
--- lines with their line feeds
+-- the lines, each with its line feed
 abbrev fed : List ℕ → List ℕ
 fed line = line ++ codes "\n"
 
@@ -277,7 +277,7 @@ lead_more texts d e line l h t f n =
           ∙ ap (option_and_then (λ f. walk f [])) n;
     }
 
--- lines that complete the text, and the listing of the completed text
+-- lines that complete a draft, and the listing that results
 finish : (d : Draft) → (ls : List Line) × ((l : Listing) × (walk d ls ≡ Some (Done l))) × AllByRecursion FitsLine ls
 finish (Start cs ns) = (
   lines.Entry 0 ∷ [],

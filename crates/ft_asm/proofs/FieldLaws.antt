@@ -64,7 +64,7 @@ unfolding below
 below_complete limit n le lt = ap (option_and_then (if_below limit)) (number_complete n (omega arith))
     ∙ ap (λ t. if t then Some n else None) (lt-ltb n limit lt)
 
--- numbers below a limit
+-- a number below a limit is read from its decimal digits, and from no other word
 pub number_field : (limit : ℕ) → limit ≤ 2 ^ 64 → IsField (below limit) decimal (λ n. n < limit)
 number_field limit le = record { sound = below_sound limit; complete = λ n h. below_complete limit n le h }
 

@@ -38,7 +38,7 @@ use Rattle.ft_asm.proofs.FieldLaws.{op_field, rows_sound, rows_complete}
 use Rattle.ft_asm.proofs.RowLaws.{made_sound, taken_again, made_again, row_at, IsRight, Begins, row_sound, among_sound}
 use Rattle.ft_asm.proofs.Texts.{AreWords, first_is_word, shape_begins, shape_operands, instr_operands, line_operands}
 
--- no word is left after a line
+-- if `ended` returns a line, it is the given one, and no word is left
 ended_is : (line : Line) (ws : List (List ℕ)) (l : Line) → ended line ws ≡ Some l → (line ≡ l) × (ws ≡ [])
 ended_is line [] l e = (cc, refl)
 ended_is line (w ∷ ws) l e = absurd cc

@@ -26,7 +26,7 @@ use Rattle.ft_asm.proofs.LawfulLines.{cell_fits, type_fits, AllShown, all_shown}
 -- BLOCKS
 
 module _ (is : List Instr) (substs : List ℕ) where
-  -- where a block's instructions end
+  -- a block's instructions end no earlier than they begin, and within the code
   ends_within : (least : ℕ) (b : Block) (bs : List Block) → AreBlocks (length is) least (b ∷ bs) →
       (b.start ≤ begins_at (length is) bs) × (begins_at (length is) bs ≤ length is)
   ends_within least b [] h = (let low = h.1 in omega arith, omega arith)
@@ -74,7 +74,7 @@ module _ (is : List Instr) (substs : List ℕ) where
 
 -- OBJECTS
 
--- the parts of all blocks, the first of which begins at instruction 0
+-- if the first block begins at instruction 0, the parts of all blocks contain all instructions and give the blocks back
 parts_all : (is : List Instr) (substs : List ℕ) (bs : List Block) → BeginAtZero bs → AreBlocks (length is) 0 bs →
     (flat_map codes_of (parts_of is substs bs) ≡ map (code_of substs) is) × (blocks_from 0 (parts_of is substs bs) ≡ bs)
 parts_all is substs [] z h = absurd z

@@ -27,7 +27,7 @@ by_next : (xs ys : List Line) (o : Option Draft) →
 by_next xs ys None h = refl
 by_next xs ys (Some e) h = h e
 
--- walking two lists of lines, one after the other
+-- walking a concatenation is walking the first list, then the second from where the first leads
 pub walk-append : (d : Draft) (xs ys : List Line) → walk d (xs ++ ys) ≡ option_and_then (λ e. walk e ys) (walk d xs)
 walk-append d [] ys = refl
 walk-append d (x ∷ xs) ys = by_next xs ys (next d x) (λ e. walk-append e xs ys)
@@ -63,7 +63,7 @@ module _ (cs : List Cell) (ns : List Node) where
   pends_walked ts t rs qs (p ∷ ps) rest = pends_walked ts t rs (qs ++ p ∷ []) ps rest
       ∙ ap (λ xs. walk (InType cs ns ts (rows_are t rs xs)) rest) (append_assoc qs (p ∷ []) ps)
 
-  -- the rows of a code type
+  -- the lines of a code type's rows lead from the code type without rows to the whole code type
   type_walked : (ts : List CodeType) (t : CodeType) (rest : List Line) →
       walk (InType cs ns ts (fresh_type t.ints t.memory)) ((map lines.Reg t.regs ++ map pend_line t.queue) ++ rest)
       ≡ walk (InType cs ns ts t) rest
@@ -95,7 +95,7 @@ module _ (cs : List Cell) (ns : List Node) where
   codes_walked ts ps b is (j ∷ js) rest = codes_walked ts ps b (is ++ j ∷ []) js rest
       ∙ ap (λ xs. walk (InBlock cs ns ts ps (record { code_type = b; codes = xs })) rest) (append_assoc is (j ∷ []) js)
 
-  -- blocks after a block, and the entry block
+  -- from a block, the lines of more blocks and of the entry block lead to the complete listing
   more_parts_walked : (ts : List CodeType) (ps : List Part) (p : Part) (qs : List Part) (b : ℕ) →
       walk (InBlock cs ns ts ps p) (flat_map part_lines qs ++ lines.Entry b ∷ [])
       ≡ Some (Done (record { cells = cs; nodes = ns; types = ts; parts = ps ++ p ∷ qs; entry = b }))
@@ -108,7 +108,7 @@ module _ (cs : List Cell) (ns : List Node) where
       ∙ ap (λ xs. Some (Done (record { cells = cs; nodes = ns; types = ts; parts = xs; entry = b })))
       (append_assoc ps (p ∷ []) (q ∷ qs))
 
-  -- blocks after the start
+  -- likewise from the start
   start_parts_walked : (qs : List Part) (b : ℕ) → walk (Start cs ns) (flat_map part_lines qs ++ lines.Entry b ∷ [])
       ≡ Some (Done (record { cells = cs; nodes = ns; types = []; parts = qs; entry = b }))
   start_parts_walked [] b = refl
@@ -118,7 +118,7 @@ module _ (cs : List Cell) (ns : List Node) where
       ∙ codes_walked [] [] q.code_type [] q.codes (flat_map part_lines qs ++ lines.Entry b ∷ [])
       ∙ more_parts_walked [] [] q qs b
 
-  -- blocks after a code type
+  -- likewise from a code type
   type_parts_walked : (ts : List CodeType) (t : CodeType) (qs : List Part) (b : ℕ) →
       walk (InType cs ns ts t) (flat_map part_lines qs ++ lines.Entry b ∷ [])
       ≡ Some (Done (record { cells = cs; nodes = ns; types = ts ++ t ∷ []; parts = qs; entry = b }))
@@ -149,7 +149,7 @@ module _ (cs : List Cell) (ns : List Node) where
       ∙ more_types_walked [] t ts rest
       ∙ led_parts_walked [] t ts qs b
 
--- the lines of a listing lead to it
+-- the lines of a listing lead to that listing
 pub walked : (l : Listing) → walk (Start [] []) (listing_lines l) ≡ Some (Done l)
 walked l =
     cells_walked [] l.cells (map lines.Node l.nodes
@@ -158,7 +158,7 @@ walked l =
     ++ (flat_map part_lines l.parts ++ lines.Entry l.entry ∷ []))
     ∙ types_walked l.cells l.nodes l.types l.parts l.entry
 
--- lines are those of at most one listing
+-- two listings with the same lines are equal
 pub one_listing : (l m : Listing) → listing_lines l ≡ listing_lines m → l ≡ m
 one_listing l m e = let both : Some (Done l) ≡ Some (Done m) = sym (walked l) ∙ ap (walk (Start [] [])) e ∙ walked m in
     let same : Done l ≡ Done m = cc in cc

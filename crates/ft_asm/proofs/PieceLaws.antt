@@ -48,7 +48,7 @@ range_step xs i end x lt e =
     let some : end - i ≡ suc (end - suc i) = omega arith in
     ap (take (end - i)) (drop_there xs i x e) ∙ ap (λ n. take n (x ∷ drop (suc i) xs)) some
 
--- after writing one more piece of a range
+-- after one more piece of a range is written, the text so far and the pieces left still make up the whole
 pub range_goes : {A : Type 0} (text : A → List ℕ) (xs : List A) (i end : ℕ) (x : A) (old new all : List ℕ) → i < end →
     slice_get xs i ≡ Some x → new ≡ old ++ text x → old ++ flat_map text (slice_range xs i end) ≡ all → new
     ++ flat_map text (slice_range xs (i + 1) end) ≡ all
@@ -59,7 +59,7 @@ range_goes text xs i end x old new all lt is e h =
     ∙ ap (λ k. old ++ (text x ++ flat_map text (slice_range xs k end))) next
     ∙ ap (λ l. old ++ flat_map text l) (sym (range_step xs i end x lt is)) ∙ h
 
--- after writing all of a range
+-- after all of a range is written, the text so far is the whole
 pub range_ends : {A : Type 0} (text : A → List ℕ) (xs : List A) (i end : ℕ) (old all : List ℕ) → end ≤ i → old
     ++ flat_map text (slice_range xs i end) ≡ all → old ≡ all
 range_ends text xs i end old all le h =
@@ -68,7 +68,7 @@ range_ends text xs i end old all le h =
 
 -- INSTRUCTIONS
 
--- a word, then rows
+-- a word and rows, joined by spaces, are the word and then each row after a space
 spaced_rows : (w : List ℕ) (rows : List ℕ) → spaced (w ∷ map decimal rows) ≡ w ++ flat_map row_text rows
 spaced_rows w [] = sym (append-nil w)
 spaced_rows w (n ∷ ns) =
@@ -76,7 +76,7 @@ spaced_rows w (n ∷ ns) =
     ∙ append_assoc w (codes " ") (decimal n ++ flat_map row_text ns)
     ∙ ap (λ l. w ++ l) (sym (append_assoc (codes " ") (decimal n) (flat_map row_text ns)))
 
--- several words, then rows
+-- likewise for several words and rows
 words_rows : (w : List ℕ) (ws : List (List ℕ)) (rows : List ℕ) → spaced (w ∷ (ws ++ map decimal rows))
     ≡ spaced (w ∷ ws) ++ flat_map row_text rows
 words_rows w [] rows = spaced_rows w rows
@@ -87,7 +87,7 @@ apart_form : (i : Instr) → instr_form i ≡ instr_form (placed 0 0 i)
 apart_form (instrs.JmpB rd s) = refl
 apart_form i = refl
 
--- the words of an instruction, then the rows of its substitution
+-- writing the words of an instruction, then the rows of its substitution, writes its line without the line feed
 pub instr_put : (old a b substs : List ℕ) (i : Instr) (s : Option Subst) → s ≡ subst_of i → a ≡ old
     ++ spaced (form_words (instr_form i)) → b ≡ a ++ flat_map row_text (rows_in substs s)
     → b ≡ old ++ spaced (code_words (code_of substs i))
@@ -137,7 +137,7 @@ pub cell_at : (cs : List Cell) (k : ℕ) (head : CellHead) (name : List ℕ) →
     ≡ Some (record { name = name; basic = head.basic; init = head.init })
 cell_at cs k head name e f = cell_is (slice_get cs k) head name e f
 
--- the head of a code type
+-- the head that was found is that of the code type
 pub head_at : (o : Object) (t : ℕ) (u : CodeType) (head : TypeHead) → slice_get o.types t ≡ Some u →
     option_map type_head_of (slice_get o.types t) ≡ Some head → head ≡ type_head_of u
 head_at o t u head e f = let both : Some (type_head_of u) ≡ Some head = ap (option_map type_head_of) (sym e) ∙ f in cc
@@ -149,7 +149,7 @@ regs_at o t u e = ap (λ x. unwrap_or (option_map regs_of x) []) e
 pub queue_at : (o : Object) (t : ℕ) (u : CodeType) → slice_get o.types t ≡ Some u → queue_rows o t ≡ u.queue
 queue_at o t u e = ap (λ x. unwrap_or (option_map queue_of x) []) e
 
--- the lines of a code type
+-- the text of a code type consists of its own line, then those of its register rows and of its queue rows
 pub type_pieces : (u : CodeType) → line_text (lines.Type u.ints u.memory)
     ++ (flat_map reg_text u.regs ++ flat_map pend_text u.queue) ≡ type_text u
 type_pieces u =
@@ -158,7 +158,7 @@ type_pieces u =
     ∙ ap (λ l. flat_map line_text (map lines.Reg u.regs) ++ l) (sym (flat_of_map pend_line u.queue))
     ∙ sym (flat_map-append line_text (map lines.Reg u.regs) (map pend_line u.queue)))
 
--- how many rows it has
+-- the head of a code type counts its register rows and its queue rows
 pub regs_count : (o : Object) (t : ℕ) (head : TypeHead) → t < length o.types →
     option_map type_head_of (slice_get o.types t) ≡ Some head → head.regs ≡ length (reg_rows o t)
 regs_count o t head lt e =
@@ -171,7 +171,7 @@ queue_count o t head lt e =
     let u = there_below o.types t lt in
     ap (λ (h : TypeHead). h.queue) (head_at o t u.0 head u.1 e) ∙ ap length (sym (queue_at o t u.0 u.1))
 
--- after writing its lines
+-- writing these lines one after the other writes the text of the code type
 pub type_put : (old a b c : List ℕ) (o : Object) (t : ℕ) (head : TypeHead) (u : CodeType) → slice_get o.types t
     ≡ Some u → option_map type_head_of (slice_get o.types t) ≡ Some head → a ≡ old
     ++ line_text (lines.Type head.ints head.memory)
@@ -189,7 +189,7 @@ type_put old a b c o t head u is e p q r =
 
 -- BLOCKS
 
--- where blocks end
+-- blocks end within the code
 ends_at : (end least : ℕ) (bs : List Block) (b : ℕ) (x : Block) → AreBlocks end least bs → slice_get bs b ≡ Some x →
     begins_at end (drop (suc b) bs) ≤ end
 ends_at end least [] b x h e = absurd cc
@@ -204,7 +204,7 @@ block_ends o h b x e =
     subst (λ n. begins_at (length o.instrs) (drop n o.blocks) ≤ length o.instrs) next
     (ends_at (length o.instrs) 0 o.blocks b x h.blocks e)
 
--- where a block begins, or the end
+-- block n begins where the blocks from number n on begin; past the last block, that is the end
 pub begins_next : (end : ℕ) (bs : List Block) (n : ℕ) (x : Block) → slice_get bs n ≡ Some x → x.start
     ≡ begins_at end (drop n bs)
 begins_next end bs n x e = ap (begins_at end) (sym (drop_there bs n x e))
@@ -215,7 +215,7 @@ begins_last end [] (suc n) le = refl
 begins_last end (b ∷ bs) zero le = absurd (omega arith)
 begins_last end (b ∷ bs) (suc n) le = begins_last end bs n (omega arith)
 
--- the lines of a block
+-- the text of a block consists of its own line, then those of its instructions
 pub part_pieces : (o : Object) (b : Block) (bs : List Block) → line_text (lines.Block b.code_type)
     ++ flat_map (instr_text o.substs) (slice_range o.instrs b.start (begins_at (length o.instrs) bs))
     ≡ part_text (part_of o b bs)
@@ -227,7 +227,7 @@ part_pieces o b bs = ap (λ l. line_text (lines.Block b.code_type)
     codes_text [] = refl
     codes_text (i ∷ is) = ap (λ l. instr_text o.substs i ++ l) (codes_text is)
 
--- after writing its lines
+-- writing these lines one after the other writes the text of the block
 pub part_put : (old a c : List ℕ) (o : Object) (b : ℕ) (y x : Block) (end : ℕ) → slice_get o.blocks b ≡ Some x →
     slice_get o.blocks b ≡ Some y → end ≡ begins_at (length o.instrs) (drop (b + 1) o.blocks) → a ≡ old
     ++ line_text (lines.Block y.code_type)
@@ -246,7 +246,7 @@ part_put old a c o b y x end is e at p q =
     rest ∙ ap (λ l. l ++ codes_are) first ∙ append_assoc old own codes_are
     ∙ ap (λ l. old ++ l) (part_pieces o x (drop (b + 1) o.blocks))
 
--- after writing one more block
+-- after one more block is written, the text so far and the blocks left still make up the whole
 pub part_goes : (o : Object) (b : ℕ) (x : Block) (old new all : List ℕ) → slice_get o.blocks b ≡ Some x → new ≡ old
     ++ part_text (part_of o x (drop (b + 1) o.blocks))
     → old ++ flat_map part_text (parts_of o.instrs o.substs (drop b o.blocks)) ≡ all → new
@@ -259,7 +259,7 @@ part_goes o b x old new all is e h =
     ap (λ l. l ++ rest) e ∙ append_assoc old (part_text (part_of o x (drop (b + 1) o.blocks))) rest
     ∙ ap (λ bs. old ++ flat_map part_text (parts_of o.instrs o.substs bs)) (sym first) ∙ h
 
--- after writing all blocks
+-- after all blocks are written, the text so far is the whole
 pub part_ends : (o : Object) (b : ℕ) (old all : List ℕ) → length o.blocks ≤ b → old
     ++ flat_map part_text (parts_of o.instrs o.substs (drop b o.blocks)) ≡ all → old ≡ all
 part_ends o b old all le h = sym (append-nil old) ∙ ap (λ bs. old ++ flat_map part_text (parts_of o.instrs o.substs bs))
@@ -273,7 +273,7 @@ part_ends o b old all le h = sym (append-nil old) ∙ ap (λ bs. old ++ flat_map
 
 -- OBJECTS
 
--- the text of an object
+-- the text of an object consists of those of its cells, nodes, code types and blocks, and the line of the entry block
 pub text_pieces : (o : Object) → flat_map cell_text o.cells
     ++ (flat_map node_text o.nodes ++ (flat_map type_text o.types
     ++ (flat_map part_text (parts_of o.instrs o.substs o.blocks) ++ line_text (lines.Entry o.entry)))) ≡ text_of o
@@ -308,7 +308,7 @@ text_pieces o =
     ∙ ap (λ l. flat_map cell_text o.cells ++ l) n
     ∙ c
 
--- five pieces, written one after the other
+-- five pieces, written one after the other, make up the whole
 pub five : (a b c d e all p q r s t : List ℕ) → a ≡ [] ++ p → b ≡ a ++ q → c ≡ b ++ r → d ≡ c ++ s → e ≡ d ++ t → p
     ++ (q ++ (r ++ (s ++ t))) ≡ all → e ≡ all
 five a b c d e all p q r s t pa pb pc pd pe h =

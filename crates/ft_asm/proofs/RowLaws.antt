@@ -136,7 +136,7 @@ row_at [] w other = other
 row_at (r ∷ rs) w other = if bytes_eq w r.first then r else row_at rs w other
 
 module _ {A : Type 0} (form_of : A → Form) (Also : A → Type 0) where
-  -- what a row makes has the form of its first word and its operands, and `Also` holds of it
+  -- the value that a row makes has the form of its first word and its operands, and satisfies `Also`
   abbrev pub IsRight : Row A → Type 0
   IsRight r = (vs : Values r.kinds) → (form_of (with_values r.kinds r.made vs) ≡ form r.first (operands_of r.kinds vs))
       × Also (with_values r.kinds r.made vs)

@@ -138,7 +138,7 @@ cells_weigh : (cs : List Cell) → all_weights (map lines.Cell cs) ≡ length cs
 cells_weigh [] = omega arith
 cells_weigh (c ∷ cs) = let rest = cells_weigh cs in let long = length-append c.name (flat_map name_of cs) in omega arith
 
--- lines that weigh 1 each
+-- if each line weighs 1, the lines weigh as much as there are lines
 plain_weigh : {A : Type 0} (f : A → Line) → ((x : A) → weight (f x) ≡ 1) → (xs : List A) → all_weights (map f xs)
     ≡ length xs
 plain_weigh f one [] = omega arith

@@ -141,7 +141,7 @@ instr_begins i = refl
 
 -- OPERANDS
 
--- the operands of a node fit, and those of an instruction
+-- the operands of a node that fits fit, and so do those of an instruction
 pub shape_operands : (shape : Shape) → FitsShape shape → FitsOperands (shape_form shape)
 shape_operands (shapes.Op op a b) h = assumption
 shape_operands shape h = assumption

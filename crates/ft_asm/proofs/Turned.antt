@@ -78,7 +78,7 @@ module _ (text : List ℕ) (number : ℕ) (before after : List (List ℕ)) (line
       let form = line_sound (words_of line) (words_are line (free_line text before after line split).1) l e in
       record { stop = stops; form = l; is_form = form; none = stuck before d line l lead said form n }
 
--- one more line
+-- if the lines before a line lead to d, and the line leads from d to e, then all of them lead to e
 pub lead_on : (text : List ℕ) (before after : List (List ℕ)) (line : List ℕ) (d e : Draft) → lines_of text ≡ before
     ++ line ∷ after → Lead before d → Leads d line e → Lead (before ++ line ∷ []) e
 lead_on text before after line d e split lead (inl silent) =
@@ -87,7 +87,7 @@ lead_on text before after line d e split lead (inr more) =
     lead_more before d e line more.0 lead more.1 (line_sound (words_of line)
     (words_are line (free_line text before after line split).1) more.0 more.2) more.3
 
--- after the last line
+-- if the draft after the last line gives an object, the text reads as that object
 pub ends_reads : (text : List ℕ) (o : Object) (d : Draft) → Lead (lines_of text) d → Ends (Some o) d → Reads text o
 ends_reads text o (Start cs ns) h e = absurd e
 ends_reads text o (InType cs ns ts t) h e = absurd e
@@ -108,7 +108,7 @@ ends_lacks text number d here h e = record {
   none = open_reads text d h (not_done d e);
 }
 
--- all lines were read
+-- if nothing is left of the text, its lines are those before
 pub all_read : (text rest : List ℕ) (before : List (List ℕ)) → lines_of text ≡ before ++ lines_of rest → rest ≡ [] →
     lines_of text ≡ before
 all_read text rest before e f = e ∙ ap (λ r. before ++ lines_of r) f ∙ append-nil before

@@ -87,7 +87,7 @@ some_step : (t : Bool) (p : ℕ) → t ≡ false → 0 < cond (not t) (1 + p) 0
 some_step true p e = absurd cc
 some_step false p e = omega arith
 
--- a word that ends at a blank
+-- if the first word ends at a blank, the words of the text are this word and those after the blank
 pub word_ends : (text : List ℕ) (x : ℕ) (xs : List ℕ) (at : ℕ) → text ≡ x ∷ xs → is_blank x ≡ false →
     position is_blank text ≡ Some at → words_of text
     ≡ take at text ∷ words_of (take (length text - (at + 1)) (drop (at + 1) text))
@@ -104,7 +104,7 @@ word_ends text x xs at e f g =
     ∙ kept_word (take at text) (words_of (drop (at + 1) text)) (omega arith)
     ∙ ap (λ l. take at text ∷ words_of l) (sym (take_rest text (at + 1)))
 
--- a word that ends with the text
+-- a text without a blank is one word
 pub word_only : (text : List ℕ) (x : ℕ) (xs : List ℕ) → text ≡ x ∷ xs → position is_blank text ≡ None → words_of text
     ≡ text ∷ words_of []
 word_only text x xs e g =

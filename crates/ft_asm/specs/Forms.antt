@@ -138,7 +138,7 @@ row first kinds made = record { first = first; kinds = kinds; made = made }
 abbrev pub row_in : {A : Type 0} → Row A → List (List ℕ) → Option (A × List (List ℕ))
 row_in r words = made_in r.kinds r.made words
 
--- what `read` gives for the row with this first word, or `other` if there is none
+-- the result of `read` for the row with this first word, or `other` if there is none
 abbrev pub among : {A B : Type 0} → List (Row A) → (Row A → Option B) → List ℕ → Option B → Option B
 among [] read word other = other
 among (r ∷ rs) read word other = if bytes_eq word r.first then read r else among rs read word other

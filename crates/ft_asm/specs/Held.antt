@@ -30,7 +30,7 @@ pub record IsTables (t : tables.Draft) (cs : List Cell) (ns : List Node) (ts : L
   pub instrs : t.instrs.items ≡ instrs_from 0 (flat_map codes_of ps)
   pub substs : t.substs.items ≡ flat_map rows_of (flat_map codes_of ps)
 
--- the rows of the last code type are these
+-- these are the rows of the last code type
 pub record AreRows (t : tables.Draft) (u : CodeType) : Type 0 where
   pub regs : t.regs.items ≡ u.regs
   pub queue : t.queue.items ≡ u.queue
@@ -47,24 +47,24 @@ Holds t (InType cs ns ts u) = (t.place ≡ places.InType u.ints u.memory) × Are
 Holds t (InBlock cs ns ts ps p) = (t.place ≡ places.InBlock) × HasNoRows t × IsTables t cs ns ts (ps ++ p ∷ [])
 Holds t (Done l) = (t.place ≡ places.Done l.entry) × HasNoRows t × IsTables t l.cells l.nodes l.types l.parts
 
--- the tables hold what the lines and one more say, or the new line is not allowed there
+-- the tables hold what the lines so far and this one say, or this line is not allowed there
 abbrev pub Adds : Bool → tables.Draft → Draft → Line → Type 0
 Adds true t d line = (e : Draft) × (next d line ≡ Some e) × Holds t e
 Adds false t d line = next d line ≡ None
 
--- the listing if it ends here, without its entry block
+-- the listing of a draft that ends here, without an entry block; none if the draft is done
 abbrev pub shut : Draft → Option Listing
 shut (Start cs ns) = Some (record { cells = cs; nodes = ns; types = []; parts = []; entry = 0 })
 shut (InType cs ns ts u) = Some (record { cells = cs; nodes = ns; types = ts ++ u ∷ []; parts = []; entry = 0 })
 shut (InBlock cs ns ts ps p) = Some (record { cells = cs; nodes = ns; types = ts; parts = ps ++ p ∷ []; entry = 0 })
 shut (Done l) = None
 
--- the tables are those of the listing if it ends here, or the draft is done
+-- the tables are those of the listing that ends here, or the draft is done
 abbrev pub Closes : Bool → tables.Draft → Draft → Type 0
 Closes true t d = (l : Listing) × (shut d ≡ Some l) × HasNoRows t × IsTables t l.cells l.nodes l.types l.parts
 Closes false t d = shut d ≡ None
 
--- the rows of this instruction were appended, and this is the instruction that refers to them
+-- the tables after the rows of an instruction are appended, and the instruction that refers to these rows
 pub record PutsCode (t u : tables.Draft) (code : Code) (i : Instr) : Type 0 where
   pub place : u.place ≡ t.place
   pub rows_kept : HasNoRows t → HasNoRows u
@@ -76,7 +76,7 @@ pub record PutsCode (t u : tables.Draft) (code : Code) (i : Instr) : Type 0 wher
   pub substs : u.substs.items ≡ t.substs.items ++ rows_of code
   pub instr : i ≡ instr_at (length t.substs.items) code
 
--- the object of a draft that is done
+-- the object of a draft that is done; none for any other draft
 abbrev pub Ends : Option Object → Draft → Type 0
 Ends (Some o) (Done l) = o ≡ object_of l
 Ends (Some o) d = ⊥

@@ -51,16 +51,16 @@ listing_lines l = map lines.Cell l.cells ++ (map lines.Node l.nodes ++ (flat_map
 abbrev pub rows_of : Code → List ℕ
 rows_of code = code.rows
 
--- the instruction that a line gives, after this many substitution rows
+-- the instruction on a line, if this many substitution rows come before its own
 abbrev pub instr_at : ℕ → Code → Instr
 instr_at first code = placed first (first + length code.rows) code.instr
 
--- the instructions that lines give, after this many substitution rows
+-- the instructions on lines, if this many substitution rows come before theirs
 abbrev pub instrs_from : ℕ → List Code → List Instr
 instrs_from first [] = []
 instrs_from first (code ∷ codes) = instr_at first code ∷ instrs_from (first + length (rows_of code)) codes
 
--- the blocks of these parts, after this many instructions
+-- the blocks of these parts, if this many instructions come before them
 abbrev pub blocks_from : ℕ → List Part → List Block
 blocks_from start [] = []
 blocks_from start (p ∷ ps) = record { start = start; code_type = p.code_type } ∷ blocks_from (start + length p.codes) ps

@@ -32,7 +32,7 @@ pend_text q = line_text (pend_line q)
 abbrev pub type_text : CodeType → List ℕ
 type_text t = flat_map line_text (type_lines t)
 
--- the line of an instruction with its rows, and of an instruction whose rows are among these
+-- the line of an instruction with its rows, and of an instruction whose rows are taken from these
 abbrev pub code_text : Code → List ℕ
 code_text c = line_text (lines.Code c)
 

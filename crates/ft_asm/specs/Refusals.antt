@@ -30,7 +30,7 @@ abbrev pub Gives : Result objects.Object AsmError → Answer → Type 0
 Gives (Ok object) answer = Is object ≡ answer
 Gives (Err error) answer = IsError error answer
 
--- bytes that spell, in version 2 of the format, the object that the text reads as
+-- these bytes spell, in version 2 of the format, the object that the text reads as
 pub record IsAssembly (text bytes : List ℕ) : Type 0 where
   pub object : objects.Object
   pub reads : Applies text (Is object)

@@ -15,7 +15,7 @@ pub enum AsmError {
     /// The text has more than 134,217,728 bytes.
     #[error("asm 3 134217728")]
     TooLong,
-    /// This is the first rule of the object format that the spelling of the tables breaks.
+    /// The spelling of the tables breaks a rule of the object format; this is the first one that it breaks.
     #[error("{0}")]
     Object(ObjectError),
     /// Memory ran out.

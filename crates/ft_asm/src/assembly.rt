@@ -104,8 +104,8 @@ fn assemble_whole(alloc: Global, text: &[u8]) -> Result<Assembled, AsmError>
 }
 
 /// Returns the object that a text reads as, or why the text is refused: its length, the first line at fault or missing,
-/// or the first rule of the format that the spelling of its tables breaks, with its place. It also fails if memory runs
-/// out. It makes one pass over the text, and its memory use grows with the text's tables.
+/// or the first rule of the format that the spelling of its tables breaks, and where. It also fails if memory runs out.
+/// It makes one pass over the text, and its memory use grows with the text's tables.
 pub fn assemble(alloc: Global, text: &[u8]) -> Result<Object, AsmError>
     // The result is the object that the text reads as, and it obeys the rules.
     ensures reads { IfOk result (λ object. Applies text.now (Is object)) }

@@ -204,7 +204,7 @@ impl Draft {
         Ok(true)
     }
 
-    /// Appends the rows of an instruction's line, and returns the instruction with their bounds.
+    /// Appends the rows of an instruction's line, and returns the instruction with the bounds of these rows.
     fn placed(&mut self, code: Code) -> Result<Instr, NoMemory>
         ensures { IfOk result (PutsCode self.old self.new code) }
     {

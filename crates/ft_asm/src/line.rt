@@ -3,8 +3,8 @@ use ft_isa::Instr;
 use ft_static::Node;
 use ft_types::{Cell, RegType, Table};
 
-/// An instruction as its line gives it. The rows of its substitution are nodes, kept in `rows`, so `first` and `past`
-/// in `instr` are 0.
+/// An instruction as its line spells it. The rows of its substitution are the node numbers in `rows`, so `first` and
+/// `past` in `instr` are 0.
 #[derive(Drop)]
 pub struct Code {
     pub instr: Instr,

@@ -32,7 +32,7 @@ line_there xs vs i x v d lt long ex ev =
     ∙ ap (λ l. take i (verdict_lines xs vs) ++ l ∷ drop (suc i) (verdict_lines xs vs))
     (line_is xs vs i x v d lt long ex ev)
 
--- one more line
+-- with one more line, the first i lines become the first i + 1
 pub line_next : (xs : List Strike) (vs : List Verdict) (i : ℕ) (x : Strike) (v d : Verdict) → i < length xs → length vs
     ≡ length xs → x ≡ get_or xs i x → v ≡ get_or vs i d
     → take (i + 1) (verdict_lines xs vs) ≡ take i (verdict_lines xs vs) ++ verdict_line x v ∷ []
@@ -40,7 +40,7 @@ line_next xs vs i x v d lt long ex ev =
     take_more (verdict_lines xs vs) i (verdict_line x v) (let h = lines_long xs vs long in omega arith)
     ∙ ap (λ l. take i (verdict_lines xs vs) ++ l ∷ []) (line_is xs vs i x v d lt long ex ev)
 
--- all lines
+-- the first i lines are all lines once i reaches the number of faults
 pub all_lines : (xs : List Strike) (vs : List Verdict) (i : ℕ) → length vs ≡ length xs → length xs ≤ i →
     take i (verdict_lines xs vs) ≡ verdict_lines xs vs
 all_lines xs vs i long le = take_all i (verdict_lines xs vs) (let h = lines_long xs vs long in omega arith)

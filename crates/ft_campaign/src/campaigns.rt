@@ -22,7 +22,7 @@ const PRODUCT_LIMIT: u64 = 1_000_000_000;
 
 /// Runs a program without a fault and under each fault, each time for at most `n` steps and with the same answers to
 /// wild loads. Writes a line for the verdict of each fault, in the list's order, and then a line of totals. `steps`
-/// counts the machine's steps. Returns `TooMuch` exactly if the number of faults times `n` is above 1,000,000,000; if
+/// counts the machine's steps. Returns `TooMuch` exactly when the number of faults times `n` is above 1,000,000,000; if
 /// it returns this or `NoMemory`, nothing was put. Returns `WriteFault` only if a put failed; nothing is put after
 /// that.
 pub fn survey<P: Program, K: Sink, L: Ledger>(

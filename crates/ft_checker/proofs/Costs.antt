@@ -18,7 +18,7 @@ use Rattle.ft_rules.specs.Answers.{rule_cost}
 use Rattle.ft_checker.specs.Costs.{transfers, transfer_count, most_updates, check_cost, visit_cost, walk_cost}
 use Rattle.ft_checker.specs.Costs.{instrs_cost}
 
--- up to 210 trees, over a memory of at most as many updates as there are nodes
+-- up to 210 trees, over a memory with at most as many updates as there are nodes, cost no more than `visit_cost`
 trees_within : (o : Object) (n u : ℕ) → n ≤ 210 → u ≤ length o.nodes → n * tree_cost o u ≤ visit_cost o
 unfolding tree_cost visit_cost
 trees_within o n u l m =
@@ -28,11 +28,11 @@ trees_within o n u l m =
     let c : 210 * (N * (1 + most_updates o)) ≡ 210 * N * (1 + most_updates o) = omega arith in
     omega (arith, a, b, c)
 
--- the cost of a block's start
+-- the 81 trees of a block's start cost no more than `visit_cost`
 pub start_within : (o : Object) (s t : ℕ) → t ≤ s + 81 * tree_cost o 0 → t ≤ s + visit_cost o
 start_within o s t h = let a = trees_within o 81 0 (omega arith) (omega arith) in omega (arith, h, a)
 
--- the cost of a row
+-- a row costs no more than the bound for its instruction
 pub rule_within : (o : Object) (k : Context) (i : Instr) → updates k.memory ≤ length o.nodes + length o.instrs →
     length k.queue ≤ 8 → rule_cost o k i ≤ transfers i * visit_cost o + walk_cost o
 unfolding walk_cost
@@ -43,14 +43,14 @@ rule_within o k (BzB rz rd subst) m q = let a = trees_within o 210 (length o.nod
     omega (arith, a)
 rule_within o k i m q = omega arith
 
--- one more instruction
+-- one more instruction adds its own cost
 cost_push : (o : Object) (is : List Instr) (i : Instr) → instrs_cost o (is ++ i ∷ [])
     ≡ instrs_cost o is + (transfers i * visit_cost o + walk_cost o)
 unfolding instrs_cost
 cost_push o [] i = omega arith
 cost_push o (j ∷ is) i = let h = cost_push o is i in omega (arith, h)
 
--- the same for the first k instructions
+-- likewise for the first k instructions and the next one
 pub cost_more : (o : Object) (is : List Instr) (k : ℕ) (i : Instr) → slice_get is k ≡ Some i →
     instrs_cost o (take (k + 1) is) ≡ instrs_cost o (take k is) + (transfers i * visit_cost o + walk_cost o)
 cost_more o is k i e =
@@ -58,7 +58,7 @@ cost_more o is k i e =
     ap (instrs_cost o) (t ∙ ap (λ (j : Instr). take k is ++ j ∷ []) (get_or_from_slice_get is k i i e))
     ∙ cost_push o (take k is) i
 
--- no instructions cost nothing
+-- the cost of an empty list of instructions is 0
 pub none_cost : (o : Object) → instrs_cost o [] ≡ 0
 unfolding instrs_cost
 none_cost o = refl
@@ -76,7 +76,7 @@ cost_rises o (i ∷ is) zero (suc l) h = omega arith
 cost_rises o (i ∷ is) (suc k) zero h = absurd (omega arith)
 cost_rises o (i ∷ is) (suc k) (suc l) h = let r = cost_rises o is k l (omega arith) in omega (arith, r)
 
--- the cost of the first instructions is within that of all
+-- the first instructions cost no more than all
 pub cost_all : (o : Object) (is : List Instr) (k : ℕ) → instrs_cost o (take k is) ≤ instrs_cost o is
 unfolding instrs_cost
 cost_all o [] zero = omega arith
@@ -84,7 +84,7 @@ cost_all o [] (suc k) = omega arith
 cost_all o (i ∷ is) zero = omega arith
 cost_all o (i ∷ is) (suc k) = let r = cost_all o is k in omega (arith, r)
 
--- the cost of instructions, in terms of their number
+-- the cost of instructions, in terms of their number and of the number of blue jumps and branches
 cost_counted : (o : Object) (is : List Instr) → instrs_cost o is
     ≡ transfer_count is * visit_cost o + length is * walk_cost o
 unfolding instrs_cost

@@ -33,7 +33,7 @@ use Rattle.ft_typing.specs.TypingRow.{row}
 use Rattle.ft_typing.specs.RowWords.{Outcome, Goes, Ends, Fails}
 use Rattle.ft_contexts.proofs.Lists.{range_there}
 
--- after a row that continues
+-- after a row that continues, the walk refuses the instruction if it is the last one, and otherwise goes on
 pub on_last : (x : Outcome) (d : Context) (k : ℕ) (others : List Instr) (next : Context → Option (ℕ × Premise)) → x
     ≡ Goes d → has_none others ≡ true → after_row x k others next ≡ Some (k, BlockEnd)
 unfolding after_row
@@ -46,7 +46,7 @@ unfolding after_row
 on_more x d k [] next e h = cc
 on_more x d k (i ∷ is) next e h = rw e refl
 
--- after a row that ends the block
+-- after a row that ends the block, the walk refuses the instruction unless it is the last one
 pub end_last : (x : Outcome) (k : ℕ) (others : List Instr) (next : Context → Option (ℕ × Premise)) → x ≡ Ends →
     has_none others ≡ true → after_row x k others next ≡ None
 unfolding after_row
@@ -59,31 +59,31 @@ unfolding after_row
 end_more x k [] next e h = cc
 end_more x k (i ∷ is) next e h = rw e refl
 
--- after a row that fails
+-- after a row that fails, the walk refuses the instruction, with the failing premise
 pub row_fails : (x : Outcome) (p : Premise) (k : ℕ) (others : List Instr) (next : Context → Option (ℕ × Premise)) → x
     ≡ Fails p → after_row x k others next ≡ Some (k, p)
 unfolding after_row
 row_fails x p k others next e = rw e refl
 
--- an iteration of the walk
+-- one iteration of the walk applies the row of the first instruction
 pub walk_turn : (o : Object) (c : Context) (k : ℕ) (is : List Instr) (i : Instr) (others : List Instr) → is
     ≡ i ∷ others → walk o c k is ≡ after_row (row o c i) k others (λ d. walk o d (suc k) others)
 unfolding walk
 walk_turn o c k is i others e = rw e refl
 
--- no instruction
+-- with no instruction left, the walk refuses: the block has not ended
 pub walk_none : (o : Object) (c : Context) (k : ℕ) (is : List Instr) → is ≡ [] → walk o c k is ≡ Some (k, BlockEnd)
 unfolding walk
 walk_none o c k is e = rw e refl
 
--- an iteration of the search for the first refusal
+-- one iteration of the search for the first refusal
 pub first_turn : {X : Type 0} (refuse : ℕ → X → Option Refusal) (k : ℕ) (xs : List X) (x : X) → slice_get xs k
     ≡ Some x → first_refusal refuse k (drop k xs) ≡ option_or (refuse k x)
     (first_refusal refuse (k + 1) (drop (k + 1) xs))
 unfolding first_refusal
 first_turn refuse k xs x e = let n : k + 1 ≡ suc k = omega arith in rw (drop_next xs k x e, n) refl
 
--- nothing is left to refuse
+-- the search ends without a refusal after the last element
 pub first_end : {X : Type 0} (refuse : ℕ → X → Option Refusal) (k : ℕ) (xs : List X) → length xs ≤ k →
     first_refusal refuse k (drop k xs) ≡ None
 unfolding first_refusal
@@ -91,7 +91,7 @@ first_end refuse k xs l = rw (drop_all k xs l) refl
 
 -- CELLS
 
--- a cell whose initial word has its type, and one whose word does not
+-- a cell whose initial word has its type passes, and one whose word does not is refused
 pub cell_passes : (o : Object) (k : ℕ) (x : Cell) (h : CellHead) → cell_head_of x ≡ h → has_type o h.init h.basic
     ≡ true → cell_refusal o k x ≡ None
 cell_passes o k x h same t =
@@ -108,7 +108,7 @@ cell_fails o k x h same t =
 
 -- BLOCKS
 
--- an existing block
+-- there is a block for each number below the number of blocks
 pub block_there : (bs : List Block) (b : ℕ) → b < length bs → (x : Block) × (slice_get bs b ≡ Some x)
 block_there [] b h = absurd (omega arith)
 block_there (x ∷ bs) zero h = (x, refl)
@@ -129,13 +129,13 @@ pub block_ends : (o : Object) (b : ℕ) (x : Block) → IsSpellable o → slice_
     (x.start < block_end o b) × (block_end o b ≤ length o.instrs)
 block_ends o b x h e = ends_after (length o.instrs) 0 o.blocks b x h.blocks e
 
--- an existing instruction
+-- there is an instruction for each number below the number of instructions
 pub instr_there : (is : List Instr) (k : ℕ) → k < length is → (x : Instr) × (slice_get is k ≡ Some x)
 instr_there [] k h = absurd (omega arith)
 instr_there (x ∷ is) zero h = (x, refl)
 instr_there (x ∷ is) (suc k) h = instr_there is k (omega arith)
 
--- whether instructions are left
+-- no instruction is left exactly when `i` has reached `past`
 pub none_left : (xs : List Instr) (i past : ℕ) → i ≤ past → past ≤ length xs → has_none (slice_range xs i past)
     ≡ (i == past)
 none_left xs i past l m = by_test (i == past) refl
@@ -149,21 +149,21 @@ none_left xs i past l m = by_test (i == past) refl
 
 -- ANSWERS
 
--- the first of two refusals
+-- if the first of two possible refusals is there, it is the one that counts
 pub or_refused : (y z : Option Refusal) (e : CheckError) → IsRefusalOf y e → IsRefusalOf (option_or y z) e
 or_refused y z EntryType h = rw h refl
 or_refused y z (CellType k) h = rw h refl
 or_refused y z (Refused b i why) h = rw h refl
 or_refused y z NoMemory h = tt
 
--- the exit at a refusal
+-- an exit with a refusal names the right one
 pub judges_exit : {A : Type 0} (r : Result A CheckError) (e : CheckError) (x y : Option Refusal) →
     IsErrAnd r (λ f. f ≡ e) → x ≡ y → IsRefusalOf y e → Judges x r
 judges_exit (Ok a) e x y h s k = absurd h
 judges_exit (Err f) e x y h s k = subst (λ (z : CheckError).
     IsRefusalOf x z) (sym h) (subst (λ (z : Option Refusal). IsRefusalOf z e) (sym s) k)
 
--- the exit when out of memory
+-- an exit because memory ran out claims nothing
 pub judges_stop : {A : Type 0} (r : Result A CheckError) (x : Option Refusal) → IsErrAnd r (λ f. f ≡ NoMemory) →
     Judges x r
 judges_stop (Ok a) x h = absurd h
@@ -171,7 +171,7 @@ judges_stop (Err f) x h = subst (λ (z : CheckError). IsRefusalOf x z) (sym h) t
 
 -- THE WALK OF A BLOCK
 
--- the walk from the start of a block
+-- the code begins the walk of a block as defined
 pub walk_begins : (o : Object) (b : ℕ) (y : Block) (past k : ℕ) (c : Context) → slice_get o.blocks b ≡ Some y → past
     ≡ block_end o b → c ≡ start_context o y.code_type → k ≡ 0 → walk o c k (slice_range o.instrs y.start past)
     ≡ walk o (start_context o y.code_type) 0 (block_instrs o b)
@@ -182,14 +182,14 @@ walk_begins o b y past k c f p e z =
     ∙ ap (λ (n : ℕ). walk o (start_context o y.code_type) 0 (slice_range o.instrs y.start n)) p
     ∙ ap (λ (n : ℕ). walk o (start_context o y.code_type) 0 (slice_range o.instrs n (block_end o b))) (sym s)
 
--- the walk at an instruction
+-- the walk at an instruction applies its row, then goes on with the instructions after it
 pub walk_there : (o : Object) (c : Context) (k : ℕ) (xs : List Instr) (i past : ℕ) (x : Instr) → i < past →
     slice_get xs i ≡ Some x → walk o c k (slice_range xs i past)
     ≡ after_row (row o c x) k (slice_range xs (i + 1) past) (λ d. walk o d (suc k) (slice_range xs (i + 1) past))
 walk_there o c k xs i past x l e = walk_turn o c k (slice_range xs i past) x (slice_range xs (i + 1) past)
     (range_there xs i past x l e)
 
--- the walk past the last instruction
+-- past the last instruction, the walk refuses: the block has not ended
 pub walk_past : (o : Object) (c : Context) (k : ℕ) (xs : List Instr) (i past : ℕ) → past ≤ i →
     walk o c k (slice_range xs i past) ≡ Some (k, BlockEnd)
 walk_past o c k xs i past l = walk_none o c k (slice_range xs i past) (range_past xs i past l)
@@ -213,11 +213,11 @@ pub refusal_rest : (o : Object) (t : ℕ) → block_type o o.entry ≡ t → is_
     ≡ option_or (first_refusal (cell_refusal o) 0 o.cells) (first_refusal (block_refusal o) 0 o.blocks)
 refusal_rest o t e h = rw (e, h) refl
 
--- the code type of an existing block
+-- `block_type` is the code type of an existing block
 pub type_found : (o : Object) (b : ℕ) (x : Block) → slice_get o.blocks b ≡ Some x → block_type o b ≡ x.code_type
 type_found o b x f = ap (λ (y : Option Block). unwrap_or (option_map code_type_of y) 0) f
 
--- a start remains one after the list of forms has grown
+-- `IsStart` still holds after the list of forms has grown
 pub start_kept : (o : Object) (fs gs : List Normal) (s : Start) → Keeps fs gs → IsStart o fs s → IsStart o gs s
 start_kept o fs gs s k h =
     let e = context_stays fs gs s.context k h.held in
@@ -231,7 +231,7 @@ start_kept o fs gs s k h =
       count = omega (arith, m, c);
     }
 
--- so does the last start, if there is one
+-- the same for the last start, if there is one
 pub last_kept : (o : Object) (fs gs : List Normal) (x : Option Start) → Keeps fs gs → IfSome x (IsStart o fs) →
     IfSome x (IsStart o gs)
 last_kept o fs gs None k h = tt

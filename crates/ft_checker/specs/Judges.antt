@@ -46,8 +46,8 @@ pub record IsChecked (o : Object) : Type 0 where
   pub spellable : IsSpellable o
   pub accepted : IsAccepted o
 
--- the context of a start is the one with which blocks of its code type begin; its forms are held, its code types are
--- the object's, its queue has at most 8 pairs, and its memory has at most as many updates as there are nodes
+-- a start's context is the one with which blocks of its code type begin; its forms are held, its code types are the
+-- object's, its queue has at most 8 pairs, and its memory has at most as many updates as there are nodes
 pub record IsStart (o : Object) (fs : List Normal) (s : Start) : Type 0 where
   pub context : context_in fs s.context ≡ start_context o s.code_type
   pub held : HoldsForms fs s.context

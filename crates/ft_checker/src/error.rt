@@ -3,9 +3,9 @@ use ft_isa::NoMemory as OutOfMemory;
 use ft_rules::Why;
 use thiserror::Error;
 
-/// Why an object is not accepted: a run may not begin with its entry block's code type; a cell (the lowest such one)
-/// has an initial word of another type; or an instruction is refused, given by its block and its index in the block,
-/// both counted from 0, with its first failing premise. Or memory ran out.
+/// Why an object is not accepted: a run may not begin with its entry block's code type; the initial word of a cell does
+/// not have the cell's type (the lowest such cell is named); or an instruction is refused, given by its block and its
+/// index in the block, both counted from 0, with its first failing premise. Or memory ran out.
 #[derive(Clone, Copy, Debug, PartialEq, Eq, Error)]
 pub enum CheckError {
     #[error("a run cannot begin with the entry block's code type")]

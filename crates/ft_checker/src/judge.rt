@@ -35,11 +35,11 @@ fn judge<P: Program, L: Ledger>(
     check_blocks(alloc, program, steps)
 }
 
-/// Checks a program. Unless memory runs out, it returns Ok exactly if the program's object is accepted, and otherwise
-/// exactly the refusal: first `EntryType`, then `CellType` for the lowest cell whose initial word has another type,
-/// then `Refused` for the first refused instruction, taking the blocks in order. `NoMemory` says nothing about the
-/// object. It counts a step for each node handled, for each update that a `sel` walks past, and for each update applied
-/// for a pending memory.
+/// Checks a program. Unless memory runs out, it returns Ok exactly when the program's object is accepted, and otherwise
+/// the refusal: first `EntryType`, then `CellType` for the lowest cell whose initial word has another type, then
+/// `Refused` for the first refused instruction, taking the blocks in order. `NoMemory` says nothing about the object.
+/// It counts a step for each node handled, for each update that a `sel` walks past, and for each update applied for a
+/// pending memory.
 pub fn check<'a, P: Program, L: Ledger>(
     alloc: Global,
     program: &'a P,

@@ -122,7 +122,7 @@ fn note_type<P: Program>(lanes: &mut Lanes, program: &P, t: u32)
     }
 }
 
-/// Notes the nodes. A large object is mostly nodes, so the lanes are held in registers here.
+/// Notes the nodes. A large object is mostly nodes, so the lanes are kept in processor registers here.
 #[inline(never)]
 fn note_nodes<P: Program>(lanes: Lanes, program: &P) -> Lanes
     requires { IsSpellable (P.object program.now) }

@@ -14,23 +14,23 @@ get_pushed (a ∷ xs) y zero x e P last before = before 0 x e
 get_pushed (a ∷ xs) y (suc k) x e P last before = get_pushed xs y k x e (λ j z. P (suc j) z) last (λ j z f.
     before (suc j) z f)
 
--- the part of a list that begins with an element
+-- the part of a list from an element on is that element followed by the others
 pub range_there : {X : Type 0} (xs : List X) (i j : ℕ) (x : X) → i < j → slice_get xs i ≡ Some x → slice_range xs i j
     ≡ x ∷ slice_range xs (i + 1) j
 range_there xs i j x l e =
     let n : j - i ≡ suc (j - (i + 1)) = omega arith in
     rw (drop_next xs i x e, n) refl
 
--- testing a list whose first element passes
+-- if the first element passes a test, all elements pass exactly when all others do
 pub all_turn : {X : Type 0} (p : X → Bool) (xs ys : List X) (x : X) → xs ≡ x ∷ ys → p x ≡ true → list_all p xs
     ≡ list_all p ys
 all_turn p xs ys x e h = rw (e, h) refl
 
--- testing a list whose first element fails
+-- if the first element fails a test, not all elements pass
 pub all_stop : {X : Type 0} (p : X → Bool) (xs ys : List X) (x : X) → xs ≡ x ∷ ys → p x ≡ false → list_all p xs ≡ false
 all_stop p xs ys x e h = rw (e, h) refl
 
--- one more element is made, and the others remain
+-- moving an element from the front of the second list to the end of the first keeps their concatenation
 pub one_more : {X : Type 0} (made : List X) (x : X) (others : List X) → (made ++ x ∷ []) ++ others ≡ made
     ++ (x ∷ others)
 one_more made x others = append_assoc made (x ∷ []) others

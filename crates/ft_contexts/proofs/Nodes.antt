@@ -19,19 +19,19 @@ use Rattle.ft_contexts.specs.declared.variables.Variables.{Variables}
 use Rattle.ft_contexts.specs.Contexts.{replacement_in, AreOwn}
 use Rattle.ft_contexts.proofs.Kept.{polynomial_found, updates_found}
 
--- the form of an integer node under a substitution
+-- under a substitution, an integer node has the form of an integer
 pub integer_under : (o : Object) (x : Replacement) (scope n : ℕ) → AreNodes o.nodes → IsNodeIn o.nodes scope false n →
     form_under x.integers x.memory (tree_at o.nodes n) ≡ integer_form (integer_form_after o x n)
 unfolding integer_form_after
 integer_under o x scope n h k = ap (form_under x.integers x.memory) (integer_in o.nodes scope n h k)
 
--- the form of a memory node under a substitution
+-- under a substitution, a memory node has the form of a memory
 pub memory_under : (o : Object) (x : Replacement) (scope n : ℕ) → AreNodes o.nodes → IsNodeIn o.nodes scope true n →
     form_under x.integers x.memory (tree_at o.nodes n) ≡ memory_form (memory_form_after o x n)
 unfolding memory_form_after
 memory_under o x scope n h k = ap (form_under x.integers x.memory) (memory_in o.nodes scope n h k)
 
--- the polynomial at an index
+-- the polynomial at an index is that of the form at this index
 polynomial_in : (fs : List Normal) (xs : List Form) (i : ℕ) (p : Polynomial) → i < length xs →
     ((f : Form) → slice_get xs i ≡ Some f → held fs f ≡ Some (integer_form p)) →
     slice_index_or (polynomials fs xs) i nought ≡ p

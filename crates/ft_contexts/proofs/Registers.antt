@@ -22,23 +22,23 @@ apart q n h = by_test (eqb q n) refl
     by_test true e = absurd (h (eqb-true q n e))
     by_test false e = e
 
--- another register's entry after an insertion
+-- an insertion leaves the entries of other registers unchanged
 get_other : (m : TypedRegisters) (n q : ℕ) (t : Typed) → q ≢ n → finite.get (finite.insert m n t) q ≡ finite.get m q
 get_other m n q t h = finite.get-insert nat_cmp_total m n t q
     ∙ ap (λ b. cond b (Some t) (finite.get m q)) (unsigned_tied q n ∙ apart q n h)
 
--- the register's own entry after an insertion
+-- after an insertion, the register has the new entry
 get_same : (m : TypedRegisters) (n : ℕ) (t : Typed) → finite.get (finite.insert m n t) n ≡ Some t
 get_same m n t = finite.get-insert nat_cmp_total m n t n ∙ ap (λ b. cond b (Some t) (finite.get m n)) (unsigned_tied n n
     ∙ eq-eqb n n refl)
 
--- what was noted last of register n is what is known of it
+-- if nothing else is known of register n, what is added for it is what is known of it
 get_known : (x : Option Typed) (m : TypedRegisters) (n : ℕ) → finite.get m n ≡ None → finite.get (with_known n x m) n
     ≡ x
 get_known None m n h = h
 get_known (Some t) m n h = get_same m n t
 
--- what is known of another register
+-- what is added for register n does not change what is known of other registers
 get_unchanged : (x : Option Typed) (m : TypedRegisters) (n q : ℕ) → q ≢ n → finite.get (with_known n x m) q
     ≡ finite.get m q
 get_unchanged None m n q h = refl
@@ -68,12 +68,12 @@ get_at fs n (x ∷ xs) (suc r) q e =
     get_unchanged (option_map (typed_in fs) x) (registers_in fs (suc n) xs) n q ne
     ∙ get_at fs (suc n) xs r q (omega arith)
 
--- what is known of register r
+-- what is known of register r is what the array of all registers has at index r
 pub known_of : (fs : List Normal) (xs : List (Option RegForm)) (r : ℕ) → finite.get (registers_in fs 0 xs) r
     ≡ option_map (typed_in fs) (get_or xs r None)
 known_of fs xs r = get_at fs 0 xs r r (omega arith)
 
--- what is known of each register after one entry of the array is set
+-- setting an entry of the array changes what is known of that register, and of no other
 get_set : (fs : List Normal) (xs : List (Option RegForm)) (r : ℕ) (k : RegForm) (q : ℕ) → r < length xs →
     finite.get (registers_in fs 0 (set xs r (Some k))) q
     ≡ finite.get (finite.insert (registers_in fs 0 xs) r (typed_in fs k)) q

@@ -49,26 +49,26 @@ unfolding registers_in
 registers_none fs n zero = refl
 registers_none fs n (suc k) = registers_none fs (suc n) k
 
--- such an array has no known element
+-- no register is known in such an array
 pub none_there : (k r : ℕ) (x : RegForm) (P : Type 0) → slice_get (replicate k None) r ≡ Some (Some x) → P
 none_there zero r x P e = cc
 none_there (suc k) zero x P e = cc
 none_there (suc k) (suc r) x P e = none_there k r x P e
 
--- the next register row
+-- noting the remaining register rows begins with the next one
 pub registers_turn : (o : Object) (m : TypedRegisters) (rows : List RegType) (j : ℕ) (r : RegType) → slice_get rows j
     ≡ Some r → registers_after o m (drop j rows) ≡ registers_after o (finite.insert m r.reg.number (typed_row o r))
     (drop (j + 1) rows)
 unfolding registers_after
 registers_turn o m rows j r e = rw (drop_next rows j r e) refl
 
--- no row is left
+-- if no row is left, nothing more is noted
 pub registers_end : (o : Object) (m : TypedRegisters) (rows : List RegType) (j : ℕ) → length rows ≤ j →
     registers_after o m (drop j rows) ≡ m
 unfolding registers_after
 registers_end o m rows j l = rw (drop_all j rows l) refl
 
--- the registers after a row was noted
+-- setting a register's entry in the array notes its row
 pub registers_noted : (o : Object) (fs gs : List Normal) (xs : List (Option RegForm)) (n : ℕ) (row : RegType) (f : Form)
     → Keeps fs gs → HoldsRegisters fs xs → n < length xs → n ≡ row.reg.number → held gs f
     ≡ Some (integer_form (integer_form_of o row.expr))
@@ -84,7 +84,7 @@ registers_noted o fs gs xs n row f k h l same made =
 
 -- CODE TYPES
 
--- what the head of a code type says
+-- the head of a code type gives its number of integer variables, its numbers of rows and its memory
 pub head_says : (o : Object) (t : ℕ) (x : TypeHead) → option_map type_head_of (slice_get o.types t) ≡ Some x →
     (x.ints ≡ ints_of o t) × (x.regs ≡ length (reg_rows o t)) × (x.queue ≡ length (queue_rows o t))
     × (x.memory ≡ memory_of o t)
@@ -105,14 +105,14 @@ head_says o t x e = says (slice_get o.types t) e
 
 -- LIKENESS
 
--- a register that is typed as its row requires
+-- if a register has the colour and type that its row requires, only the forms are left to compare
 pub like_typed : (o : Object) (x : Replacement) (k : Option Typed) (t : Typed) (r : RegType) → k ≡ Some t →
     (same_colour t.colour r.colour && is_seen_as t.basic r.basic) ≡ true → is_like o x k r
     ≡ same_polynomial t.form (integer_form_after o x r.expr)
 unfolding is_like
 like_typed o x k t r e h = rw (e, h) refl
 
--- queues of different lengths
+-- queues of different lengths are not alike
 pub unlike_lengths : (o : Object) (x : Replacement) (q : List FormPair) (rows : List (ℕ × ℕ)) → length q ≢ length rows →
     is_queue_like o x q rows ≡ false
 unfolding is_queue_like
@@ -125,7 +125,7 @@ unlike_lengths o x (e ∷ q) (r ∷ rs) h = rw (unlike_lengths o x q rs (λ s. h
     and_false true = refl
     and_false false = refl
 
--- the next pair and its row
+-- comparing the queues from index j on compares pair j with its row, then the pairs after it
 pub queue_turn : (o : Object) (x : Replacement) (q : List FormPair) (rows : List (ℕ × ℕ)) (j : ℕ) (e : FormPair) (r : ℕ
     × ℕ) (b : Bool) → slice_get q j ≡ Some e → slice_get rows j ≡ Some r → b
     ≡ (same_polynomial e.0 (integer_form_after o x r.0) && same_polynomial e.1 (integer_form_after o x r.1))
@@ -133,7 +133,7 @@ pub queue_turn : (o : Object) (x : Replacement) (q : List FormPair) (rows : List
 unfolding is_queue_like
 queue_turn o x q rows j e r b f g h = rw (drop_next q j e f, drop_next rows j r g, h) refl
 
--- no pair is left
+-- if no pair is left, the comparison succeeds
 pub queue_end : (o : Object) (x : Replacement) (q : List FormPair) (rows : List (ℕ × ℕ)) (j : ℕ) → length q ≤ j →
     length rows ≤ j → is_queue_like o x (drop j q) (drop j rows) ≡ true
 unfolding is_queue_like

@@ -20,7 +20,7 @@ use std::sync::ledger::Ledger;
 /// The maximum number of pairs in a static queue.
 pub const QUEUE_ROOM: usize = 8;
 
-/// What code type `t` says about the registers, by number.
+/// What code type `t` says about each register, in the order of the registers' numbers.
 pub fn start_registers<P: Program, L: Ledger>(
     program: &P,
     t: u32,

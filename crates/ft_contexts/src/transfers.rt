@@ -14,8 +14,8 @@ use ft_types::Program;
 use std::alloc::Global;
 use std::sync::ledger::Ledger;
 
-/// What the blocks of an object share: their variables; and room for what a transfer substitutes for its target's
-/// variables, with the forms made for nodes under that substitution.
+/// What the blocks of an object share: the variables, substituted for themselves, and what the current transfer
+/// substitutes for its target's variables, each with the forms made for nodes under that substitution.
 #[derive(Drop)]
 pub struct Shared {
     pub own: OwnVariables,

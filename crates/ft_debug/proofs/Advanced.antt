@@ -59,7 +59,7 @@ committed_by o None status.Running = refl
 committed_by o None status.Done = refl
 committed_by o None status.Detected = refl
 
--- the lines of what was committed are the lines of the session's step
+-- the lines of what a step committed are those that the session defines for it
 step_puts : (o : Object) (w : List Wild) (s : Session) (d e : Debugger) (stepped : Stepped) → Holds o w s d →
     Takes (step o d.present.machine d.present.wild) e.present.machine e.present.wild stepped → committed_lines o stepped
     ≡ step_lines o (present o w s)
@@ -103,7 +103,7 @@ takes_if true b x s e = absurd (cc)
 takes_if false true x s e = refl
 takes_if false false x s e = absurd (cc)
 
--- a machine that has stopped or halts here takes no step
+-- a machine that has stopped, or at which `halts` holds, takes no step
 pub walk_stays : (o : Object) (w : List Wild) (halts : State → Bool) (n : ℕ) (s : Session) →
     (not (halts (present o w s).state) && is_running (present o w s).state.status) ≡ false → walks o w halts n s
     ≡ stays s
@@ -141,7 +141,7 @@ goes_on_there : (o : Object) (w : List Wild) (halts : State → Bool) (t : Sessi
 goes_on_there o w halts t e b h g = sym (ap (λ (m : Moment). not (halts m.machine) && is_running m.machine.status)
     h.present) ∙ g
 
--- one more step
+-- after one more step, `Walked` holds for k + 1
 pub walked_more : (o : Object) (halts : State → Bool) (n k : ℕ) (d e f : Debugger) (old mid new : SinkLog) → k < n
     → (not (halts e.present.machine) && is_running e.present.machine.status) ≡ true
     → Walked o halts n k d e old mid → Does (advances o) o e f (Ok tt) mid new → Walked o halts n (k + 1) d f old new
@@ -166,7 +166,7 @@ ended o w e t ls r old new h p eq =
     subst (λ (q : Reply). IsReplied o w q e (Ok tt) old new)
     (ap (λ l. record { session = t; lines = l }) (sym (append-nil ls)) ∙ sym eq) (h, p)
 
--- the walk has ended if the machine has stopped or halts here
+-- the walk has ended if the machine has stopped or `halts` holds
 pub walk_halts : (o : Object) (halts : State → Bool) (n k : ℕ) (d e : Debugger) (old new : SinkLog)
     → (not (halts e.present.machine) && is_running e.present.machine.status) ≡ false → Walked o halts n k d e old new
     → Does (λ w. walks o w halts n) o d e (Ok tt) old new

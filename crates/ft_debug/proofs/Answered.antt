@@ -29,7 +29,7 @@ at_there : (o : Object) (w : List Wild) (t : Session) (e : Debugger) → Holds o
     at_line e.present.position e.present.machine ≡ at_line t.position (present o w t).state
 at_there o w t e h = ap (λ (m : Moment). at_line m.position m.machine) h.present
 
--- the position is written after the rest of the reply
+-- a reply that ends with the position is complete once the position is written
 pub does_report : (go : List Wild → Session → Reply) (o : Object) (d e : Debugger) (r : Result (Unit {0}) Failed)
     (old mid new : SinkLog) → Does go o d e (Ok tt) old mid
     → Puts (end_of_puts r) (at_line e.present.position e.present.machine ∷ []) mid new
@@ -53,7 +53,7 @@ report_breaks go o d e failed r old new is does =
 
 -- ONE LINE
 
--- one line was written, and the debugger holds the session after it
+-- writing one line completes a reply of one line, if the debugger holds the session after it
 pub says_line : (go : List Wild → Session → Reply) (o : Object) (d e : Debugger) (line : List ℕ)
     (next : List Wild → Session → Session) (r : Result (Unit {0}) Failed) (old new : SinkLog)
     → ((w : List Wild) (s : Session) → Holds o w s d → (go w s ≡ says line (next w s)) × Holds o w (next w s) e)

@@ -12,13 +12,13 @@ use Rattle.ft_debug.specs.Sessions.{Shown, shown, led_to}
 abbrev of_run : ℕ → Option Strike → Ran → Shown
 of_run n strike r = record { state = struck_before strike n r.state; wild = r.wild }
 
--- without strikes
+-- without strikes, a session shows the run without a fault
 pub shown_plain : (o : Object) (w : List Wild) (n : ℕ) → shown o w [] n ≡ of_run n None (run o None w n)
 unfolding shown run
 shown_plain o w zero = refl
 shown_plain o w (suc n) = ap (λ (m : Shown). led_to (suc n) [] (step o m.state m.wild)) (shown_plain o w n)
 
--- with one strike
+-- with one strike, it shows the run under the plan with that strike
 pub shown_one : (o : Object) (w : List Wild) (s : Strike) (n : ℕ) → shown o w (s ∷ []) n
     ≡ of_run n (Some s) (run o (Some s) w n)
 unfolding shown run

@@ -21,7 +21,7 @@ pub counted_no : {X : Type 0} (p : X → Bool) (xs : List X) (i n : ℕ) (x : X)
 counted_no p xs i n x e t h = h ∙ sym (count_by_more_no p xs i x (slice_get_within xs i x e)
     (ap p (get_or_from_slice_get xs i x x e) ∙ t))
 
--- the text of the counters' place, if they are equal and in the code
+-- if the counters are equal and in the code, their text is that of the place there
 pub counters_in_code : (o : Object) (green blue i b x : ℕ) → green ≡ blue → ¬ (green ≡ 0) → green ≤ length o.instrs → i
     ≡ green - 1 → b ≡ block_of o i → x ≡ i - block_start o (block_of o i) → codes " block " ++ decimal b
     ++ codes " index " ++ decimal x ≡ counters_text o green blue

@@ -42,7 +42,7 @@ runs_there : (o : Object) (w : List Wild) (s : Session) (d : Debugger) (b : Bool
     is_running d.present.machine.status ≡ b → is_running (present o w s).state.status ≡ b
 runs_there o w s d b h e = sym (ap (λ (m : Moment). is_running m.machine.status) h.present) ∙ e
 
--- a command that changes nothing and writes nothing
+-- a reply that changes nothing and writes nothing is complete at once
 pub does_nothing : (go : List Wild → Session → Reply) (o : Object) (d : Debugger) (old : SinkLog)
     → ((w : List Wild) (s : Session) → Holds o w s d → go w s ≡ stays s) → Does go o d d (Ok tt) old old
 does_nothing go o d old e = λ w s h.

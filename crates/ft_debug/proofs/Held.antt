@@ -27,7 +27,7 @@ use Rattle.ft_debug.proofs.Shown.{made_later, made_push}
 
 -- THE RING
 
--- the ring after a moment was added at its end and the first one dropped
+-- after a moment is added at the end of the ring and the first one dropped, the last one is the new one
 turned_last : {X : Type 0} (xs : List X) (x : X) (n i : ℕ) → length xs ≡ suc n → i ≡ n →
     slice_get (drop 1 xs ++ x ∷ []) i ≡ Some x
 turned_last xs x n i e l = slice_get-last (drop 1 xs) x i (omega (arith, length-drop 1 xs))
@@ -115,7 +115,7 @@ rewound_none o w s d h =
       breaks = h.breaks;
     }
 
--- one more step back
+-- after one more step back, `Rewound` holds for k + 1
 pub rewound_more : (o : Object) (w : List Wild) (s : Session) (k : ℕ) (d e : Debugger) → IsFull d.history →
     0 < d.history.count → Rewound o w s k d
     → slice_get d.history.moments.items 4095 ≡ Some e.present → e.history.moments.items
@@ -150,7 +150,7 @@ rewound_more o w s k d e full some h newest items counted eb =
         ≡ p - (k + 1) + i - 4096
     earlier_place p k low n i e l m = omega arith
 
--- the later strikes are forgotten
+-- once the later strikes are forgotten, the debugger holds the session k steps back
 pub holds_earlier : (o : Object) (w : List Wild) (s : Session) (k : ℕ) (d : Debugger) → IsFull d.history →
     Rewound o w s k d → Holds o w (earlier k s) d
 holds_earlier o w s k d full h =

@@ -144,13 +144,13 @@ all_lines o w xs i s lines le rest =
     ∙ ap (λ l. replies o w l first_session) (sym (append-nil (map command_of (take i xs)))) ∙ rest []
     ∙ append-nil lines
 
--- all commands were answered
+-- once all commands are answered, the lines of the whole session are written
 pub replied_all : (o : Object) (w : List Wild) (xs : List read.Command) (i : ℕ) (d : Debugger) (old new : SinkLog)
     → length xs ≤ i → Replied o w xs i d old new → new ≡ with_lines (session_lines o w (map command_of xs)) old
 replied_all o w xs i d old new le h =
     h.puts ∙ ap (λ ls. with_lines ls old) (sym (all_lines o w xs i h.session h.lines le h.rest))
 
--- a put failed while a command was answered
+-- if a put fails while a command is answered, the lines of the session break off there
 pub replied_breaks : (o : Object) (w : List Wild) (xs : List read.Command) (i : ℕ) (x : read.Command) (d e : Debugger)
     (failed : Failed) (old mid new : SinkLog) → i < length xs → x ≡ get_or xs i x
     → Replied o w xs i d old mid → Does (λ v. reply o v (command_of x)) o d e (Err failed) mid new

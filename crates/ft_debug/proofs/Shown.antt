@@ -118,7 +118,7 @@ made_step : (p : ℕ) (x : Strike) (xs : List Strike) (t : Bool) → is_by p x �
 made_step p x xs true e h = (leb-true x.step p e, h)
 made_step p x xs false e h = h
 
--- the strikes that remain were made by then
+-- the strikes that remain were made at that position or before it
 pub made_filtered : (p : ℕ) (xs : List Strike) → AllByRecursion (IsMadeBy p) (filter (is_by p) xs)
 made_filtered p [] = tt
 made_filtered p (x ∷ xs) = made_step p x (filter (is_by p) xs) (is_by p x) refl (made_filtered p xs)

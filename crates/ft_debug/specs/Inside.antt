@@ -56,7 +56,7 @@ pub record Holds (o : Object) (w : List Wild) (s : Session) (d : Debugger) : Typ
 abbrev pub IsReplied : Object → List Wild → Reply → Debugger → Result (Unit {0}) Failed → SinkLog → SinkLog → Type 0
 IsReplied o w r e result old new = OnOk result (Holds o w r.session e) × Puts (end_of_puts result) r.lines old new
 
--- this reply is given, whatever session the debugger held
+-- the debugger gives this reply, whichever session it held
 abbrev pub Does : (List Wild → Session → Reply) → Object → Debugger → Debugger → Result (Unit {0}) Failed → SinkLog
     → SinkLog → Type 0
 Does go o d e result old new = (w : List Wild) (s : Session) → Holds o w s d → IsReplied o w (go w s) e result old new
@@ -65,7 +65,7 @@ Does go o d e result old new = (w : List Wild) (s : Session) → Holds o w s d �
 abbrev pub advances : Object → List Wild → Session → Reply
 advances o w s = record { session = further s; lines = step_lines o (present o w s) }
 
--- where to halt: at breakpoints, or nowhere
+-- where a walk halts: at breakpoints, or nowhere
 abbrev pub halting : Bool → List ℕ → State → Bool
 halting true breaks = is_at_break breaks
 halting false breaks = never

@@ -151,7 +151,7 @@ impl<'w> Debugger<'w> {
         }
     }
 
-    /// Strikes the machine now. Returns `false`, with nothing changed, exactly if the machine has stopped or the site
+    /// Strikes the machine now. Returns `false`, with nothing changed, exactly when the machine has stopped or the site
     /// does not exist.
     pub fn zap(&mut self, site: Site, value: u64) -> bool
         requires { IsFull self.old.history }

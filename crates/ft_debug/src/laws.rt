@@ -8,9 +8,9 @@ ghost use Rattle.ft_semantics.specs.Run.{state_after, wild_after};
 ghost use Rattle.ft_debug.specs.Sessions.{shown};
 
 /// With at most one strike, a session shows at each position the state of a run of the machine after that many steps,
-/// and the answers left to wild loads: without a strike, those of the run without a fault; with one, those of the run
-/// whose plan has that strike. At the strike's own position the state shown is already struck, while the run makes the
-/// strike in its next step.
+/// and the remaining answers to wild loads: without a strike, those of the run without a fault; with one, those of the
+/// run whose plan has that strike. At the strike's own position the state shown is already struck, while the run makes
+/// the strike in its next step.
 pub fn sessions_show_runs()
     ensures state { (o : Object) (w : List Wild) (n : ℕ) → (shown o w [] n).state ≡ state_after o None w n }
     ensures wild { (o : Object) (w : List Wild) (n : ℕ) → (shown o w [] n).wild ≡ wild_after o None w n }

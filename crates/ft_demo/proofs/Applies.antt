@@ -41,11 +41,11 @@ record Holds (c : Context) (f : Polynomial) : Type 0 where
   d : c.d ≡ d_zero
   queue : c.queue ≡ []
 
--- three times a value
+-- the form of three times a value
 abbrev tripled : Polynomial → Polynomial
 tripled f = norm_op Mul f (constant 3)
 
--- the value after turn i
+-- the form of the value after turn i
 abbrev raised : ℕ → Polynomial → Polynomial
 raised i f = norm_op Add (tripled f) (constant i)
 
@@ -55,7 +55,7 @@ with_values i f c =
     with_type 33 (known Blue int (raised i f)) (with_type 33 (known Blue int (tripled f))
     (with_type 1 (known Green int (raised i f)) (with_type 1 (known Green int (tripled f)) c)))
 
--- what is known of the addresses and of the values then
+-- the addresses and the new values are then known
 values_known : (i : ℕ) (f : Polynomial) (c : Context) → Holds c f → Holds (with_values i f c) (raised i f)
 values_known i f c h = record {
   green_address = simp (get-insert, h.green_address);
@@ -74,7 +74,7 @@ with_pending f c = record c { queue = c.queue ++ (place, f) ∷ [] }
 abbrev with_stored : Polynomial → Context → Context
 with_stored f c = record c { queue = []; memory = norm_upd c.memory place f }
 
--- the rules apply to a turn, which raises the value
+-- if the rules apply to what follows a turn, they apply to the turn and what follows
 turn_applies : (o : Object) (c : Context) (f : Polynomial) (i : ℕ) (is : List Instr) → Holds c f
     → Applies o (with_stored (raised i f) (with_values i f c)) is → Applies o c (turn i ++ is)
 unfolding for_typed need same_colour for_ref_over for_oldest is_seen_as same_basic

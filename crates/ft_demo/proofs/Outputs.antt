@@ -17,7 +17,7 @@ last_more : (value : ℕ) (outputs : List Output) (output : Output) → last_val
 last_more value [] output = refl
 last_more value (x ∷ xs) output = last_more x.value xs output
 
--- the tally after one more output
+-- the tally is right after one more output
 pub tally_more : (first old new : Tally) (before : List Output) (x : Output) → TalliesMore first before old → new.count
     ≡ (old.count + 1) % 2 ^ 64 → new.last ≡ x.value → TalliesMore first (before ++ x ∷ []) new
 tally_more first old new before x h count last = record {
@@ -25,7 +25,7 @@ tally_more first old new before x h count last = record {
   last = last ∙ sym (last_more first.last before x);
 }
 
--- the tally of a whole run
+-- the tally is right after a whole run
 pub tally_whole : (o : Object) (old new : Tally) (taken most : ℕ) (pause : Pause) → old.count ≡ 0 → old.last ≡ 0 →
     most < 2 ^ 64 → (¬ (pause ≡ Refused) → outputs_after o None [] most ≡ outputs_after o None [] taken)
     → goes_on pause ≡ true → TalliesMore old (outputs_after o None [] taken) new →

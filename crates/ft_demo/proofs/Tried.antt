@@ -9,7 +9,7 @@ use Rattle.ft_isa.specs.declared.plan.Site.TheVariants.{R}
 use Rattle.ft_isa.specs.declared.plan.Strike.{Strike}
 use Rattle.ft_demo.specs.Demonstrations.{fault, first_faults}
 
--- a fault, given its register
+-- fault j, in terms of the register with number j
 pub fault_is : (j : ℕ) (register : Reg) → register.number ≡ j → fault j
     ≡ Some (record { step = 16 * j; site = R register; value = j })
 fault_is j register e =
@@ -20,7 +20,7 @@ pub no_faults : first_faults 0 ≡ []
 unfolding first_faults
 no_faults = refl
 
--- one more fault
+-- the first n + 1 faults are the first n and fault n
 pub more_faults : (n : ℕ) (x : Strike) → fault n ≡ Some x → first_faults (n + 1) ≡ first_faults n ++ x ∷ []
 unfolding first_faults
 more_faults n x e = let next : n + 1 ≡ suc n = omega arith in

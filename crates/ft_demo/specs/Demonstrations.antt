@@ -43,7 +43,7 @@ run_line o = let outputs = outputs_after o None [] 131072 in outputs_line (lengt
 abbrev pub AreDemoVerdicts : Object → List Verdict → Type 0
 AreDemoVerdicts o verdicts = AreVerdicts o (first_faults 64) [] 131072 verdicts
 
--- the lines of a demonstration on an object: that of its outputs, and the last line of the campaign
+-- the lines of a demonstration on an object: the line of its outputs, and the last line of the campaign
 abbrev pub demo_lines : Object → List Verdict → List (List ℕ)
 demo_lines o verdicts = run_line o ∷ end_line 64 (totals_of verdicts) ∷ []
 

@@ -63,7 +63,7 @@ placed o b k h =
 end_same : (o : Object) (n b : ℕ) → block_end (with_instrs o (exchanged o.instrs n)) b ≡ block_end o b
 end_same o n b = ap (unwrap_or (option_map start_of (slice_get o.blocks (suc b)))) (length-exchanged o.instrs n)
 
--- the block that contains the exchange
+-- in the block that contains the exchange, the two instructions are swapped
 pub same_block : (o : Object) (b k : ℕ) → IsPermitted o b k → block_instrs (after_exchange o b k) b
     ≡ exchanged (block_instrs o b) k
 same_block o b k h =
@@ -71,7 +71,7 @@ same_block o b k h =
     ap (slice_range (exchanged o.instrs n) (block_start o b)) (end_same o n b)
     ∙ range_around o.instrs n k (block_start o b) (block_end o b) refl (placed o b k h).inside
 
--- no block begins between the two
+-- no block begins between the two instructions
 pub no_start : (o : Object) (b k j : ℕ) (y : Block) → IsSpellable o → IsPermitted o b k → slice_get o.blocks j
     ≡ Some y → y.start ≡ suc (block_start o b + k) → ⊥
 no_start o b k j y spelled h ey e = elim (slice_get_cases o.blocks b).1 [

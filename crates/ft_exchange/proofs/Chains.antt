@@ -103,7 +103,7 @@ module _ (o : Object) (b k : ℕ) (spelled : IsSpellable o) (acc : IsAccepted o)
       (cases_eq i (suc n0)))
       (cases_eq i n0)
 
-  -- within the four steps, neither run is at a meeting point
+  -- a running state at an instruction that isn't fixed is not at a meeting point
   apart : (t : State) (a : ℕ) (i : Instr) → t.status ≡ Running → t.pc_green ≡ a → instr_at o a ≡ Some i → is_fixed i
       ≡ false → is_meeting o t ≡ true → ⊥
   apart t a i go e f free m = (let g : is_meeting o t ≡ false = (λ j. meets_by (go j) (instr_at o (e j)))
@@ -182,7 +182,7 @@ goes_free : (o : Object) (c : Context) (i : Instr) → Passes o c i → is_fixed
 goes_free o c i (ends e) free = (let f = ends_fixed o c i e in absurd (cc))
 goes_free o c i (goes d e) free = (d, e)
 
--- 1 if something is fetched
+-- 1 if something is fetched, and 0 otherwise
 abbrev fetched_one : Option Instr → ℕ
 fetched_one None = 0
 fetched_one (Some i) = 1
@@ -216,7 +216,7 @@ stopped_meets Done x h = refl
 stopped_meets Detected x h = refl
 
 module _ (o : Object) (spelled : IsSpellable o) (acc : IsAccepted o) where
-  -- the instruction at the counter is the place's
+  -- the instruction at the counter is the one at the place
   instr_here : (t : State) (P : Place) (n : ℕ) (h : Here o P n) → Fits o P t → (free : Free o t) → h.instr ≡ free.instr
   instr_here t P n h fits free =
       let pc : t.pc_green ≡ suc (instr_number P) = (let g = fits.pc_green in omega arith) in

@@ -46,7 +46,7 @@ insert-insert {X = X} m p q x y other = finite.same_map nat_cmp_total nat_cmp-Is
     by_tests false true u h = refl
     by_tests false false u h = refl
 
--- a register that was not written
+-- writing a register does not change what is known of another
 pub typed_other : (c : Context) (r q : ℕ) (t : Typed) → (q == r) ≡ false → typed (with_type r t c) q ≡ typed c q
 typed_other c r q t e = get-insert c.registers r t q ∙ ap (λ b. cond b (Some t) (typed c q)) e
 

@@ -24,7 +24,7 @@ use Rattle.ft_exchange.specs.Exchange.{is_trailing, leaves_alone}
 use Rattle.ft_exchange.proofs.Permits.{not_read, not_written, read_other, trailing_load, leading_load}
 use Rattle.ft_exchange.proofs.Crossing.{insert-insert}
 
--- the part of a state that instructions other than fixed ones read and change
+-- the part of a state that is read and changed by instructions that are not fixed
 pub record Core : Type 0 where
   pub registers : Registers
   pub queue : Pending
@@ -87,7 +87,7 @@ pub data Does : Instr → Core → Core → Option Output → Type 0 where
 
 -- THE STEP
 
--- how an instruction with this effect is executed
+-- a load of a word has the effect of writing it to its register
 loaded_execute : (k : Colour) (rd rs : Reg) (s : State) (w : List Wild) (x : Coloured) (u : Option ℕ) → loaded k u
     ≡ Some x → load k rd u s w ≡ quiet (moved s (with_put rd.number x (core s))) w
 loaded_execute k rd rs s w x None e = cc
@@ -231,7 +231,7 @@ committed_seen (e ∷ q) cells a v x h =
     ∙ ap (λ z. cond (e.0 == x) (Some z) (cell_at cells x)) (sym ev))
     ∙ sym (or_oldest (newest_at q x) (cell_at cells x) (e.0 == x) e.1)
 
--- committing the oldest entry after one more was queued
+-- it makes no difference whether an entry is queued before or after the oldest one is committed
 drop_append : (q : Pending) (a v : ℕ) (x : ℕ × ℕ) → is_oldest q a v ≡ true → drop 1 (q ++ x ∷ []) ≡ drop 1 q ++ x ∷ []
 drop_append [] a v x h = cc
 drop_append (e ∷ q) a v x h = refl
@@ -244,7 +244,7 @@ fewer : (q : Pending) → nat_lt (length q) 8 ≡ true → nat_lt (length (drop 
 fewer [] h = h
 fewer (e ∷ q) h = lt-ltb (length q) 8 (let l = ltb-true (suc (length q)) 8 h in omega arith)
 
--- the two do the same in either order, and the second has no output
+-- in either order, the two lead to the same core; the first has the same output, and the second has none
 pub record Meets (m m1 m2 : Core) (first second : Instr) (x y : Option Output) : Type 0 where
   pub last : Core
   pub second_last : Does second m1 last None

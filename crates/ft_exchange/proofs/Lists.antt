@@ -17,14 +17,14 @@ length-exchanged (i ∷ j ∷ is) zero = refl
 
 -- PARTS
 
--- the rest from a place before the exchange
+-- in the rest from a place before the exchange, the same two elements are swapped
 drop_before : (a : ℕ) (is : List Instr) (n k : ℕ) → n ≡ a + k → drop a (exchanged is n) ≡ exchanged (drop a is) k
 drop_before zero is n k e = ap (exchanged is) (omega arith)
 drop_before (suc a) [] n k e = refl
 drop_before (suc a) (i ∷ is) zero k e = absurd (omega arith)
 drop_before (suc a) (i ∷ is) (suc n) k e = drop_before a is n k (omega arith)
 
--- the rest from a place after the exchange
+-- the rest from a place after the exchange is unchanged
 drop_after : (a : ℕ) (is : List Instr) (n : ℕ) → n + 2 ≤ a → drop a (exchanged is n) ≡ drop a is
 drop_after a [] n h = refl
 drop_after zero (i ∷ is) n h = absurd (omega arith)
@@ -33,7 +33,7 @@ drop_after (suc a) (i ∷ []) zero h = refl
 drop_after (suc zero) (i ∷ j ∷ is) zero h = absurd (omega arith)
 drop_after (suc (suc a)) (i ∷ j ∷ is) zero h = refl
 
--- the front up to a place after the exchange
+-- in the front up to a place after the exchange, the same two elements are swapped
 pub take_around : (m : ℕ) (is : List Instr) (k : ℕ) → k + 2 ≤ m → take m (exchanged is k) ≡ exchanged (take m is) k
 take_around zero is k h = absurd (omega arith)
 take_around (suc m) [] k h = refl
@@ -42,31 +42,31 @@ take_around (suc zero) (i ∷ is) zero h = absurd (omega arith)
 take_around (suc (suc m)) (i ∷ []) zero h = refl
 take_around (suc (suc m)) (i ∷ j ∷ is) zero h = refl
 
--- the front up to a place before the exchange
+-- the front up to a place before the exchange is unchanged
 pub take_before : (m : ℕ) (is : List Instr) (k : ℕ) → m ≤ k → take m (exchanged is k) ≡ take m is
 take_before zero is k h = refl
 take_before (suc m) [] k h = refl
 take_before (suc m) (i ∷ is) zero h = absurd (omega arith)
 take_before (suc m) (i ∷ is) (suc k) h = ap (λ z. i ∷ z) (take_before m is k (omega arith))
 
--- a part that contains the exchange
+-- in a part that contains the exchange, the same two elements are swapped
 pub range_around : (is : List Instr) (n k a e : ℕ) → n ≡ a + k → n + 2 ≤ e → slice_range (exchanged is n) a e
     ≡ exchanged (slice_range is a e) k
 range_around is n k a e p h = ap (take (e - a)) (drop_before a is n k p)
     ∙ take_around (e - a) (drop a is) k (omega arith)
 
--- a part before the exchange
+-- a part before the exchange is unchanged
 pub range_before : (is : List Instr) (n a e : ℕ) → a ≤ n → e ≤ n → slice_range (exchanged is n) a e ≡ slice_range is a e
 range_before is n a e h l = ap (take (e - a)) (drop_before a is n (n - a) (omega arith))
     ∙ take_before (e - a) (drop a is) (n - a) (omega arith)
 
--- a part after the exchange
+-- a part after the exchange is unchanged
 pub range_after : (is : List Instr) (n a e : ℕ) → n + 2 ≤ a → slice_range (exchanged is n) a e ≡ slice_range is a e
 range_after is n a e h = ap (take (e - a)) (drop_after a is n h)
 
 -- ELEMENTS
 
--- the elements of a part are those of the list
+-- an element of a front is the same element of the list, before the front's end
 get-take : (m : ℕ) (is : List Instr) (k : ℕ) (i : Instr) → slice_get (take m is) k ≡ Some i → (k < m)
     × (slice_get is k ≡ Some i)
 get-take zero is k i e = cc
@@ -74,7 +74,7 @@ get-take (suc m) [] k i e = cc
 get-take (suc m) (x ∷ is) zero i e = (omega arith, e)
 get-take (suc m) (x ∷ is) (suc k) i e = let h = get-take m is k i e in (let l = h.0 in omega arith, h.1)
 
--- an element of a part: its place in the list, which is before the part's end
+-- element k of a part from a on is element a + k of the list, before the part's end
 pub get-range : (is : List Instr) (a e k : ℕ) (i : Instr) → slice_get (slice_range is a e) k ≡ Some i → (a + k < e)
     × (slice_get is (a + k) ≡ Some i)
 get-range is a e k i f =
@@ -112,7 +112,7 @@ substs_exchanged (i ∷ j ∷ is) zero a b ea eb na nb =
     let nj : subst_of j ≡ None = ap subst_of jb ∙ nb in
     (λ x. before (nj x) (before (ni x) (substs_of is))) ∙ sym (λ x. before (ni x) (before (nj x) (substs_of is)))
 
--- the elements of the new list
+-- in the new list, the two elements are swapped and the others are where they were
 pub get_first : (is : List Instr) (n : ℕ) (a b : Instr) → slice_get is n ≡ Some a → slice_get is (suc n) ≡ Some b →
     slice_get (exchanged is n) n ≡ Some b
 get_first [] n a b ea eb = cc

@@ -1,4 +1,4 @@
--- The run of an accepted object compared with that of the object after one exchange.
+-- The run of an accepted object, compared with the run of the object after one exchange.
 use Rattle.std.proofs.Common.{◌≡◌, ◌≢◌, ⊎_elim, ℕ, zero, suc, ◌+◌, ◌<◌, ◌==◌, Bool, true, false, if◌then◌else◌, List}
 use Rattle.std.proofs.Common.{[], ◌∷◌, ◌++◌, length, Option, Some, None, refl, sym, ap, ◌∙◌, subst, arith, eq-eqb}
 use Rattle.std.proofs.Common.{append-nil, mod-eq_of_lt}
@@ -104,7 +104,7 @@ fetches_none i s w h = fetches_after i s w h
 
 -- WHERE AN INSTRUCTION LEADS
 
--- to the same number, to the next one, or to the start of a block
+-- the place after a step has the same instruction number, the next one, or that of the start of a block
 pub data Number (p q : Place) : Type 0 where
   same_number : instr_number q ≡ instr_number p → Number p q
   next_number : instr_number q ≡ suc (instr_number p) → Number p q
@@ -134,7 +134,7 @@ number_after o i s p = number_further _ p
 abbrev pub ran : State → List Output → Ran
 ran s os = record { state = s; wild = []; outputs = os }
 
--- a state that both runs share: not between the two instructions, and not about to execute the first
+-- a state that both runs share: it is not between the two instructions, and the first is not about to be executed
 pub record Clear (n : ℕ) (s : State) : Type 0 where
   pub not_between : s.status ≡ Running → s.pc_green ≢ suc (suc n)
   pub not_fetched : s.status ≡ Running → (i : Instr) → s.fetched ≡ Some i → s.pc_green ≢ suc n
@@ -189,7 +189,7 @@ module _ (o : Object) (b k : ℕ) (spelled : IsSpellable o) (acc : IsAccepted o)
   by_steps os os' x x' y y' e f h = subst (λ (z : Stepping). Side n0 p.first p.second (extended os z) (extended os' x'))
       (sym e) (subst (λ (z : Stepping). Side n0 p.first p.second (extended os y) (extended os' z)) (sym f) h)
 
-  -- the first instruction of each order
+  -- the first instruction of each order is executed
   step_first : (t : State) (os : List Output) → Base n0 t →
       (execute p.first (record t { fetched = Some p.first }) []).state.status ≢ Detected →
       (execute p.second (record t { fetched = Some p.second }) []).state.status ≢ Detected →
@@ -221,7 +221,7 @@ module _ (o : Object) (b k : ℕ) (spelled : IsSpellable o) (acc : IsAccepted o)
       at_below : suc n0 < length o.instrs
       at_below = slice_get_within o.instrs (suc n0) p.second at.second_there
 
-  -- the second is fetched in each order
+  -- the second instruction of each order is fetched
   step_between : (t : State) (os os' : List Output) (m m' : Core) (x : Option Output) → Base n0 t →
       Meets (core t) m m' p.first p.second x None → os ≡ os' ++ option_to_list x →
       Side n0 p.first p.second (extended os (step o (moved t m) [])) (extended os' (step s' (moved t m') []))
@@ -238,7 +238,7 @@ module _ (o : Object) (b k : ℕ) (spelled : IsSpellable o) (acc : IsAccepted o)
       (second_fetched t (os ++ []) (os' ++ []) m m' x base z (append-nil os ∙ e
       ∙ ap (λ (l : List Output). l ++ option_to_list x) (sym (append-nil os'))))
 
-  -- both orders are complete
+  -- the second instruction of each order is executed, after which both runs share a state
   step_last : (t : State) (os os' : List Output) (m m' : Core) (x : Option Output) → Base n0 t →
       Meets (core t) m m' p.first p.second x None → os ≡ os' ++ option_to_list x →
       Side n0 p.first p.second (extended os (step o (record (moved t m) { fetched = Some p.second }) []))
@@ -260,7 +260,7 @@ module _ (o : Object) (b k : ℕ) (spelled : IsSpellable o) (acc : IsAccepted o)
         not_fetched = λ go i f. cc;
       })))
 
-  -- the next step of both, if they share a running state
+  -- a state that is not running is such a shared state
   clear_stopped : (x : State) → x.status ≢ Running → Clear n0 x
   clear_stopped x h = record { not_between = λ go e. h go; not_fetched = λ go i f e. h go }
 

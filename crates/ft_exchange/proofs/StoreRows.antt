@@ -67,7 +67,7 @@ stored k (Some a) (Some v) next = by_test (same_colour a.colour k && same_colour
     by_test true = stored_value a.basic.refs a.basic.base a.form v next
     by_test false = record { failing = premise.Colour; row_is = refl }
 
--- what follows the pair in the green and in the blue row
+-- the rest of the row of a green store and of a blue one, given its pair
 queues : Context → FormPair → Outcome
 queues c p = need premise.QueueFull (nat_lt (length c.queue) 8) (Goes (record c { queue = c.queue ++ p ∷ [] }))
 
@@ -75,7 +75,7 @@ commits_on : Context → FormPair → Outcome
 commits_on c p = for_oldest c.queue (λ e q. need premise.Addresses (same_polynomial p.0 e.0)
     (need premise.Values (same_polynomial p.1 e.1) (Goes (record c { queue = q; memory = norm_upd c.memory p.0 p.1 }))))
 
--- a green store whose row continued
+-- the row of a green store continued: there was room, and its pair was added
 pub record Queued (c d : Context) (u : Option FormPair) : Type 0 where
   pub pair : FormPair
   pub given : u ≡ Some pair
@@ -108,7 +108,7 @@ queues_on o c rd rs p e r = (let h = stored Green (typed c rd.number) (typed c r
     h.row_is ∙ ap (λ u. store_row u (queues c) h.failing) e
     ∙ ap (λ b. if b then Goes (record c { queue = c.queue ++ p ∷ [] }) else Fails premise.QueueFull) r)
 
--- a blue store whose row continued: its pair was the oldest
+-- the row of a blue store continued: its pair was the oldest
 pub record Committed (c d : Context) (u : Option FormPair) : Type 0 where
   pub pair : FormPair
   pub given : u ≡ Some pair

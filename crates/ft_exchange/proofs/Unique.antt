@@ -69,14 +69,14 @@ not_next o b k l p q e =
     not_both q.first (permits _ q.first q.second q.may).first_trails (ap is_leading (sym same)
     ∙ (permits _ p.first p.second p.may).second_leads)
 
--- an existing block
+-- there is a block for each number below the number of blocks
 block_there : (o : Object) (b : ℕ) → b < length o.blocks → (y : Block) × (slice_get o.blocks b ≡ Some y)
 block_there o b h = elim (slice_get_cases o.blocks b).1 [
   | inl y ↦ (y.0, y.2)
   | inr n ↦ (let m = n.0 in absurd (omega arith))
 ]
 
--- exchanges in an earlier and in a later block
+-- an exchange in an earlier block lies before one in a later block
 blocks_apart : (o : Object) (b k c l : ℕ) → IsSpellable o → IsPermitted o b k → IsPermitted o c l → b < c →
     block_start o b + k + 2 ≤ block_start o c + l
 blocks_apart o b k c l spelled p q h =
@@ -124,7 +124,7 @@ one_or_apart o b k c l spelled p q =
 
 -- STILL PERMITTED
 
--- in another block
+-- an exchange in another block stays permitted
 still_elsewhere : (o : Object) (b k c l : ℕ) → IsSpellable o → IsPermitted o b k → IsPermitted o c l → (c ≡ b → ⊥) →
     IsPermitted (after_exchange o b k) c l
 still_elsewhere o b k c l spelled p q ne =
@@ -140,7 +140,7 @@ still_elsewhere o b k c l spelled p q ne =
           q.first q.second ≡ true) (sym same) q.may;
     }
 
--- the static queue before a place apart from an exchange
+-- an exchange apart from a place does not change the length of the static queue before that place
 queue_apart : (rows : ℕ) (is : List Instr) (k l : ℕ) → Apart k l → queue_after rows (take l (exchanged is k))
     ≡ queue_after rows (take l is)
 queue_apart rows is k l (inl h) = ap (queue_after rows) (take_around l is k h) ∙ queue_exchanged rows (take l is) k
@@ -150,7 +150,7 @@ apart_other : (k l : ℕ) → Apart k l → (l ≡ k → ⊥) × (l ≡ suc k �
 apart_other k l (inl h) = (λ e. omega arith, λ e. omega arith, λ e. omega arith, λ e. omega arith)
 apart_other k l (inr h) = (λ e. omega arith, λ e. omega arith, λ e. omega arith, λ e. omega arith)
 
--- in the same block
+-- an exchange apart from another in the same block stays permitted
 still_here : (o : Object) (b k l : ℕ) → IsPermitted o b k → IsPermitted o b l → Apart k l →
     IsPermitted (after_exchange o b k) b l
 still_here o b k l p q a =
@@ -190,7 +190,7 @@ turned : (n m : ℕ) → Apart n m → Apart m n
 turned n m (inl h) = inr h
 turned n m (inr h) = inl h
 
--- both orders lead to the same object
+-- two exchanges apart from each other lead to the same object in either order
 both_ways : (o : Object) (b k c l : ℕ) → Apart (block_start o b + k) (block_start o c + l) →
     after_exchange (after_exchange o b k) c l ≡ after_exchange (after_exchange o c l) b k
 both_ways o b k c l (inl h) = ap (with_instrs o) (exchanged_apart o.instrs (block_start o b + k) (block_start o c + l)

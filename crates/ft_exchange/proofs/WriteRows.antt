@@ -61,7 +61,7 @@ gives o c (Ld k rd rs) = of_ld k (seen_memory k c) (typed c rs.number)
 gives o c (Idx rd rs first m) = of_idx first m (run_type o first m) (typed c rs.number)
 gives o c i = None
 
--- the row of a write, in terms of what it gives
+-- the row of a write, in terms of the type that it gives the register
 unfoldable pub write_row : ℕ → Context → Option Typed → Premise → Outcome
 write_row r c (Some t) p = Goes (with_type r t c)
 write_row r c None p = Fails p
@@ -71,7 +71,7 @@ pub record Gave (r : ℕ) (c : Context) (u : Option Typed) (x : Outcome) : Type 
   pub failing : Premise
   pub row_is : x ≡ write_row r c u failing
 
--- a write whose row continues only if a test passes
+-- a write whose row continues only if a test passes is such a row
 gave_if : (r : ℕ) (c : Context) (p : Premise) (t : Typed) (b : Bool) →
     Gave r c (if b then Some t else None) (if b then Goes (with_type r t c) else Fails p)
 unfolding write_row
@@ -131,7 +131,7 @@ gave_idx first m r c b None = record { failing = premise.Untyped; row_is = refl 
 gave_idx first m r c None (Some s) = record { failing = premise.Array; row_is = refl }
 gave_idx first m r c (Some b) (Some s) = record { failing = premise.Array; row_is = refl }
 
--- the same for the register that is written
+-- so is a write to register q, if q is r
 gave_there : (q r : ℕ) (c : Context) (u : Option Typed) (x : Outcome) → Some q ≡ Some r → Gave q c u x → Gave r c u x
 gave_there q r c u x e g = (let same : q ≡ r = cc in subst (λ n. Gave n c u x) same g)
 
@@ -147,7 +147,7 @@ gave o c (Idx rd rs first m) r e = gave_there _ _ _ _ _ e
     (gave_idx first m rd.number c (run_type o first m) (typed c rs.number))
 gave o c i r e = cc
 
--- a write whose row continued, and the type that it gave its register
+-- the row of a write continued, with the type that it gave the register
 pub record Wrote (r : ℕ) (c d : Context) (u : Option Typed) : Type 0 where
   pub what : Typed
   pub given : u ≡ Some what
@@ -168,7 +168,7 @@ pub writes_on : (o : Object) (c : Context) (i : Instr) (r : ℕ) (t : Typed) →
 unfolding write_row
 writes_on o c i r t e g = (let h = gave o c i r e in h.row_is ∙ ap (λ u. write_row r c u h.failing) g)
 
--- what is given depends only on the registers read and, for a load, on its memory
+-- the type given depends only on the registers read and, for a load, on the memory that it sees
 pub gives_same : (o : Object) (c d : Context) (i : Instr) → ((r : ℕ) → reads i r ≡ true → typed d r ≡ typed c r) →
     ((k : Colour) (rd rs : Reg) → i ≡ Ld k rd rs → seen_memory k d ≡ seen_memory k c) → gives o d i ≡ gives o c i
 unfolding gives

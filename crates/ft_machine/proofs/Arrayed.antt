@@ -59,7 +59,7 @@ one_put n key tells f g k v below here others = same_map nat_cmp_total nat_cmp-I
 pub registers_tell : Tells (λ r. r)
 registers_tell i j = refl
 
--- what a register holds
+-- looking up a register in the map finds what the arrays hold at its number
 pub register_read : (words : List ℕ) (colours : List Colour) (r : ℕ) → r < 64 → held (registers_of words colours) r
     ≡ held_in words colours r
 unfolding held
@@ -94,7 +94,7 @@ pub no_cell_below : (words : List ℕ) (a : ℕ) → a < 1048576 → cell_at (ce
 no_cell_below words a low = untabulated (length words) cell_address (word_in words) a (λ i _.
     ne_eqb a (cell_address i) (λ e. omega arith))
 
--- the word of the cell at an address
+-- looking up a cell by its address finds the word at its index in the array
 pub cell_read : (words : List ℕ) (a : ℕ) → 1048576 ≤ a → cell_at (cells_of words) a ≡ slice_get words (a - 1048576)
 cell_read words a high = elim (slice_get_cases words (a - 1048576)).1 [
   | inl e ↦ found words a (a - 1048576) (omega arith) e.1
@@ -153,7 +153,7 @@ registers_at_first = same_tabulated 64 (λ r. r) _ _ (λ i below.
     ap (λ c. record { colour = c; word = get_or (replicate 64 0) i 0 }) (get_or-replicate 64 i Green Green below)
     ∙ ap (λ w. record { colour = Green; word = w }) (get_or-replicate 64 i 0 0 below))
 
--- an array with these words is the map with these values
+-- an array represents the map with these values if they are its words
 pub filled : (words : List ℕ) (k n : ℕ) (f : ℕ → ℕ) → length words ≡ k → k ≡ n →
     ((i : ℕ) → i < k → get_or words i 0 ≡ f i) → cells_of words ≡ tabulate n cell_address f
 filled words k n f e same h =

@@ -18,7 +18,7 @@ use Rattle.ft_machine.specs.declared.bank.Effect.TheVariants.{On, Commit, Detect
 use Rattle.ft_machine.specs.Answers.{next_answer}
 use Rattle.ft_machine.specs.Effects.{Does, DoesQuietly, doing, followed, put_out}
 
--- the condition holds
+-- if the condition holds, the choice does what its first case does
 pub first : (test : State → Bool) (t u : State → List Wild → Stepping) (old new : Bank) (e : Effect) →
     ((g b : ℕ) (f : Option Instr) → test (doing old g b f) ≡ true) → DoesQuietly t old new e
     → DoesQuietly (λ s w. if test s then t s w else u s w) old new e
@@ -27,7 +27,7 @@ first test t u old new e holds h = record {
       ap (λ v. if v then t (doing old g b f) w else u (doing old g b f) w) (holds g b f) ∙ h.does g b f w;
 }
 
--- the condition fails
+-- if it fails, the choice does what its second case does
 pub second : (test : State → Bool) (t u : State → List Wild → Stepping) (old new : Bank) (e : Effect) →
     ((g b : ℕ) (f : Option Instr) → test (doing old g b f) ≡ false) → DoesQuietly u old new e
     → DoesQuietly (λ s w. if test s then t s w else u s w) old new e
@@ -36,7 +36,7 @@ second test t u old new e fails h = record {
       ap (λ v. if v then t (doing old g b f) w else u (doing old g b f) w) (fails g b f) ∙ h.does g b f w;
 }
 
--- a load that finds a word
+-- a load that finds a word writes it to its register
 pub load_found : (c : Colour) (rd rs : Reg) (v : ℕ) (old new : Bank) (e : Effect) (w : List Wild) →
     ((g b : ℕ) (f : Option Instr) → Some v ≡ found c (doing old g b f) (held old.registers rs.number).word)
     → DoesQuietly (writes rd c v) old new e → Does (λ s w. load c rd (found c s (held s.registers rs.number).word) s w)
@@ -46,7 +46,7 @@ load_found c rd rs v old new e w is h = record {
       ap (λ o. load c rd o (doing old g b f) w) (sym (is g b f)) ∙ h.does g b f w;
 }
 
--- a wild load whose answer is a word
+-- a wild load whose answer is a word writes that word to its register
 pub wild_word : (c : Colour) (rd : Reg) (v : ℕ) (old new : Bank) (e : Effect) (all left : List Wild) → Word v
     ≡ next_answer all → left ≡ drop 1 all → DoesQuietly (writes rd c v) old new e
     → Does (wild_load c rd) old new e all left
@@ -59,7 +59,7 @@ wild_word c rd v old new e (Word u ∷ more) left is rest h =
           ∙ ap (λ (ws : List Wild). record { state = followed e new g b f; wild = ws; output = put_out e }) (sym rest);
     }
 
--- a green store with room
+-- a green store with room queues its pair
 pub pushed : (a v : ℕ) (old : Bank) (q : Pending) → nat_lt (length old.queue) 8 ≡ true → q ≡ old.queue ++ (a, v) ∷ [] →
     DoesQuietly (store_green a v) old (record old { queue = q }) On
 pushed a v old q room is =
@@ -70,7 +70,7 @@ pushed a v old q room is =
           (sym is);
     })
 
--- a green store without room
+-- a green store without room is detected
 pub full : (a v : ℕ) (old : Bank) (q : Pending) → length old.queue ≡ 8 → q ≡ old.queue →
     DoesQuietly (store_green a v) old (record old { queue = q }) Detected
 full a v old q no_room is =
@@ -78,7 +78,7 @@ full a v old q no_room is =
     detected old (record old { queue = q }) Detected (λ _ _ _. ap (λ n. nat_lt n 8) no_room)
     (record { does = λ g b f w. ap (λ (p : Pending). detected (doing (record old { queue = p }) g b f) w) (sym is) })
 
--- a pair is committed
+-- committing a pair removes the oldest entry and writes the cell
 pub committed : (a v : ℕ) (old : Bank) (q : Pending) (m : Cells) → q ≡ drop 1 old.queue → m ≡ with_cell old.cells a v
     → DoesQuietly (commit a v) old (record old { queue = q; cells = m }) (Commit (record { addr = a; value = v }))
 committed a v old q m queue_is cells_is = record {
@@ -96,12 +96,12 @@ committed a v old q m queue_is cells_is = record {
       }) (sym cells_is);
 }
 
--- a blue store that commits
+-- a blue store commits if its pair is the oldest entry and its address is a cell's
 pub store_commits : (a v : ℕ) (old new : Bank) (e : Effect) → (is_oldest old.queue a v && is_cell old.cells a) ≡ true →
     DoesQuietly (commit a v) old new e → DoesQuietly (store_blue a v) old new e
 store_commits a v old new e holds h = first (commits a v) (commit a v) detected old new e (λ _ _ _. holds) h
 
--- a branch that is not taken
+-- a branch that is not taken goes on if d is 0
 pub passes : (old : Bank) → old.d ≡ 0 → DoesQuietly pass old old On
 passes old unset = first (λ s. s.d == 0) (λ s. quiet (goes_on s)) detected old old On (λ _ _ _.
     eq-eqb _ _ unset) (record { does = λ g b f w. refl })

@@ -16,7 +16,7 @@ next_count : (a n m b c : ℕ) → m ≡ n + 1 → a + m < 2 ^ 64 → (a + n < 2
     ≡ a + m
 next_count a n m b c is few before next = let e = before (omega (arith, is, few)) in omega (arith, e, next, is, few)
 
--- counting one more output, if the count fits in a word
+-- adding 1 counts one more output, if the new count fits in a word
 pub count_next : (first old new : ℕ) (before : List Output) (x : Output) →
     (first + length before < 2 ^ 64 → old ≡ first + length before) → new ≡ (old + 1) % 2 ^ 64
     → first + length (before ++ x ∷ []) < 2 ^ 64 → new ≡ first + length (before ++ x ∷ [])
@@ -47,6 +47,6 @@ run_few o strike w (suc n) =
     let r = run o strike w n in
     few_more n r.outputs (step o (struck_before strike n r.state) r.wild).output (run_few o strike w n)
 
--- a count of such outputs fits if the number of steps does
+-- so a count of outputs fits in a word if the number of steps does
 pub few_fit : (long n most : ℕ) → long ≤ n → n ≤ most → most < 2 ^ 64 → 0 + long < 2 ^ 64
 few_fit long n most a b c = omega (arith, a, b, c)

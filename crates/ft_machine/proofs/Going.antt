@@ -116,7 +116,7 @@ module _ {T : Type 0} (outlet : Ghosts T) where
       subst (λ zs. outlet.heard first zs b t2) (append_assoc before xs ys)
       (k first (before ++ xs) (h first before given))
 
-  -- a step without an output
+  -- after a step without an output, the outlet is unchanged and the machine still running
   pub passes_quiet : (t : T) → PassesOn outlet Quiet t t pauses.Running
   passes_quiet t = record { status_is = refl; given = λ e. absurd (cc); hears = hears_none t; still = λ x h. h }
 
@@ -126,7 +126,7 @@ module _ {T : Type 0} (outlet : Ghosts T) where
   pub passes_detected : (t : T) → PassesOn outlet Detected t t pauses.Detected
   passes_detected t = record { status_is = refl; given = λ e. absurd (cc); hears = hears_none t; still = λ x h. h }
 
-  -- a step with an output
+  -- if the outlet takes an output and goes on, the machine is still running
   pub passes_on : (x : Output) (b : Bool) (t t' : T) → b ≡ true → Hears outlet.heard t (x ∷ []) b t' →
       ((other : Output) → outlet.may t other → outlet.may t' other) → PassesOn outlet (Commit x) t t' pauses.Running
   passes_on x b t t' is h still = record {
@@ -146,7 +146,7 @@ module _ {T : Type 0} (outlet : Ghosts T) where
   }
 
   module _ (o : Object) where
-    -- no steps
+    -- taking no steps changes nothing
     pub goes_none : (s : State) (w : List Wild) (t : T) → s.status ≡ status.Running →
         Goes outlet o s w t s w t 0 pauses.Running
     goes_none s w t running =
@@ -161,7 +161,7 @@ module _ {T : Type 0} (outlet : Ghosts T) where
           still = λ x h. h;
         }
 
-    -- steps that follow others
+    -- steps and the steps that follow them, taken together, are steps from the first state
     pub goes_more : (s s1 s2 : State) (w w1 w2 : List Wild) (t t1 t2 : T) (n m : ℕ) (pause : Pause) →
         Goes outlet o s w t s1 w1 t1 n pauses.Running → Goes outlet o s1 w1 t1 s2 w2 t2 m pause →
         Goes outlet o s w t s2 w2 t2 (n + m) pause
@@ -190,7 +190,7 @@ module _ {T : Type 0} (outlet : Ghosts T) where
     before_one s w zero running below = ap (λ (r : Ran). r.state.status) (span-zero o s w) ∙ running
     before_one s w (suc j) running below = absurd (omega (arith, below))
 
-    -- one step
+    -- one step, with its output passed on to the outlet
     pub goes_one : (s s' : State) (w w' : List Wild) (t t' : T) (last : Stepped) (pause : Pause) → s.status
         ≡ status.Running → Takes (step o s w) s' w' last → PassesOn outlet last t t' pause →
         Goes outlet o s w t s' w' t' 1 pause
@@ -224,7 +224,7 @@ module _ {T : Type 0} (outlet : Ghosts T) where
     before_two b pc i w (suc zero) is below = ap (λ (r : Ran). r.state.status) (fetched b pc i w is)
     before_two b pc i w (suc (suc j)) is below = absurd (omega (arith, below))
 
-    -- a whole instruction
+    -- a whole instruction in two steps, with its output passed on to the outlet
     pub goes_two : (b new : Bank) (pc : ℕ) (i : Instr) (e : Effect) (w left : List Wild) (t t' : T) (pause : Pause) →
         instr_at o pc ≡ Some i → Does (execute i) b new e w left → PassesOn outlet (told_effect e) t t' pause
         → Goes outlet o (doing b pc pc None) w t (followed e new pc pc (Some i)) left t' 2 pause
@@ -245,7 +245,7 @@ module _ {T : Type 0} (outlet : Ghosts T) where
           still = p.still;
         }
 
-    -- one step, if there is no instruction
+    -- if there is no instruction, one step detects that
     pub goes_lost : (b : Bank) (pc : ℕ) (w : List Wild) (t : T) → instr_at o pc ≡ None →
         Goes outlet o (doing b pc pc None) w t (record (doing b pc pc None) { status = status.Detected }) w t 1
         pauses.Detected
@@ -261,7 +261,7 @@ module _ {T : Type 0} (outlet : Ghosts T) where
           still = λ x h. h;
         }
 
-    -- an instruction after those before it
+    -- a whole instruction after earlier steps, with its output passed on to the outlet
     pub goes_then : (s : State) (b new : Bank) (i : ℕ) (x : Instr) (e : Effect) (w w1 left : List Wild) (t t1 t2 : T)
         (n m : ℕ) (pause : Pause) → Goes outlet o s w t (doing b (1 + i) (1 + i) None) w1 t1 n pauses.Running
         → instr_at o (1 + i) ≡ Some x → Does (execute x) b new e w1 left → PassesOn outlet (told_effect e) t1 t2 pause →

@@ -12,7 +12,7 @@ use Rattle.ft_types.specs.declared.object.Object.{Object}
 use Rattle.ft_types.specs.Texts.{line_at}
 use Rattle.ft_machine.specs.Drives.{PutsOutputs, output_lines, end_of_going}
 
--- the lines of outputs followed by others
+-- the lines of concatenated outputs are the lines of the first list, then those of the second
 pub lines-append : (o : Object) (xs ys : List Output) → output_lines o (xs ++ ys) ≡ output_lines o xs
     ++ output_lines o ys
 lines-append o xs ys = map-append (line_at o) xs ys

@@ -16,12 +16,12 @@ use Rattle.ft_semantics.specs.Strike.{is_running, is_there, struck_state}
 use Rattle.ft_machine.specs.declared.stepped.Stepped.{Stepped}
 use Rattle.ft_machine.specs.Answers.{TakesQuietly}
 
--- the condition holds
+-- if the condition holds, the choice takes the step of its first case
 takes_first : (b : Bool) (t u : List Wild → Stepping) (s : State) (answer : Stepped) → b ≡ true →
     TakesQuietly t s answer → TakesQuietly (λ w. if b then t w else u w) s answer
 takes_first b t u s answer holds h = subst (λ v. TakesQuietly (λ w. if v then t w else u w) s answer) (sym holds) h
 
--- the condition fails
+-- if it fails, the choice takes the step of its second case
 takes_second : (b : Bool) (t u : List Wild → Stepping) (s : State) (answer : Stepped) → b ≡ false →
     TakesQuietly u s answer → TakesQuietly (λ w. if b then t w else u w) s answer
 takes_second b t u s answer fails h = subst (λ v. TakesQuietly (λ w. if v then t w else u w) s answer) (sym fails) h
@@ -49,7 +49,7 @@ no_entry : (s : State) (i : ℕ) → s.status ≡ Running → (is_running s.stat
 no_entry s i running absent = ltb-false i (length s.queue)
     (ap (λ x. is_running x && nat_lt i (length s.queue)) (sym running) ∙ absent)
 
--- a strike of a queued address
+-- striking a queued address changes the address of that entry
 pub strike_address : (s : State) (i v : ℕ) (q : Pending) → s.status ≡ Running → q ≡ with_address s.queue i v →
     record s { queue = q } ≡ struck_state s (QAddr i) v
 strike_address s i v q running is =
@@ -58,7 +58,7 @@ strike_address s i v q running is =
     (λ absent. ap (λ (p : Pending). record s { queue = p })
     (with_address-beyond s.queue i v (no_entry s i running absent)))
 
--- a strike of a queued value
+-- striking a queued value changes the value of that entry
 pub strike_value : (s : State) (i v : ℕ) (q : Pending) → s.status ≡ Running → q ≡ with_value s.queue i v →
     record s { queue = q } ≡ struck_state s (QVal i) v
 strike_value s i v q running is =

@@ -80,7 +80,7 @@ span_running o n m s w running =
     ∙ span_stays o m (span o n s w).state (span o n s w).wild h in
     subst HasStopped (sym (ap (λ (q : State). q.status) same) ∙ running) h)
 
--- a span from where another one ended
+-- continuing a span from where it ended gives the longer span
 pub span_then : (o : Object) (n m : ℕ) (s s1 : State) (w w1 : List Wild) → s1 ≡ (span o n s w).state → w1
     ≡ (span o n s w).wild → span o (n + m) s w ≡ joined (span o n s w).outputs (span o m s1 w1)
 span_then o n m s s1 w w1 es ew =
@@ -88,11 +88,11 @@ span_then o n m s s1 w w1 es ew =
     ∙ ap (λ q. joined (span o n s w).outputs (span o m q (span o n s w).wild)) (sym es)
     ∙ ap (λ v. joined (span o n s w).outputs (span o m s1 v)) (sym ew)
 
--- one step
+-- a span of one step is that step
 pub span_one : (o : Object) (s : State) (w : List Wild) → span o 1 s w ≡ extended [] (step o s w)
 span_one o s w = span-add_one o 0 s w ∙ ap (λ (r : Ran). extended r.outputs (step o r.state r.wild)) (span-zero o s w)
 
--- a fetch
+-- a step with nothing fetched and equal counters is a fetch
 pub fetched_step : (o : Object) (b : Bank) (pc : ℕ) (i : Option Instr) (w : List Wild) → instr_at o pc ≡ i →
     step o (doing b pc pc None) w ≡ fetch i (doing b pc pc None) w
 fetched_step o b pc i w is =
@@ -122,7 +122,7 @@ pub span_lost : (o : Object) (b : Bank) (pc : ℕ) (w : List Wild) → instr_at 
     }
 span_lost o b pc w is = span_one o (doing b pc pc None) w ∙ ap (extended []) (fetched_step o b pc None w is)
 
--- the bounds on the address of one of n cells
+-- the address of one of n cells is within these bounds
 pub cell_bounds : (n a : ℕ) → (nat_le 1048576 a && nat_lt a (1048576 + n)) ≡ true → (1048576 ≤ a) × (a < 1048576 + n)
 cell_bounds n a h = (grind (arith, nat_tests), grind (arith, nat_tests))
 

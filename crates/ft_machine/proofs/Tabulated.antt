@@ -13,7 +13,7 @@ either_way : {V : Type 0} (b : Bool) (v : V) (o : Option V) → is_some (cond b 
 either_way true v o = refl
 either_way false v o = refl
 
--- the keys after an insertion
+-- after an insertion, the keys are the new key and those before
 pub contains_key-insert : {V : Type 0} (m : _) (k : ℕ) (v : V) (q : ℕ) → contains_key (insert {R = nat_cmp} m k v) q
     ≡ ((q == k) || contains_key m q)
 contains_key-insert m k v q = ap is_some (get-insert nat_cmp_total m k v q)

@@ -156,7 +156,7 @@ impl Bank {
         }
     }
 
-    /// What a load finds without the plan: green looks at the pending stores first.
+    /// What a load finds, apart from the answers to wild loads: a green load looks at the pending stores first.
     #[inline(always)]
     fn found(&self, colour: Colour, addr: u64) -> Option<u64>
         ensures { (g b : ℕ) (f : Option instrs.Instr) → result ≡ found colour (doing self.now g b f) addr }

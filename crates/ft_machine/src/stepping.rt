@@ -25,7 +25,7 @@ use ft_semantics::Status;
 use ft_types::Program;
 
 impl Machine {
-    /// Strikes a site: the word there becomes `value`, and its colour does not change. Returns `false` exactly if the
+    /// Strikes a site: the word there becomes `value`, and its colour does not change. Returns `false` exactly when the
     /// machine has stopped or the site does not exist, and then changes nothing.
     pub fn strike(&mut self, site: Site, value: u64) -> bool
         ensures there { result ≡ is_there self.old site }

@@ -76,7 +76,7 @@ fn stretch_end(limit: usize, end: usize) -> usize
     if limit < end { limit } else { end }
 }
 
-/// The number of steps that `all` instructions take, not counting those in `rest` bytes.
+/// The number of steps that `all` instructions take, not counting the instructions in the last `rest` bytes.
 #[inline(always)]
 fn steps_but(all: u64, rest: usize) -> u64
     requires few { rest / 16 ≤ all }

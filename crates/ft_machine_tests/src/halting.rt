@@ -1,4 +1,4 @@
-//! A buffering sink over a writer that is interrupted, accepts little and fails.
+//! A buffering sink over a writer that is interrupted, accepts little at a time and fails in the end.
 use ft_edge::{GatheringSink, Sink};
 use std::alloc::Global;
 use std::io;

@@ -28,14 +28,14 @@ impl<R: Abort + Drop, K: Sink + Drop> Sink for KeepingSink<R, K> {
     }
 }
 
-/// A load that a shelf was asked for.
+/// A call of a shelf's `load`: the name and the limit.
 #[derive(Drop)]
 struct Asked {
     name: Vec<u8>,
     limit: usize,
 }
 
-/// A shelf that passes each load on, and keeps its name and its limit.
+/// A shelf that passes each load on, and keeps the name and the limit.
 #[derive(Drop)]
 struct KeepingShelf<R: Abort + Drop, F: Shelf + Drop> {
     rt: R,

@@ -29,7 +29,7 @@ use Rattle.ft_simulation.proofs.Lists.{begins_itself}
 use Rattle.ft_meaning.proofs.Longer.{Grows}
 use Rattle.ft_meaning.proofs.Sinks.{breaks_longer}
 
--- a run that does what another does, perhaps after some more work
+-- if `whole` does what `go` does, perhaps with more work done before it, a run of `go` is a run of `whole`
 pub runs_from : (go whole : State → Outcome) (f : ℕ → ℕ) (names : List (List ℕ)) (r q : Run) (before after : SinkLog)
     (res : Result (Unit {0}) Stop) →
     ((o : List Output) (w : ℕ) → whole (state r o w) ≡ go (state r o (f w))) → RunsTo go names r q before after res →
@@ -85,7 +85,7 @@ ready_kept names r q k h = record {
   room = subst (λ n. HasRoom names (n - 22)) (sym k.line) h.room;
 }
 
--- what a result says about a meaning
+-- a result and the lines written agree with a meaning
 pub record Meant (e : MeanEnd) (names : List (List ℕ)) (m : Outcome) (old new : SinkLog) : Type 0 where
   pub ends : EndsAs e m
   pub lines : Puts (put_end e) (output_lines names (outputs m)) old new
@@ -105,7 +105,7 @@ start_is : (p : Program) (t : ℕ) (r : Run) → r.vars.items ≡ replicate p.va
     state r [] 0 ≡ start p t
 start_is p t r a b c = λ i. record { vars = a i; cells = b i; out = []; left = c i; work = 0 }
 
--- a run of the whole program from its start
+-- a run of the whole program from its start agrees with the program's meaning
 pub meant : (prog : Prog) (t : ℕ) (r q : Run) (names : List (List ℕ)) (bs : List (Stmt Slot)) (old new : SinkLog)
     (res : Result (Unit {0}) Stop)
     → names ≡ (program_of prog).names → bs ≡ prog.body.items → r.vars.items ≡ replicate prog.vars 0

@@ -1,4 +1,4 @@
--- A larger budget leaves an ended run unchanged and extends a cut one.
+-- A larger budget leaves a run that ended unchanged, and extends one that was cut.
 use Rattle.std.proofs.Common.{◌≡◌, ℕ, zero, suc, ◌+◌, ◌≤◌, [], ◌∷◌, length, refl, sym, ◌∙◌, subst, arith}
 use Rattle.std.proofs.lemmas.List.{length-set}
 use Rattle.ft_simulation.proofs.Lists.{begins_itself, begins_on}
@@ -12,8 +12,8 @@ use Rattle.ft_meaning.specs.Meaning.{evaluated_both, assigned, with_left, then_d
 use Rattle.ft_meaning.specs.Meaning.{start, meaning}
 use Rattle.ft_meaning.specs.Begins.{Begins}
 
--- an ended run is the same except for the turns left over, and the outputs of a cut one are a prefix of the longer
--- run's
+-- a run that ended is the same except for the turns left over, and the outputs of a run that was cut are a prefix of
+-- the longer run's
 abbrev pub Longer : ℕ → Outcome → Outcome → Type 0
 Longer d (Ended s) r = r ≡ Ended (with_left (s.left + d) s)
 Longer d (Cut s) r = Begins s.out (state_of r).out
@@ -94,7 +94,7 @@ run_grows (choose e a b rest) s =
     (grows_trans s s1 _ (evaluated_grows e s) (zero_grows (value e s.vars s.cells) s1 (run b s1) (run a s1)
     (run_grows b s1) (run_grows a s1))) (λ s2. run_grows rest s2)
 
--- d more turns
+-- the state with d more turns
 abbrev more : ℕ → State → State
 more d s = with_left (s.left + d) s
 

@@ -26,7 +26,7 @@ module _ (e : Expression Slot) (body : State → Outcome) (s : State) where
       at_value (value e s.vars s.cells) (Ended (evaluated e s)) (with_turn s.left (evaluated e s) go) ne
       ∙ ap (λ l. with_turn l (evaluated e s) go) z
 
-  -- a turn, and then the loop again
+  -- otherwise, the loop takes one turn and then runs again
   pub loop_turn : (m l : ℕ) → value e s.vars s.cells ≢ 0 → s.left ≡ suc l → s.left ≤ m → (k : ℕ) × (l ≤ k)
       × (loops m e body s ≡ then_do (body (with_left l (evaluated e s))) (loops k e body))
   loop_turn zero l ne is le = absurd (omega arith)
@@ -38,7 +38,7 @@ module _ (e : Expression Slot) (body : State → Outcome) (s : State) where
             ne ∙ ap (λ l. with_turn l (evaluated e s) go) is,
       )
 
--- nothing follows
+-- doing nothing more leaves an outcome unchanged
 pub then_ended : (r : Outcome) → then_do r Ended ≡ r
 then_ended (Ended s) = refl
 then_ended (Cut s) = refl
@@ -48,7 +48,7 @@ then_then : (r : Outcome) (f g h : State → Outcome) → ((s : State) → h s �
 then_then (Ended s) f g h e = e s
 then_then (Cut s) f g h e = refl
 
--- statements, and then those that follow them
+-- running concatenated statements is running the first ones and then those that follow
 pub run_follow : (a b : StatementList Slot) (s : State) → run (follow a b) s ≡ then_do (run a s) (run b)
 run_follow none b s = refl
 run_follow (assign to e rest) b s = run_follow rest b (assigned to (value e s.vars s.cells) (evaluated e s))
@@ -69,7 +69,7 @@ fits_parts c v (assign_at to i e rest) b h = let p = fits_parts c v rest b h.3 i
 fits_parts c v (loop e body rest) b h = let p = fits_parts c v rest b h.2 in ((h.0, h.1, p.0), p.1)
 fits_parts c v (choose e if_so if_not rest) b h = let p = fits_parts c v rest b h.3 in ((h.0, h.1, h.2, p.0), p.1)
 
--- an expression that fits still fits after words changed
+-- an expression that fits still fits if the numbers of cells and variables are the same
 pub expression_moved : (e : Expression Slot) (c d v u : ℕ) → d ≡ c → u ≡ v → ExpressionFits c v e → ExpressionFits d u e
 expression_moved e c d v u p q h = subst (λ x. ExpressionFits x u e) (sym p)
     (subst (λ y. ExpressionFits c y e) (sym q) h)

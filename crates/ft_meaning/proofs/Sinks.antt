@@ -13,7 +13,7 @@ use Rattle.ft_meaning.specs.Begins.{Begins}
 use Rattle.ft_meaning.specs.Room.{HasRoom}
 use Rattle.ft_meaning.specs.Runs.{told}
 
--- a line was written
+-- writing one more line records one more output
 pub told_push : (names : List (List ℕ)) (first before after : SinkLog) (o : List Output) (x : Output)
     → before ≡ told names first o
     → after ≡ with_lines (line_of names x ∷ []) before → after ≡ told names first (o ++ x ∷ [])
@@ -21,7 +21,7 @@ told_push names first before after o x h p =
     lines_then (output_lines names o) (line_of names x ∷ []) first before after h p
     ∙ ap (λ ls. with_lines ls first) (sym (map-append (line_of names) o (x ∷ [])))
 
--- a put failed
+-- a failed put breaks off the outputs at the last line
 pub breaks_here : (names : List (List ℕ)) (first before after : SinkLog) (o : List Output) (x : Output)
     → before ≡ told names first o
     → BreaksOff (line_of names x ∷ []) before after → BreaksOff (output_lines names (o ++ x ∷ [])) first after
@@ -43,13 +43,13 @@ name_found [] k d h = absurd (omega arith)
 name_found (x ∷ xs) zero d h = refl
 name_found (x ∷ xs) (suc k) d h = name_found xs k d (omega arith)
 
--- there is room for each name
+-- a name is no longer than the room for names
 pub room_for : (names : List (List ℕ)) (room k : ℕ) → HasRoom names room → length (name_of names k) ≤ room
 room_for [] room k h = omega arith
 room_for (n ∷ names) room zero h = h.0
 room_for (n ∷ names) room (suc k) h = room_for names room k h.1
 
--- the line of a cell's output
+-- the line of a cell's output has the cell's name and the value
 pub line_is : (names : List (List ℕ)) (k v : ℕ) (name : List ℕ) → name_of names k ≡ name →
     line_of names (record { addr = cell_address k; value = v }) ≡ line name v
 line_is names k v name h =
@@ -71,7 +71,7 @@ map_push : (xs : List (Vec ℕ Global)) (x : Vec ℕ Global) → map (λ n. n.it
 map_push [] x = refl
 map_push (y ∷ xs) x = ap (λ v. y.items ∷ v) (map_push xs x)
 
--- one more name
+-- with one more name, the room needed is the larger of its length and the room so far
 pub room_step : (xs : List (Vec ℕ Global)) (i a b : ℕ) (d : Vec ℕ Global) → i < length xs →
     HasRoom (map (λ n. n.items) (take i xs)) a → b ≡ max (length (get_or xs i d).items) a →
     HasRoom (map (λ n. n.items) (take (i + 1) xs)) b

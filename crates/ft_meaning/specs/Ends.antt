@@ -4,7 +4,7 @@ use Rattle.ft_meaning.specs.declared.mean_end.MeanEnd.{MeanEnd}
 use Rattle.ft_meaning.specs.declared.mean_end.MeanEnd.TheVariants as ends
 use Rattle.ft_meaning.specs.Meaning.{Outcome, Ended, Cut}
 
--- a meaning ended or was cut, as the result says; a failed write and running out of memory say nothing about it
+-- the defined run ended or was cut, as the result says; a failed write and running out of memory say nothing about it
 abbrev pub EndsAs : MeanEnd → Outcome → Type 0
 EndsAs ends.Ended (Ended s) = Unit {0}
 EndsAs ends.Ended (Cut s) = ⊥

@@ -46,7 +46,7 @@ RunsTo go names r q before after (Err stops.WriteFault) =
     (first : SinkLog) (o : List Output) (w : ℕ) → before ≡ told names first o → BreaksOff
     (output_lines names (outputs (go (state r o w)))) first after
 
--- how a meaning ended, from how its run ended
+-- how the computation of a meaning ended, given how its run ended
 abbrev pub end_of_run : Result (Unit {0}) Stop → MeanEnd
 end_of_run (Ok u) = ends.Ended
 end_of_run (Err stops.Cut) = ends.Cut

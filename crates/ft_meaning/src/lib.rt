@@ -1,9 +1,9 @@
 //! What a program means, with a budget of loop iterations.
 //!
 //! The crate promises that, unless a write fails or memory runs out, `mean` writes one line for each output of the
-//! program's meaning, and returns whether it ended or was cut when its turns ran out. More turns leave an ended meaning
-//! unchanged, except for the turns left over, and only extend the outputs of a cut one. Its definitions:
-//! `specs/Meaning.antt`, `specs/Lines.antt`, `specs/Ends.antt`.
+//! program's meaning, and returns whether the program ended, or was cut when its turns ran out. More turns change
+//! nothing for a program that ended, except the turns left over, and only add outputs for one that was cut. Its
+//! definitions: `specs/Meaning.antt`, `specs/Lines.antt`, `specs/Ends.antt`.
 #![tactic(auto)]
 
 mod laws;

@@ -1,6 +1,6 @@
-//! How a program's meaning ended.
+//! How the computation of a program's meaning ended.
 
-/// How a program's meaning ended.
+/// How the computation of a program's meaning ended.
 #[derive(Clone, Copy, Debug, PartialEq, Eq)]
 pub enum MeanEnd {
     /// The program ended.

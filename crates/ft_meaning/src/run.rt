@@ -44,7 +44,7 @@ fn cell_at(array: Slot, word: u64, cells: usize) -> usize
 }
 
 /// The word of the array cell that an index selects. This is a separate function so that evaluating names and literals
-/// saves no registers.
+/// need not save processor registers.
 #[inline(never)]
 #[cycle(word)]
 fn indexed_word(array: Slot, index: &Expr<Slot>, vars: &[u64], cells: &[u64]) -> u64

@@ -34,7 +34,7 @@ fn start(alloc: Global, prog: &Prog<'_>, names: &[Vec<u8>], turns: u64) -> Resul
     })
 }
 
-/// How a meaning ended, from how its run ended.
+/// How the computation of a meaning ended, given how its run ended.
 fn end_of_run(run: Result<(), Stop>) -> MeanEnd
     ensures { result ≡ end_of_run run }
 {
@@ -45,9 +45,9 @@ fn end_of_run(run: Result<(), Stop>) -> MeanEnd
     }
 }
 
-/// Computes a program's meaning with this many loop turns for the whole run. `Ended` and `Cut` say that the meaning
+/// Computes a program's meaning with this many loop turns for the whole run. `Ended` and `Cut` say that the program
 /// ended or was cut; a line was then written for each of its outputs, each with one put. `WriteFault` and `NoMemory` do
-/// not say how the meaning ends: with `WriteFault` the put of a line failed, the lines before it were written and
+/// not say how the program ends: with `WriteFault` the put of a line failed, the lines before it were written and
 /// nothing was put after it; with `NoMemory` nothing was put.
 ///
 /// The time is proportional to the work, and the recursion is no deeper than statements and operators nest in the

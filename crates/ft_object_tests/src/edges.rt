@@ -79,7 +79,7 @@ fn one_by_one(forms: &mut Interner, a: Form, b: Form, c: Form, d: Form) -> Resul
     Ok(forms.op(Op::Mul, three, a)?)
 }
 
-/// Whether two products of four forms are the same: by pairs, and one by one from the last.
+/// Whether the product of four forms is the same when made by pairs and when made one by one from the last.
 #[tactic(auto, using(ft_norm::proofs::HeldForms::keeps_both))]
 fn commute(forms: &mut Interner, a: Form, b: Form, c: Form, d: Form) -> Result<bool, NoMemory>
     requires first { IsInteger forms.old a }

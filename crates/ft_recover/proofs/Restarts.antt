@@ -40,7 +40,7 @@ counted_all now long h = omega (arith, h)
 
 module _ (o : Object) (strike : Option Strike) (w : List Wild) (s : State) (most n passed left now : ℕ)
     (old new : SinkLog) (small : most < 2 ^ 64) where
-  -- a run that was not ended by a failed put
+  -- if no put failed, the machine and the count of outputs are those of the run after all its steps
   pub ran_past : (pause : Pause) → ¬ (pause ≡ pauses.Refused) → HasRun o strike w s most n pause →
       Passes o passed 0 (outputs_after o strike w n) (goes_on pause) left now old new → RunsTo o strike w most s now
   ran_past pause went r h =
@@ -66,7 +66,7 @@ module _ (o : Object) (strike : Option Strike) (w : List Wild) (s : State) (most
   puts_past pauses.Detected went r h = puts_whole pauses.Detected went r h.lines
   puts_past pauses.Refused went r h = absurd (went refl)
 
-  -- a run that was ended by a failed put
+  -- if a put failed, the lines of the run's outputs, without the first ones, break off there
   pub breaks_past : (pause : Pause) → pause ≡ pauses.Refused → n ≤ most →
       Passes o passed 0 (outputs_after o strike w n) (goes_on pause) left now old new →
       BreaksOff (output_lines o (drop passed (outputs_after o strike w most))) old new
@@ -112,13 +112,13 @@ module _ (o : Object) (strike : Option Strike) (w : List Wild) (n : ℕ) (spella
   both_lines : output_lines o (outputs_after o strike w n) ++ output_lines o front.0 ≡ whole_output o w n
   both_lines = sym (lines-append o (outputs_after o strike w n) front.0) ∙ ap (output_lines o) front.1
 
-  -- a put of the struck run failed
+  -- if a put of the struck run failed, the whole output breaks off there
   pub breaks_early : BreaksOff (output_lines o (outputs_after o strike w n)) old mid →
       BreaksOff (whole_output o w n) old mid
   breaks_early h = subst (λ ls. BreaksOff ls old mid) both_lines
       (breaks_before (output_lines o (outputs_after o strike w n)) (output_lines o front.0) old mid h)
 
-  -- the second run writes the rest
+  -- together with the lines of the struck run, those of the second run are the whole output
   pub puts_again : {A E : Type 0} (r : Result A E) (committed : ℕ) (new : SinkLog) → committed
       ≡ length (outputs_after o strike w n) → mid ≡ with_lines (output_lines o (outputs_after o strike w n)) old
       → Puts (end_of_puts r) (output_lines o (drop committed (outputs_after o None w n))) mid new →

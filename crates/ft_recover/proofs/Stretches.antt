@@ -48,7 +48,7 @@ module _ (o : Object) (passed count : ℕ) (before : List Output) (x : Output) (
   long : length (before ++ x ∷ []) ≡ length before + 1
   long = length-append before (x ∷ [])
 
-  -- one more output is left out
+  -- `Passes` still holds after one more output is left out
   pub passes_over : (left' now' : ℕ) → 0 < left → left' ≡ left - 1 → now' ≡ (now + 1) % 2 ^ 64 →
       Passes o passed count (before ++ x ∷ []) true left' now' first old
   passes_over left' now' some less more =
@@ -61,7 +61,7 @@ module _ (o : Object) (passed count : ℕ) (before : List Output) (x : Output) (
         lines = subst (λ xs. old ≡ with_lines (output_lines o xs) first) (sym same) h.lines;
       }
 
-  -- the line of one more output was written, or its put failed
+  -- it still holds after the line of one more output was written, or its put failed
   pub passes_put : (r : Result (Unit {0}) Failed) (now' : ℕ) (new : SinkLog) → left ≡ 0 → now' ≡ (now + 1) % 2 ^ 64 →
       Puts (end_of_puts r) (line_at o x ∷ []) old new →
       Passes o passed count (before ++ x ∷ []) (is_ok r) left now' first new

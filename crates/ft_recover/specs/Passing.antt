@@ -37,7 +37,8 @@ pub record RunsTo (o : Object) (strike : Option Strike) (w : List Wild) (n : ℕ
   pub state_is : s' ≡ state_after o strike w n
   pub count_is : count ≡ length (outputs_after o strike w n)
 
--- a recovery finished: the run without a fault has this status, and this is the restart
+-- a recovery finished: the run without a fault has this status, and this is the number of outputs left out, if there
+-- was a second run
 abbrev pub Finishes : RecoverEnd → Status → Option ℕ → Type 0
 Finishes (ending.Done again) s restart = (s ≡ status.Done) × (again ≡ restart)
 Finishes (ending.OutOfSteps again) s restart = (s ≡ status.Running) × (again ≡ restart)

@@ -34,7 +34,7 @@ EndsAs (OutOfSteps again) s = s ≡ status.Running
 EndsAs WriteFault s = Unit {0}
 EndsAs NoMemory s = Unit {0}
 
--- a recovery that ends as a run does reports this restart, or none if there was none
+-- a recovery that finishes reports this number of outputs left out, or `None` if there was no second run
 abbrev pub Restarts : RecoverEnd → Option ℕ → Type 0
 Restarts (Done again) restart = again ≡ restart
 Restarts (OutOfSteps again) restart = again ≡ restart

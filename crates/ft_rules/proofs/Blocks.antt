@@ -16,7 +16,7 @@ starts_rise end least (b ∷ bs) zero (suc n) x y h l e f = let same : b ≡ x =
 starts_rise end least (b ∷ bs) (suc k) (suc n) x y h l e f =
     starts_rise end (suc b.start) bs k n x y h.2 (omega arith) e f
 
--- the first that passes, if none before it does
+-- `find` returns an element that passes the test if none before it does
 pub find_first : {X : Type 0} (p : X → Bool) (xs : List X) (n : ℕ) (x : X) → slice_get xs n ≡ Some x → p x ≡ true →
     ((k : ℕ) (y : X) → k < n → slice_get xs k ≡ Some y → p y ≡ false) → find p xs ≡ Some x
 find_first p [] n x e h before = cc

@@ -14,7 +14,7 @@ use Rattle.ft_types.specs.Spellable.{IsBase, IsCell, IsSpellable}
 use Rattle.ft_typing.specs.TypedWord.{common_type, run_type, same_basic}
 use Rattle.ft_contexts.proofs.Lists.{range_there}
 
--- the cell whose head was found
+-- if the head of cell k was found, that cell exists and has this head
 pub cell_found : (o : Object) (k : ℕ) (h : CellHead) → option_map cell_head_of (slice_get o.cells k) ≡ Some h →
     (x : Cell) × ((slice_get o.cells k ≡ Some x) × (cell_head_of x ≡ h))
 cell_found o k h e = found (slice_get o.cells k) refl e
@@ -24,7 +24,7 @@ cell_found o k h e = found (slice_get o.cells k) refl e
     found None f e = cc
     found (Some x) f e = (x, (f, (let same : cell_head_of x ≡ h = cc in same)))
 
--- the types of the cells from number k on
+-- the types of the cells from number k on are the type of cell k, then those of the cells after it
 pub types_there : (o : Object) (k past : ℕ) (h : CellHead) → k < past → option_map cell_head_of (slice_get o.cells k)
     ≡ Some h → map basic_of (slice_range o.cells k past) ≡ h.basic ∷ map basic_of (slice_range o.cells (k + 1) past)
 types_there o k past h l e =

@@ -30,26 +30,26 @@ use Rattle.ft_norm.proofs.HeldForms.{integer_from, memory_from}
 pub refused : (x y : Outcome) (e : RuleError) → x ≡ y → IsRefusal y e → IsRefusal x e
 refused x y e s h = subst (λ z. IsRefusal z e) (sym s) h
 
--- leaving some premises at one that fails
+-- returning the refusal of a failing premise is a correct result
 pub passes_exit : {A : Type 0} (r : Result A RuleError) (e : RuleError) (x y : Outcome) (after : A → Outcome) →
     IsErrAnd r (λ f. f ≡ e) → x ≡ y → IsRefusal y e → Passes x after r
 passes_exit (Ok a) e x y after h s k = absurd h
 passes_exit (Err f) e x y after h s k = subst (λ (g : RuleError). IsRefusal x g) (sym h) (refused x y e s k)
 
--- leaving some premises when memory runs out
+-- so is returning because memory ran out
 pub passes_stop : {A : Type 0} (r : Result A RuleError) (x : Outcome) (after : A → Outcome) →
     IsErrAnd r (λ f. f ≡ NoMemory) → Passes x after r
 passes_stop (Ok a) x after h = absurd h
 passes_stop (Err f) x after h = subst (λ (g : RuleError). IsRefusal x g) (sym h) tt
 
--- premises that come after others
+-- a correct result for the remaining premises is correct for the whole row if the premises before them have passed
 pub passes_after : {A : Type 0} (r : Result A RuleError) (x y : Outcome) (after : A → Outcome) → x ≡ y →
     Passes y after r → Passes x after r
 passes_after r x y after e h = subst (λ z. Passes z after r) (sym e) h
 
 -- WHOLE ROWS
 
--- the context is unchanged
+-- a row that leaves the context unchanged is within the bounds of `Grows`
 grows_none : (fs gs : List Normal) (c : Context) → Keeps fs gs → HoldsForms fs c → Grows fs gs c c
 grows_none fs gs c keeps held =
     let e = context_stays fs gs c keeps held in
@@ -57,7 +57,7 @@ grows_none fs gs c keeps held =
     let q = ap (λ (k : Defined). length k.queue) e in
     record { memory = omega (arith, m); queue = λ l. omega (arith, q, l) }
 
--- the sizes of its memory and its static queue are unchanged
+-- so is a row that leaves the sizes of the memory and of the static queue unchanged
 pub grows_same : (fs gs : List Normal) (c d : Context) → Keeps fs gs → HoldsForms fs c →
     updates (context_in gs d).memory ≡ updates (context_in gs c).memory → length (context_in gs d).queue
     ≡ length (context_in gs c).queue → Grows fs gs c d
@@ -65,7 +65,7 @@ grows_same fs gs c d keeps held a b =
     let g = grows_none fs gs c keeps held in
     record { memory = omega (arith, g.memory, a); queue = λ l. let h = g.queue l in omega (arith, h, b) }
 
--- leaving a row at a premise that fails
+-- returning the refusal of a failing premise meets the contract of a row
 pub does_exit : (r : Result Next RuleError) (e : RuleError) (x y : Outcome) (o : Object) (fs gs : List Normal)
     (c : Context) → IsErrAnd r (λ f. f ≡ e) → x ≡ y → IsRefusal y e → Keeps fs gs → HoldsForms fs c → NamesTypes o c →
     Does x o fs gs c c r
@@ -79,7 +79,7 @@ does_exit (Err f) e x y o fs gs c h s k keeps held types = record {
   grows = grows_none fs gs c keeps held;
 }
 
--- leaving a row when memory runs out
+-- so does returning because memory ran out
 pub does_stop : (r : Result Next RuleError) (x : Outcome) (o : Object) (fs gs : List Normal) (c : Context) →
     IsErrAnd r (λ f. f ≡ NoMemory) → Keeps fs gs → HoldsForms fs c → NamesTypes o c → Does x o fs gs c c r
 does_stop (Ok n) x o fs gs c h keeps held types = absurd h
@@ -92,7 +92,7 @@ does_stop (Err f) x o fs gs c h keeps held types = record {
   grows = grows_none fs gs c keeps held;
 }
 
--- a row that continues with this context
+-- so does a row that continues with this context
 pub does_go : (x : Outcome) (o : Object) (fs gs : List Normal) (c d : Context) → x ≡ Goes (context_in gs d) →
     Keeps fs gs → HoldsForms gs d → NamesTypes o d → Grows fs gs c d → Does x o fs gs c d (Ok On)
 does_go x o fs gs c d h keeps held types g = record {
@@ -104,7 +104,7 @@ does_go x o fs gs c d h keeps held types g = record {
   grows = g;
 }
 
--- a row that ends the block
+-- so does a row that ends the block
 pub does_end : (x : Outcome) (o : Object) (fs gs : List Normal) (c : Context) → x ≡ Ends → Keeps fs gs →
     HoldsForms fs c → NamesTypes o c → Does x o fs gs c c (Ok End)
 does_end x o fs gs c h keeps held types = record {
@@ -116,7 +116,7 @@ does_end x o fs gs c h keeps held types = record {
   grows = grows_none fs gs c keeps held;
 }
 
--- a row that notes what is known of a register
+-- so does a row that notes what is known of a register
 pub does_note : (x : Outcome) (o : Object) (fs gs : List Normal) (c d : Context) (rd : ℕ) (k : RegForm) (p : Polynomial)
     → x ≡ Goes (with_type rd (record { colour = k.colour; basic = k.basic; form = p }) (context_in fs c)) →
     held gs k.form ≡ Some (integer_form p) → IsBase (length o.types) k.basic.base
@@ -139,13 +139,13 @@ does_note x o fs gs c d rd k p goes made base keeps held types noted still named
 
 -- THE STATIC QUEUE
 
--- the queue is empty exactly if it has no pair
+-- the queue is empty exactly when its length is 0
 pub empty_is : (q : List FormPair) (n : ℕ) → length q ≡ n → eqb n 0 ≡ is_empty q
 unfolding is_empty
 empty_is [] n e = rw (sym e) refl
 empty_is (p ∷ q) n e = rw (sym e) (apart (suc (length q)) 0 (λ s. absurd (omega arith)))
 
--- a blue store
+-- a blue store meets the contract of a row
 pub does_commit : (x : Outcome) (o : Object) (fs gs : List Normal) (c d : Context) (m : Form) (u : Updates)
     → x ≡ Goes (record (context_in fs c) { queue = drop 1 (context_in fs c).queue; memory = u }) → Found gs m
     ≡ Some (memory_form u) → updates u ≤ updates (context_in fs c).memory + 1 → Keeps fs gs → HoldsForms fs c →
@@ -181,7 +181,7 @@ pub steps_of : (o : Object) (k : Defined) (i j : Instr) (s t : ℕ) → i ≡ j 
     t ≤ s + rule_cost o k i
 steps_of o k i j s t e h = subst (λ (x : Instr). t ≤ s + rule_cost o k x) (sym e) h
 
--- one more pair, if there was room
+-- one more pair is within the bounds of `Grows` if there was room
 pub grows_pair : (fs : List Normal) (c d : Context) (p : FormPair) (n : ℕ) → context_in fs d
     ≡ record (context_in fs c) { queue = (context_in fs c).queue ++ p ∷ [] } → length (context_in fs c).queue ≡ n →
     ltb n 8 ≡ true → Grows fs fs c d
@@ -209,7 +209,7 @@ grows_on fs gs hs c d k h g =
     let q = ap (λ (x : Defined). length x.queue) e in
     record { memory = omega (arith, m, g.memory); queue = λ l. g.queue (omega (arith, q, l)) }
 
--- a bound on the steps of the row remains one, too
+-- a bound on the steps of the row is still a bound after the list of forms has grown
 pub steps_on : (o : Object) (fs gs : List Normal) (c : Context) (i : Instr) (s t : ℕ) → Keeps fs gs → HoldsForms fs c →
     t ≤ s + rule_cost o (context_in gs c) i → t ≤ s + rule_cost o (context_in fs c) i
 steps_on o fs gs c i s t k h l = subst (λ (x : Defined). t ≤ s + rule_cost o x i) (context_stays fs gs c k h) l

@@ -20,7 +20,7 @@ abbrev pub IsRefusal : Outcome → RuleError → Type 0
 IsRefusal x (Refused why) = x ≡ Fails why
 IsRefusal x NoMemory = Unit {0}
 
--- what the result of one premise says about a row: the rest decides, or it is refused
+-- what the result of one premise says about a row: the remaining premises decide, or the row is refused
 abbrev pub Passes : {A : Type 0} → Outcome → (A → Outcome) → Result A RuleError → Type 0
 Passes x after (Ok a) = x ≡ after a
 Passes x after (Err e) = IsRefusal x e
@@ -34,7 +34,7 @@ abbrev pub Answers : Outcome → List Normal → Context → Result Next RuleErr
 Answers x fs c (Ok n) = GoesOn x fs c n
 Answers x fs c (Err e) = IsRefusal x e
 
--- an instruction is one of an object's
+-- the instruction is one of the object's
 pub record IsInstrOf (o : Object) (i : Instr) : Type 0 where
   pub index : ℕ
   pub found : slice_get o.instrs index ≡ Some i

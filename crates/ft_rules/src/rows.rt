@@ -290,7 +290,7 @@ fn branch_blue<P: Program, L: Ledger>(
     Ok(Next::On)
 }
 
-/// The end of a run, which ends the block.
+/// A `halt`, which ends the run and its block.
 #[tactic(auto, unfolding(ft_typing::specs::RowWords::is_empty))]
 fn halt(context: &Context, forms: &Interner) -> Result<Next, RuleError>
     requires { HoldsForms forms.now context.now }

@@ -41,7 +41,7 @@ fn has_base<P: Program>(program: &P, word: u64, base: Base) -> bool
     }
 }
 
-/// The basic type of the cell at an address; `None` exactly if there is none.
+/// The basic type of the cell at an address; `None` exactly when there is none.
 #[tactic(auto, unfolding(ft_typing::specs::TypedWord::cell_of))]
 fn cell_type<P: Program>(program: &P, address: u64) -> Option<Basic>
     requires { IsSpellable (P.object program.now) }
@@ -57,8 +57,8 @@ fn cell_type<P: Program>(program: &P, address: u64) -> Option<Basic>
     Some(program.cell(k as u32).basic)
 }
 
-/// The block whose first instruction is at a code address; `None` exactly if there is none. Blocks begin in increasing
-/// order, so this is a binary search.
+/// The block whose first instruction is at a code address; `None` exactly when there is none. Blocks begin in
+/// increasing order, so this is a binary search.
 fn block_at<P: Program>(program: &P, address: u64) -> Option<Block>
     requires { IsSpellable (P.object program.now) }
     ensures { result ≡ block_at (P.object program.now) address }

@@ -1,4 +1,4 @@
--- A run that is struck once: its beginning, and a step of it.
+-- A run that is struck once: how it begins, and one of its steps.
 use Rattle.std.proofs.Common.{◌≡◌, ◌⊎◌, inl, inr, ℕ, ◌+◌, ◌<◌, true, List, None, Some, sym, ap, ◌∙◌, subst, arith}
 use Rattle.ft_isa.specs.declared.colour.Colour.{Colour}
 use Rattle.ft_isa.specs.declared.plan.Site.{Site}
@@ -26,7 +26,7 @@ use Rattle.ft_tolerance.proofs.Masking.{before, alike_at_once, alike_next, follo
 
 -- THE RESULT OF A STEP
 
--- a step from a detected state has this result
+-- a step from a detected state has the result `Detected`
 detected_told : (o : Object) (t : State) (v : List Wild) → t.status ≡ Detected → told (step o t v) ≡ stepped.Detected
 detected_told o t v d = ap told (stays_at o t.status t v (subst HasStopped (sym d) tt)) ∙ ap told_status d
 
@@ -56,7 +56,7 @@ pub struck_later : (r : StruckRun) → r.strike.step < r.taken → struck_now r
 struck_later r lt = spared r.strike r.taken (λ e. omega (arith, e))
     (state_after r.object (Some r.strike) r.wild r.taken)
 
--- striking a run without a fault
+-- striking a run without a fault begins a struck run
 pub struck_begins : (r : CleanRun) (s t : State) (site : Site) (v : ℕ) (w : List Wild) → IsClean r s → is_there s site
     ≡ true → t ≡ struck_state s site v
     → IsStruckRun (record {
@@ -82,7 +82,7 @@ struck_begins r s t site v w h found e =
       alike = alike_at_once r.object site v r.taken w t (e ∙ ap (λ u. struck_state u site v) (h.state w));
     }
 
--- the run after one more step
+-- after one more step, it is still the machine of this struck run
 pub struck_next : (r : StruckRun) (s t : State) (left left' : List Wild) → IsStruckRun r s left → t
     ≡ (step r.object s left).state → left' ≡ (step r.object s left).wild →
     IsStruckRun (record r { taken = r.taken + 1 }) t left'

@@ -62,8 +62,8 @@ impl<'a, P: Program> Clean<'a, P> {
     }
 
     /// Strikes the run before its next step: the word at the site becomes `value`. Returns `Idle`, with the run
-    /// unchanged, exactly if the run has stopped or the site does not exist. The struck run takes these answers to wild
-    /// loads.
+    /// unchanged, exactly when the run has stopped or the site does not exist. The struck run takes these answers to
+    /// wild loads.
     pub fn strike<'w>(self, site: Site, value: u64, wild: &'w [Wild]) -> Hit<'a, 'w, P>
         ensures struck { (s : _) → result ≡ Hit.Struck s →
             (s ≡ record { object = self.entry.object; strike = record { step = self.entry.taken; site = site; value = value }; wild = wild.now; taken = self.entry.taken })

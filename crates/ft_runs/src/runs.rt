@@ -28,7 +28,7 @@ pub fn run<'a, P: Program, K: Sink>(
     ensures lines { Puts (put_end result) (output_lines start.entry.object (outputs_after start.entry.object plan.entry.strike plan.entry.wild.now steps))
         (K.log out.old) (K.log out.new) }
 
-    // One fault is masked or detected: outputs and status agree with those of the run without it.
+    // One fault is masked or detected: outputs and status agree with those of the run without the strike.
     ensures agrees { Agrees
         (outputs_after start.entry.object plan.entry.strike plan.entry.wild.now steps)
         (status_after start.entry.object plan.entry.strike plan.entry.wild.now steps)

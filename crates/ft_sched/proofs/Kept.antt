@@ -17,7 +17,7 @@ use Rattle.ft_sched.proofs.LastMet.{last_more, below_none, is_behind, marked_at}
 
 -- MARKS
 
--- the place of register q after place p is recorded for a register, if one is given
+-- after place p is recorded for a register, if one is given, that register has place p and the others are unchanged
 marked_one : (ps : List ℕ) (u : Option Reg) (p q : ℕ) → length ps ≡ 64 → slice_index_or (marked ps (number_of u) p) q 0
     ≡ cond (is_register (number_of u) q) p (slice_index_or ps q 0)
 marked_one ps None p q l = refl
@@ -104,7 +104,7 @@ module _ (is : List Instr) (front : ℕ) (writers touchers : List ℕ) (blue : �
     blue_last = (λ j. cond (is_blue_store i) (at j) (kept.blue_last j)) ∙ sym (last_more is_blue_store is i);
   }
 
--- one more instruction, with the marks set for it
+-- the records are right again after one more instruction is added and its marks are set
 pub kept_pushed : (is new : List Instr) (front : ℕ) (writers writers_new touchers first_marked then_marked touchers_new
     : List ℕ) (blue blue_new : ℕ) (i : Instr) (w f s : Option Reg) (place : ℕ) → IsKept is front writers touchers blue
     → new ≡ is ++ i ∷ [] → number_of w ≡ written i → number_of f ≡ first_read i → number_of s ≡ second_read i → place
@@ -151,7 +151,7 @@ none_behind : (front : ℕ) (is : List Instr) → nat_lt front 0 ≡ list_any (�
 none_behind front [] = below_none front
 none_behind front (i ∷ is) = none_behind front is
 
--- whether a waiting instruction writes a register, if one is given
+-- a look-up finds whether a waiting instruction writes a register, if one is given
 pub writes_behind : (is : List Instr) (front : ℕ) (writers touchers : List ℕ) (blue : ℕ) (u : Option Reg) →
     IsKept is front writers touchers blue → nat_lt front (place_of writers (number_of u))
     ≡ list_any (writes (number_of u)) (drop front is)
@@ -159,7 +159,7 @@ writes_behind is front writers touchers blue None k = none_behind front (drop fr
 writes_behind is front writers touchers blue (Some r) k = ap (nat_lt front) (k.written_last r.number r.in_range)
     ∙ is_behind (writes (Some r.number)) is front
 
--- whether a waiting instruction reads or writes a register, if one is given
+-- a look-up finds whether a waiting instruction reads or writes a register, if one is given
 pub meets_behind : (is : List Instr) (front : ℕ) (writers touchers : List ℕ) (blue : ℕ) (u : Option Reg) →
     IsKept is front writers touchers blue → nat_lt front (place_of touchers (number_of u))
     ≡ list_any (meets (number_of u)) (drop front is)
@@ -167,14 +167,14 @@ meets_behind is front writers touchers blue None k = none_behind front (drop fro
 meets_behind is front writers touchers blue (Some r) k = ap (nat_lt front) (k.touched_last r.number r.in_range)
     ∙ is_behind (meets (Some r.number)) is front
 
--- whether a waiting instruction is a blue store
+-- a look-up finds whether a waiting instruction is a blue store
 pub blue_behind : (is : List Instr) (front : ℕ) (writers touchers : List ℕ) (blue : ℕ) →
     IsKept is front writers touchers blue → nat_lt front blue ≡ list_any is_blue_store (drop front is)
 blue_behind is front writers touchers blue k = ap (nat_lt front) k.blue_last ∙ is_behind is_blue_store is front
 
 -- CONFLICTS
 
--- whether some instruction passes one of two tests
+-- some instruction passes one of two tests exactly when some instruction passes the first, or some the second
 either_any : (s t u : Instr → Bool) (is : List Instr) → ((i : Instr) → u i ≡ (s i || t i)) → list_any u is
     ≡ (list_any s is || list_any t is)
 either_any s t u [] h = refl
@@ -258,7 +258,7 @@ conflict_tests i w =
     ∙ conflict_by (first_read i) (second_read i) (written i) (written w) w refl
     ∙ sym (λ j. (hits_writes (first_read i) w j || hits_writes (second_read i) w j) || meets (written i) w)
 
--- whether a waiting instruction conflicts, by three look-ups
+-- three look-ups find whether a waiting instruction conflicts with another instruction
 pub conflict_behind : (i : Instr) (is : List Instr) → list_any (conflicts i) is
     ≡ ((list_any (writes (first_read i)) is || list_any (writes (second_read i)) is) || list_any (meets (written i)) is)
 conflict_behind i is =

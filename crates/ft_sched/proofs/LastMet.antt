@@ -9,7 +9,7 @@ use Rattle.std.proofs.lemmas.List.{get_or-set_same, get_or-set_other}
 use Rattle.ft_isa.specs.declared.instr.Instr.{Instr}
 use Rattle.ft_sched.specs.LastPlaces.{or_first, last_place}
 
--- one more instruction at the end
+-- one more instruction at the end becomes the last place if it passes the test, whatever holds of the first
 or_more : (n : ℕ) (t b : Bool) (m : ℕ) → or_first (cond t (suc n) m) b ≡ cond t (suc (suc n)) (or_first m b)
 or_more n true b m = refl
 or_more n false b m = refl
@@ -39,7 +39,7 @@ below_none f = by_test (nat_lt f 0) refl
 above_none : (n : ℕ) → nat_lt 0 (suc n) ≡ true
 above_none n = lt-ltb 0 (suc n) (omega arith)
 
--- whether the last place is above the front
+-- there is a last place exactly when the first instruction passes the test or the rest has a last place
 behind_first : (n : ℕ) (t a : Bool) → nat_lt 0 n ≡ a → nat_lt 0 (or_first n t) ≡ (t || a)
 behind_first zero true a e = above_none 0
 behind_first zero false a e = e
@@ -60,7 +60,7 @@ is_behind test (i ∷ is) (suc f) = behind_next f (last_place test is) (test i) 
 
 -- MARKS
 
--- the place of register q after place p is recorded for register r
+-- after place p is recorded for register r, that register has place p and the others are unchanged
 pub marked_at : (ps : List ℕ) (r p q : ℕ) → r < length ps → slice_index_or (slice_set ps r p) q 0
     ≡ cond (r == q) p (slice_index_or ps q 0)
 marked_at ps r p q l =

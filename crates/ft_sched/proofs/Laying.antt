@@ -81,7 +81,7 @@ waiting_on laid ws i rest = ap (λ z. z ++ rest) (sym (append_assoc laid ws (i �
     ∙ append_assoc (laid ++ ws) (i ∷ []) rest
 
 module _ (rows start past : ℕ) (base : List Instr) where
-  -- a trailing instruction waits
+  -- the block is still arranged after a trailing instruction begins to wait
   pub arranged_trailing : (i : Instr) (rest laid ws : List Instr) (q c : ℕ) → is_leading i ≡ false → is_fixed i
       ≡ false → IsArranged rows start past base (i ∷ rest) laid ws q c →
       IsArranged rows start past base rest laid (ws ++ i ∷ []) q c
@@ -106,7 +106,7 @@ module _ (rows start past : ℕ) (base : List Instr) where
         settled = a.settled;
       }
 
-  -- the counts of what the written instructions queue and commit
+  -- how many pairs the written instructions queue and commit
   record Tallies (laid : List Instr) (q c : ℕ) : Type 0 where
     begins : start ≤ length laid
     queued_is : q ≡ rows + count_by is_green_store (drop start laid)
@@ -136,7 +136,7 @@ module _ (rows start past : ℕ) (base : List Instr) where
         committed_is = committed ∙ ap (λ z. count_by is_blue_store (drop start z)) (sym lays.laid_is);
       }
 
-  -- the first waiting instruction is written
+  -- the block is still arranged after the first waiting instruction is written
   pub arranged_first : (rest laid laid' ws : List Instr) (w : Instr) (q q' c c' : ℕ) → Lays w laid laid' q q' c c' →
       Arranges rows start past base rest laid (w ∷ ws) q c → Arranges rows start past base rest laid' ws q' c'
   arranged_first rest laid laid' ws w q q' c c' lays x =
@@ -151,7 +151,7 @@ module _ (rows start past : ℕ) (base : List Instr) where
         committed_is = t.committed_is;
       }
 
-  -- a fixed instruction is written if none waits
+  -- it is still arranged after a fixed instruction is written, if none waits
   pub arranged_fixed : (i : Instr) (rest laid laid' : List Instr) (q q' c c' : ℕ) → is_fixed i ≡ true →
       Lays i laid laid' q q' c c' → Arranges rows start past base (i ∷ rest) laid [] q c →
       IsArranged rows start past base rest laid' [] q' c'
@@ -180,7 +180,7 @@ module _ (rows start past : ℕ) (base : List Instr) where
         settled = subst (IsSettled start) (sym lays.laid_is) (settled_by start laid i (fixed_trails i h));
       }
 
-  -- a leading instruction is written if nothing holds it back
+  -- it is still arranged after a leading instruction is written, if nothing holds that instruction back
   pub arranged_leading : (i : Instr) (rest laid laid' ws : List Instr) (q q' c c' : ℕ) → is_leading i ≡ true →
       holds_back (q - c) ws i ≡ false → Lays i laid laid' q q' c c' → Leading i rows start past base rest laid ws q c →
       IsArranged rows start past base rest laid' ws q' c'
@@ -212,7 +212,7 @@ module _ (rows start past : ℕ) (base : List Instr) where
         settled = subst (IsSettled start) (sym lays.laid_is) (settled_by start laid i (leading_trails i l));
       }
 
-  -- the first waiting instruction is written before a leading one that it or another holds back
+  -- `Leading` still holds after the first waiting instruction is written, if it or another holds the leading one back
   pub leading_on : (i : Instr) (rest laid laid' ws : List Instr) (w : Instr) (q q' c c' : ℕ) →
       Lays w laid laid' q q' c c' → holds_back (q - c) (w ∷ ws) i ≡ true →
       Leading i rows start past base rest laid (w ∷ ws) q c → Leading i rows start past base rest laid' ws q' c'
@@ -237,7 +237,7 @@ module _ (rows start past : ℕ) (base : List Instr) where
             ∙ ap (λ z. may_exchange (queue_after rows (drop start z)) l i) ends.0 ∙ may);
       }
 
--- the first waiting instruction is written, as the call's clause says
+-- the block is still arranged after a call that writes the first waiting instruction
 pub first_laid : (rows start past : ℕ) (base rest laid laid' ws ws' : List Instr) (q q' c c' : ℕ) →
     LaysFirst laid laid' ws ws' q q' c c' → Arranges rows start past base rest laid ws q c →
     Arranges rows start past base rest laid' ws' q' c'
@@ -253,7 +253,7 @@ first_led i rows start past base rest laid laid' ws ws' q q' c c' f held a =
     (subst (λ z. holds_back (q - c) z i ≡ true) f.waited held)
     (subst (λ z. Leading i rows start past base rest laid z q c) f.waited a)
 
--- an instruction gets its place
+-- each kind of instruction gets its place
 
 pub led : (i : Instr) (laid ws laid1 ws1 laid2 ws2 : List Instr) (q c q1 c1 q2 c2 : ℕ) → is_leading i ≡ true →
     holds_back (q1 - c1) ws1 i ≡ false
@@ -279,7 +279,7 @@ trailing_waits i laid ws ws' q c l f same = λ rows start past base rest h a.
     subst (λ z. IsArranged rows start past base rest laid z q c) (sym same)
     (arranged_trailing rows start past base i rest laid ws q c l f a)
 
--- what follows from two clauses of a call
+-- what follows from two facts about a call that succeeded, or from one, holds if the call succeeded
 pub on_both : {A E P Q S : Type 0} (r : Result A E) → (P → Q → S) → OnOk r P → OnOk r Q → OnOk r S
 on_both (Ok x) f p q = f p q
 on_both (Err e) f p q = tt

@@ -32,7 +32,7 @@ all_at test (y ∷ xs) zero x h e = (let same : y ≡ x = cc in
     subst (λ (z : Instr). test z ≡ true) same (and_parts (test y) (list_all test xs) h).0)
 all_at test (y ∷ xs) (suc k) x h e = all_at test xs k x (and_parts (test y) (list_all test xs) h).1 e
 
--- the last element of a list
+-- a list consists of the elements before its last one and then that one
 pub last_apart : (xs : List Instr) (k : ℕ) (x : Instr) → slice_get xs k ≡ Some x → suc k ≡ length xs → xs ≡ take k xs
     ++ x ∷ []
 last_apart [] k x e l = cc
@@ -68,23 +68,23 @@ take_whole (suc n) (x ∷ xs) h = ap (λ z. x ∷ z) (take_whole n xs (omega ari
 pub length_drop : (n : ℕ) (xs : List Instr) → length (drop n xs) ≡ length xs - n
 length_drop n xs = length-drop n xs
 
--- a part that ends within the front
+-- a part of a concatenation that ends within the first list is a part of that list
 pub range_front : (xs ys : List Instr) (a e : ℕ) → a ≤ e → e ≤ length xs → slice_range (xs ++ ys) a e
     ≡ slice_range xs a e
 range_front xs ys a e l h =
     ap (take (e - a)) (drop-append-le a xs ys (omega arith))
     ∙ take_front (e - a) (drop a xs) ys (let d = length_drop a xs in omega arith)
 
--- a part that ends with the list
+-- a part that ends with the list is the rest of the list
 pub range_end : (xs : List Instr) (a : ℕ) → slice_range xs a (length xs) ≡ drop a xs
 range_end xs a = take_whole (length xs - a) (drop a xs) (let d = length_drop a xs in omega arith)
 
--- the rest of a front
+-- the part of a list from a up to e is its first e elements without the first a
 pub rest_of_front : (xs : List Instr) (a e : ℕ) → a ≤ e → slice_range xs a e ≡ drop a (take e xs)
 rest_of_front xs a e l = sym ((let q : e ≡ a + (e - a) = omega arith in ap (λ n. drop a (take n xs)) q)
     ∙ drop-take a (e - a) xs)
 
--- the exchange where two lists meet
+-- the exchange right after xs swaps the two elements there
 pub exchanged_seam : (xs : List Instr) (a b : Instr) (ys : List Instr) → exchanged (xs ++ a ∷ b ∷ ys) (length xs) ≡ xs
     ++ b ∷ a ∷ ys
 exchanged_seam [] a b ys = refl
@@ -92,7 +92,7 @@ exchanged_seam (x ∷ xs) a b ys = ap (λ z. x ∷ z) (exchanged_seam xs a b ys)
 
 -- COUNTS
 
--- one more element in the part from a place on
+-- one more element raises the count from a place on by 1 if it passes the test
 pub count_more : (test : Instr → Bool) (xs : List Instr) (a : ℕ) (x : Instr) → a ≤ length xs →
     count_by test (drop a (xs ++ x ∷ [])) ≡ count_by test (drop a xs) + cond (test x) 1 0
 count_more test xs a x l =

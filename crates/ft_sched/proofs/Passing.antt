@@ -162,7 +162,7 @@ reach_passed rows start past base front (w ∷ ws) i rest q c l h eq ec p r =
 
 -- NONE LEFT
 
--- two lists with the same front
+-- which exchanges are permitted within a front does not depend on what follows it
 permitted_in : (rows start e e' : ℕ) (front xs ys : List Instr) (k : ℕ) → suc k < length front → suc k < e' →
     IsPermittedAt rows start e (front ++ xs) k → IsPermittedAt rows start e' (front ++ ys) k
 permitted_in rows start e e' front xs ys k l h p =

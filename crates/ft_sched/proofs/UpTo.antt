@@ -53,7 +53,7 @@ up_to_ends o b laid l h =
           omega arith) (subst (λ z. IsPermitted (with_instrs o z) j k) (sym whole) p);
     }
 
--- a copy with these instructions is the schedule
+-- a copy of the object with these instructions is its schedule
 pub scheduled_copy : {E : Type 0} (o : Object) (is laid : List Instr) (r : Result Object E) → is ≡ laid →
     IsScheduled o (with_instrs o laid) → IfOk r (λ s. s ≡ with_instrs o is) → IfOk r (λ s. IsScheduled o s)
 scheduled_copy o is laid (Ok s) same h e = subst (IsScheduled o) (sym (e ∙ ap (with_instrs o) same)) h
@@ -105,7 +105,7 @@ module _ (o : Object) (spelled : IsSpellable o) (b start past rows : ℕ) (f : O
             absurd (omega arith));
       }
 
-  -- where the loop is in the block
+  -- as long as an instruction of the block is left, those written and those waiting end before the block does
   pub block_within : (i : ℕ) (rest laid' ws : List Instr) (q c : ℕ) → i < past → rest ≡ drop i o.instrs →
       Arranges rows start past (laid_before o b laid) rest laid' ws q c → length laid' + length ws < past
   block_within i rest laid' ws q c l e x =
@@ -142,7 +142,7 @@ module _ (o : Object) (spelled : IsSpellable o) (b start past rows : ℕ) (f : O
             reached none h.none_left;
       }
 
-  -- the block begins, as the call's clauses say
+  -- the block is arranged when it begins, as the call's clauses say
   pub block_begun : (laid' ws : List Instr) (q c i : ℕ) → laid' ≡ laid → ws ≡ [] → q ≡ rows → c ≡ 0 → i ≡ start →
       IsArranged rows start past (laid_before o b laid) (drop i o.instrs) laid' ws q c
   block_begun laid' ws q c i el ew eq ec ei =
@@ -153,7 +153,7 @@ module _ (o : Object) (spelled : IsSpellable o) (b start past rows : ℕ) (f : O
       (subst (λ n. IsArranged rows start past (laid_before o b laid) (drop start o.instrs) laid [] rows n) (sym ec)
       block_begins))))
 
-  -- one more instruction
+  -- the block is arranged after one more instruction gets its place
   pub block_on : (i : ℕ) (x : Instr) (laid1 ws1 laid2 ws2 : List Instr) (q1 c1 q2 c2 : ℕ) → i < past →
       slice_get o.instrs i ≡ Some x → GetsPlace x laid1 ws1 q1 c1 laid2 ws2 q2 c2
       → IsArranged rows start past (laid_before o b laid) (drop i o.instrs) laid1 ws1 q1 c1 →
@@ -164,7 +164,7 @@ module _ (o : Object) (spelled : IsSpellable o) (b start past rows : ℕ) (f : O
       (subst (λ z. IsArranged rows start past (laid_before o b laid) z laid1 ws1 q1 c1) (drop_next o.instrs i x there)
       a)
 
-  -- the block ends
+  -- when the block ends, the object is scheduled up to the next block
   pub block_done : (i : ℕ) (laid1 ws1 laid2 : List Instr) (q1 c1 q2 c2 : ℕ) → past ≤ i → (start ≤ past → i ≤ past) →
       LaysAll laid1 ws1 q1 c1 laid2 q2 c2 → IsArranged rows start past (laid_before o b laid) (drop i o.instrs) laid1
       ws1

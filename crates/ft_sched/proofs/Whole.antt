@@ -36,12 +36,12 @@ get_take (suc m) [] k h = refl
 get_take (suc m) (x ∷ xs) zero h = refl
 get_take (suc m) (x ∷ xs) (suc k) h = get_take m xs k (omega arith)
 
--- an element of a part
+-- an element of a part is an element of the list
 get_range : (xs : List Instr) (a e n : ℕ) → a ≤ n → n < e → slice_get (slice_range xs a e) (n - a) ≡ slice_get xs n
 get_range xs a e n l h = get_take (e - a) (drop a xs) (n - a) (omega arith) ∙ get_dropped a xs (n - a)
     ∙ (let q : a + (n - a) ≡ n = omega arith in ap (slice_get xs) q)
 
--- the front of a part
+-- the front of a part is a part of the list
 front_range : (xs : List Instr) (a e n : ℕ) → a ≤ n → n ≤ e → take (n - a) (slice_range xs a e) ≡ slice_range xs a n
 front_range xs a e n l h = take_take (n - a) (e - a) (drop a xs) (omega arith)
 
@@ -121,7 +121,7 @@ module _ (o : Object) (spelled : IsSpellable o) where
       subst (λ z. ComesFrom (with_instrs o xs) (with_instrs o (exchanged js z))) q
       (exchange b (n - a) (comes_of b xs l h js g) (permitted_of js b n m h p))
 
-  -- an earlier block is unchanged
+  -- exchanges in a block leave every part before it unchanged
   range_reached : (rows start past a e : ℕ) (xs ys : List Instr) → a ≤ start → e ≤ start →
       Reaches rows start past xs ys → slice_range ys a e ≡ slice_range xs a e
   range_reached rows start past a e xs _ h l stays = refl
@@ -154,7 +154,7 @@ module _ (o : Object) (spelled : IsSpellable o) where
             p.first p.second ≡ true) same p.may;
       }
 
-  -- no permitted exchange is left in one more block
+  -- if no permitted exchange is left in block b and in those before it, none is left in the blocks below b + 1
   pub none_on : (xs ys : List Instr) (b : ℕ) (x : Block) → length xs ≡ length o.instrs → slice_get o.blocks b ≡ Some x →
       Reaches (length (queue_rows o (block_type o b))) (block_start o b) (block_end o b) xs ys →
       HasNone (length (queue_rows o (block_type o b))) (block_start o b) (block_end o b) ys →

@@ -8,7 +8,7 @@ abbrev pub place_of : List ℕ → Option ℕ → ℕ
 place_of ps None = 0
 place_of ps (Some r) = slice_index_or ps r 0
 
--- the places, with place p for a register, if one is given
+-- the places after place p is recorded for a register, if one is given
 abbrev pub marked : List ℕ → Option ℕ → ℕ → List ℕ
 marked ps None p = ps
 marked ps (Some r) p = slice_set ps r p
@@ -17,8 +17,8 @@ marked ps (Some r) p = slice_set ps r p
 abbrev pub unmet : List ℕ
 unmet = replicate 64 0
 
--- the last place that passes a test, given the last one in the rest (0 if there is none) and whether the first
--- instruction passes
+-- the place of the last instruction that passes a test, given that place in the rest (0 if none passes) and whether the
+-- first instruction passes
 abbrev pub or_first : ℕ → Bool → ℕ
 or_first zero passes = cond passes 1 0
 or_first (suc n) passes = suc (suc n)

@@ -1,9 +1,9 @@
-//! The order of a schedule's instructions, made from left to right.
+//! The order of a schedule's instructions, built from left to right.
 //!
 //! Leading instructions keep their order, and so do trailing ones. So a trailing instruction waits until it is known
 //! that no leading one passes it. A leading instruction stops behind the last one that it may not pass: everything that
 //! waits up to that one is written, and then the leading instruction itself. Each instruction waits at most once, so
-//! the work is proportional to their number.
+//! the work is proportional to the number of instructions.
 ghost use Rattle.std.specs.Prelude.{◌≡◌, ◌+◌, ◌-◌, ◌<◌, ◌≤◌, ◌^◌, [], true, not, nat_lt, length, cond, OnOk};
 ghost use Rattle.ft_exchange.specs.Exchange.{is_leading, is_fixed};
 ghost use Rattle.ft_sched.specs.Waiting.{holds_back};

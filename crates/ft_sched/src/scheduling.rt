@@ -34,7 +34,7 @@ fn schedule_program<P: Program>(alloc: Global, program: &P) -> Result<Object, No
 /// are a prefix of the program's outputs, are equal to them at the end, and come at most 131,072 steps later. The only
 /// error is `NoMemory`.
 ///
-/// The idea that the green computation leads and the blue one repeats it is that of Perry, Mackey, Reis, Ligatti,
+/// The idea of a green computation that leads and a blue one that repeats it is due to Perry, Mackey, Reis, Ligatti,
 /// August and Walker, "Fault-tolerant Typed Assembly Language", PLDI 2007.
 pub fn schedule<'a, P: Program>(alloc: Global, checked: &Checked<'a, P>) -> Result<Object, NoMemory>
     ensures scheduled { IfOk result (λ s. IsScheduled (P.object checked.now) s) }

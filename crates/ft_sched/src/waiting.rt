@@ -85,7 +85,7 @@ impl Waiting {
         Ok(())
     }
 
-    /// Removes the oldest waiting instruction.
+    /// Removes the oldest waiting instruction and returns it.
     pub fn take(&mut self) -> Instr
         requires { 0 < length self.old }
         ensures { self.old ≡ result ∷ self.new }

@@ -1,8 +1,8 @@
 //! Scripts of the debugger: their lines, read as commands.
 //!
-//! The crate promises that each line is read as the command that it spells, and as a bad command exactly if
-//! it spells none. The lines of a script give one list of commands. Its definitions: `specs/Commands.antt`,
-//! and `specs/Reads.antt` for commands that were read.
+//! The crate promises that each line is read as the command that it spells, and as a bad command exactly when it spells
+//! none. The lines of a script give one list of commands. Its definitions: `specs/Commands.antt`, and
+//! `specs/Reads.antt` for commands that were read.
 #![tactic(auto)]
 
 mod command;

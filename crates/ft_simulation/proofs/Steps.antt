@@ -11,7 +11,7 @@ pub iterate_last : {S : Type 0} (step : S → S) (k : ℕ) (s : S) → iterate s
 iterate_last step zero s = refl
 iterate_last step (suc k) s = iterate_last step k (step s)
 
--- j steps and then k
+-- j + k steps are j steps and then k
 pub iterate_on : {S : Type 0} (step : S → S) (j k : ℕ) (s : S)
     → iterate step (j + k) s ≡ iterate step k (iterate step j s)
 iterate_on step zero k s = ap (λ m. iterate step m s) (zero-add k)

@@ -13,13 +13,13 @@ use Rattle.std.proofs.lemmas.List.Quantifiers.{position-Some}
 use Rattle.std.proofs.lemmas.Slice.Eq.{bytes_eq-Decides}
 use Rattle.ft_text.proofs.Texts.{missing}
 
--- a text that begins with a piece
+-- if a text begins with a piece, it is that piece and then the rest
 pub begins : (text piece : List ℕ) → bytes_eq (take (length piece) text) piece ≡ true → text ≡ piece
     ++ drop (length piece) text
 begins text piece e = sym (take-append-drop (length piece) text)
     ∙ ap (λ l. l ++ drop (length piece) text) ((bytes_eq-Decides _ _).0 e)
 
--- a text that does not begin with a piece
+-- if a text does not begin with a piece, it is not that piece followed by anything
 pub begins_not : (text piece : List ℕ) → bytes_eq (take (length piece) text) piece ≡ false → (rest : List ℕ) →
     text ≢ piece ++ rest
 begins_not text piece e rest h =
@@ -48,7 +48,7 @@ first_space a b h =
     ≡ true = lt-ltb (length a) (length (a ++ 32 ∷ b)) (omega (arith, length-append a (32 ∷ b))) in
     ap (λ n. cond (nat_lt n (length (a ++ 32 ∷ b))) (Some n) None) at ∙ ap (λ t. cond t (Some (length a)) None) below
 
--- a text around its first space
+-- a text is what comes before its first space, that space, and what comes after it
 pub split_there : (text : List ℕ) (at : ℕ) → position is_space text ≡ Some at → text ≡ take at text ++ codes " "
     ++ take (length text - (at + 1)) (drop (at + 1) text)
 split_there text at e =

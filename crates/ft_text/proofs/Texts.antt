@@ -12,7 +12,7 @@ use Rattle.ft_text.specs.Lines.{with_byte, lines_of}
 abbrev feed : List ℕ → ℕ
 feed text = position_or_len (λ byte. byte == 10) text
 
--- one more byte before a text
+-- if a text's first line ends at its first line feed, this still holds with one more byte before the text
 ends_step : (t : Bool) (b : ℕ) (bs : List ℕ) (p : ℕ) →
     (p < length bs → lines_of bs ≡ take p bs ∷ lines_of (drop (p + 1) bs)) → cond (not t) (1 + p) 0 < length (b ∷ bs)
     → (if t then [] ∷ lines_of bs else with_byte b (lines_of bs))
@@ -46,7 +46,7 @@ pub missing : (t : Bool) (p : ℕ) → cond t (Some p) None ≡ None → t ≡ f
 missing true p e = cc
 missing false p e = refl
 
--- the first line of a text with a line feed, and the rest
+-- the lines of a text with a line feed are what comes before the first one, then the lines of the rest
 pub first_line : (text : List ℕ) (at : ℕ) → position (λ byte. byte == 10) text ≡ Some at →
     (lines_of text ≡ take at text ∷ lines_of (take (length text - (at + 1)) (drop (at + 1) text)))
     × (length (take (length text - (at + 1)) (drop (at + 1) text)) < length text)

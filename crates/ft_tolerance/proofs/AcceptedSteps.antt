@@ -59,7 +59,7 @@ get-drop [] (suc a) k = refl
 get-drop (x ∷ xs) (suc a) k = get-drop xs a k ∙ (let e : suc (a + k) ≡ suc a + k = omega arith in
     ap (slice_get (x ∷ xs)) e)
 
--- if the first row goes on, the rows that are left apply
+-- if the first row goes on, the remaining rows apply
 applies_on : (o : Object) (d c : Context) (i : Instr) (is : List Instr) → Applies o d (i ∷ is) → row o d i ≡ Goes c →
     Applies o c is
 applies_on o d c i _ (last_row e) g = cc
@@ -77,7 +77,7 @@ goes_of o (Some i) (Some d) c e = (i, d, refl, refl, by_outcome (row o d i) e)
     by_outcome Ends e = cc
     by_outcome (Fails p) e = cc
 
--- the rows that are left from index k of a block apply from the context there
+-- in the context at index k of a block, the rows of the instructions from there on apply
 applies_at : (o : Object) (b k : ℕ) (c : Context) → Applies o (start_context o (block_type o b)) (block_instrs o b) →
     context_at o b k ≡ Some c → Applies o c (drop k (block_instrs o b))
 unfolding context_at
@@ -105,7 +105,7 @@ pub record Here (o : Object) (p : Place) (number : ℕ) : Type 0 where
   pub in_block : slice_get (block_instrs o number) p.index ≡ Some instr
   pub passes : Passes o p.context instr
 
--- what is left of a block has a first instruction
+-- if the rows of the rest of a block apply, the rest is not empty and begins with the instruction at the place
 here_of : (o : Object) (p : Place) (number : ℕ) (is : List Instr) → block_start o number ≡ p.block.start →
     drop p.index (block_instrs o number) ≡ is → Applies o p.context is → Here o p number
 here_of o p number [] start e a = elim a [ ]
@@ -139,7 +139,7 @@ pub record Lands (o : Object) (p : Place) (w : List Wild) (t : Stepping) : Type 
   pub wild : t.wild ≡ w
   pub after : EndsOrFits o p t.state
 
--- the next code address, which fits in a word
+-- the code address of instruction n + 1 comes right after that of instruction n
 pub next_address : (n : ℕ) → n < 65536 → next (code_address n) ≡ code_address (suc n)
 next_address n h = let a : 1 + n + 1 ≡ 1 + suc n = omega arith in let b : 1 + n + 1 < 2 ^ 64 = omega arith in
     mod-eq_of_lt b ∙ a
@@ -206,7 +206,7 @@ module _ (o : Object) (p : Place) (s : State) (w : List Wild) (spelled : IsSpell
             (running (g.status ∙ go) is_place is_fit);
       }
 
-  -- where a step leads, given what its row gives
+  -- a step leads to the next index if its row goes on; if its row ends the block, where it leads is a premise
   by_row : (t : Stepping) (E : Type 0) (h : Here o p at.number) (x : Outcome) → row o p.context h.instr ≡ x →
       After (GoesOn o p.valuation s w t) E x → Passes o p.context h.instr → (E → Lands o (further x p) w t) →
       Lands o (further x p) w t
@@ -216,7 +216,7 @@ module _ (o : Object) (p : Place) (s : State) (w : List Wild) (spelled : IsSpell
   by_row t E h (Fails n) e a (ends f) done = cc
   by_row t E h (Fails n) e a (goes d f) done = cc
 
-  -- an instruction that never leaves its block
+  -- an instruction that never leaves its block leads to the next index
   stays : (h : Here o p at.number) → After (GoesOn o p.valuation s w (execute h.instr s w)) ⊥ (row o p.context h.instr)
       → Lands o (further (row o p.context h.instr) p) w (execute h.instr s w)
   stays h a = by_row (execute h.instr s w) ⊥ h (row o p.context h.instr) refl a h.passes (λ e. absurd e)
@@ -228,7 +228,7 @@ module _ (o : Object) (p : Place) (s : State) (w : List Wild) (spelled : IsSpell
       (stays h (subst (λ (j : Instr). After (GoesOn o p.valuation s w (execute j s w)) ⊥ (row o p.context j)) (sym e)
       a))
 
-  -- a blue jump arrives at its target
+  -- a blue jump leads to the start of its target
   jumped : (rd : Reg) (u : Subst) (x : Outcome) → row o p.context (JmpB rd u) ≡ x →
       After (λ _. ⊥) (Arrives o (valuation_by o u p.valuation) (word s rd) s w (execute (JmpB rd u) s w)) x →
       Passes o p.context (JmpB rd u) → Lands o (arrived o (block_at o (word s rd)) u p) w (execute (JmpB rd u) s w)
@@ -238,7 +238,7 @@ module _ (o : Object) (p : Place) (s : State) (w : List Wild) (spelled : IsSpell
   jumped rd u (Fails n) f a (ends g) = cc
   jumped rd u (Fails n) f a (goes d g) = cc
 
-  -- a blue branch is taken or not
+  -- a blue branch leads to the place after it, whether it is taken or not
   branched_by : (h : Here o p at.number) (rz rd : Reg) (u : Subst) → h.instr ≡ BzB rz rd u → (d : Context) →
       row o p.context (BzB rz rd u) ≡ Goes d → Branch o p.valuation (valuation_by o u p.valuation) (word s rd) s w
       (execute (BzB rz rd u) s w) d (word s rz == 0) →
@@ -263,7 +263,7 @@ module _ (o : Object) (p : Place) (s : State) (w : List Wild) (spelled : IsSpell
   branched h rz rd u e (Fails n) f a (ends g) = cc
   branched h rz rd u e (Fails n) f a (goes d g) = cc
 
-  -- where the execution of an instruction leads
+  -- executing the instruction at the place, whichever it is, leads to the place after it
   executed_by : (h : Here o p at.number) (i : Instr) → h.instr ≡ i → IsInstr (length o.types) (length o.cells) i →
       Lands o (place_after o i s p) w (execute i s w)
   executed_by h (JmpB rd u) e k = jumped rd u (row o p.context (JmpB rd u)) refl
@@ -276,7 +276,7 @@ module _ (o : Object) (p : Place) (s : State) (w : List Wild) (spelled : IsSpell
   executed_by h i e k = stays_as h i e (staying_row o p.valuation p.context s w ⊥ i refl (λ f.
       cc) spelled.few_cells k fits.context)
 
-  -- where the execution of the instruction at the place leads
+  -- executing the instruction at the place leads to the place after it
   executed : (h : Here o p at.number) → Lands o (place_after o h.instr s p) w (execute h.instr s w)
   executed h = executed_by h h.instr refl (all_there (IsInstr (length o.types) (length o.cells)) o.instrs
       (instr_number p) h.instr spelled.instrs h.there)
@@ -286,7 +286,7 @@ module _ (o : Object) (p : Place) (s : State) (w : List Wild) (spelled : IsSpell
   at_counter h = (let pc : s.pc_green ≡ suc (instr_number p) = (let g = fits.pc_green in omega arith) in
       ap (instr_at o) pc) ∙ h.there
 
-  -- where a step leads if nothing, or that instruction, is fetched
+  -- a step leads to the next place, whether nothing or the instruction at the place is fetched
   step_by : (x : Option Instr) → s.fetched ≡ x → (h : Here o p at.number) → (x ≡ None) ⊎ (x ≡ Some h.instr) →
       Lands o (next_place o x s p) w (advance o x s w)
   step_by None e h f =
@@ -347,6 +347,6 @@ module _ (o : Object) (p : Place) (s : State) (w : List Wild) (spelled : IsSpell
         store_blue = λ rd rs e. (wants_fetched (St Blue rd rs) e).2;
       }
 
-  -- the step from a place keeps what fits
+  -- the step from a place is untroubled, and leads to the end or to a state that fits the next place
   pub keeps : Keeps o p s w
   keeps = let l = lands in record { untroubled = untroubled; wild = l.wild; after = l.after }

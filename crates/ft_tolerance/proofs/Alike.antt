@@ -49,7 +49,7 @@ alike_word c m n r h = (h r).word
 
 ruleset alikes = (alike_write, alike_colour, alike_word, keeps_alike, is_detected)
 
--- executing an instruction
+-- executing an instruction in two alike states keeps them alike, or the second is detected
 execute_row : (c : Colour) (s t : State) (w v : List Wild) (i : Instr) → AreAlike c s t → Wants i s →
     (execute i s w).state.status ≢ Detected → Follows c (execute i s w) (execute i t v)
 execute_row c s t w v (Ld Green rd rs) h f ok = grind (arith, alikes)
@@ -58,14 +58,14 @@ execute_row c s t w v (St Green rd rs) h f ok = grind (arith, length-append, ali
 execute_row c s t w v (St Blue rd rs) h f ok = grind (arith, length-drop, alikes)
 execute_row c s t w v i h f ok = grind (arith, alikes)
 
--- fetching an instruction, or executing the fetched one
+-- so does fetching an instruction, or executing the fetched one
 advance_row : (c : Colour) (s t : State) (w v : List Wild) (o : Object) (x : Option Instr) → AreAlike c s t →
     ((i : Instr) → x ≡ Some i → Wants i s) → (advance o x s w).state.status ≢ Detected →
     Follows c (advance o x s w) (advance o x t v)
 advance_row c s t w v o None h f ok = grind (arith, alikes)
 advance_row c s t w v o (Some i) h f ok = execute_row c s t w v i h (f i refl) ok
 
--- a step, given the status
+-- so does a step, whatever the status
 step_by : (c : Colour) (s t : State) (w v : List Wild) (o : Object) (x : Status) → AreAlike c s t →
     (x ≡ Running → (i : Instr) → s.fetched ≡ Some i → Wants i s) → (step_at o x s w).state.status ≢ Detected →
     Follows c (step_at o x s w) (step_at o x t v)
@@ -74,7 +74,8 @@ step_by c s t w v o Running h f ok = subst (λ (x : Option Instr). Follows c (ad
 step_by c s t w v o Done h f ok = keeps_alike h refl
 step_by c s t w v o Detected h f ok = keeps_alike h refl
 
--- a step from a state whose instruction finds what it requires, and a step from an alike state
+-- if the first of two alike states has what its instruction requires, a step from each keeps them alike, or the second
+-- is detected
 pub alike_step : (c : Colour) (o : Object) (s t : State) (w v : List Wild) → AreAlike c s t →
     (s.status ≡ Running → (i : Instr) → s.fetched ≡ Some i → Wants i s) → (step o s w).state.status ≢ Detected →
     Follows c (step o s w) (step o t v)
@@ -95,7 +96,7 @@ struck_words x y true v e = record {
 }
 struck_words x y false v e = record { colour = refl; word = λ _. refl }
 
--- another word of the same colour in a register
+-- registers that differ in one word are alike, for the colour of that register
 struck_register : (m : Registers) (r v : ℕ) → AreAlikeRegisters (held m r).colour m
     (with_held m r (record { colour = (held m r).colour; word = v }))
 unfolding AreAlikeRegisters
@@ -116,7 +117,7 @@ length-with_value (e ∷ q) (suc i) v = ap suc (length-with_value q i v)
 
 ruleset strikes = (alike_itself, struck_register, length-with_address, length-with_value)
 
--- another word at a site
+-- states that differ in the word at a site are alike, for the colour of the site
 word_alike : (s : State) (site : Site) (v : ℕ) → AreAlike (colour_of_site s site) s (with_word site v s)
 word_alike s (R r) v = grind (arith, strikes)
 word_alike s D v = grind (arith, strikes)

@@ -24,7 +24,7 @@ pub record AreSame (x y : Stepping) : Type 0 where
   pub state : x.state ≡ y.state
   pub output : x.output ≡ y.output
 
--- a load that finds a word takes no answer
+-- a load that finds a word does not depend on the answers
 load_same : (c : Colour) (rd : Reg) (x : Option ℕ) (s : State) (w v : List Wild) → is_some x ≡ true →
     AreSame (load c rd x s w) (load c rd x s v)
 load_same c rd (Some n) s w v h = record { state = refl; output = refl }
@@ -44,7 +44,7 @@ finds : (c : Colour) (s : State) (a : ℕ) → is_wild c s a ≡ false → is_so
 finds Green s a h = some_of (newest_at s.queue a) (cell_at s.cells a) h
 finds Blue s a h = some_alone (cell_at s.cells a) h
 
--- a step that meets no wild load
+-- a step that meets no wild load does not depend on the answers
 pub step_same : (o : Object) (x : Status) (s : State) (w v : List Wild) → s.status ≡ x →
     (s.status ≡ Running → IsUntroubled o s) → AreSame (step_at o x s w) (step_at o x s v)
 step_same o x s w v is h =
@@ -53,7 +53,7 @@ step_same o x s w v is h =
     (λ go c rd rs e. load_same c rd (found c s (word s rs)) s w v
     (finds c s (word s rs) ((h (is ∙ go)).load c rd rs e)))
 
--- two runs are in the same state, with the same outputs
+-- the two runs are in the same state, with the same outputs
 pub record AreSameRuns (o : Object) (w v : List Wild) (n : ℕ) : Type 0 where
   pub state : state_after o None w n ≡ state_after o None v n
   pub outputs : outputs_after o None w n ≡ outputs_after o None v n

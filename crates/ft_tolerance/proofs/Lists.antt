@@ -8,7 +8,7 @@ pub record Found {X : Type 0} (test : X → Bool) (xs : List X) (x : X) : Type 0
   pub there : slice_get xs place ≡ Some x
   pub passes : test x ≡ true
 
--- the element is found, whatever the test says of the first element
+-- cases: whether the first element passes the test
 found_by : {X : Type 0} (test : X → Bool) (y : X) (ys : List X) (x : X) (b : Bool) → test y ≡ b →
     cond b (Some y) (find test ys) ≡ Some x → (find test ys ≡ Some x → Found test ys x) → Found test (y ∷ ys) x
 found_by test y ys x true is h rest = let same : y ≡ x = cc in

@@ -36,7 +36,8 @@ undetected : (o : Object) (p : Place) (s : State) → EndsOrFits o p s → s.sta
 undetected o p s (ended d) e = cc
 undetected o p s (running go at fits) e = cc
 
--- a step from a place of an accepted object, and a step from an alike state
+-- steps from a state that fits a place of an accepted object and from an alike state keep them alike, or the second is
+-- detected
 pub step_follows : (c : Colour) (o : Object) (p : Place) (s t : State) (w v : List Wild) → IsSpellable o →
     IsAccepted o → IsPlace o p → s.status ≡ Running → Fits o p s → AreAlike c s t → Follows c (step o s w) (step o t v)
 step_follows c o p s t w v spelled acc at go fits h =
@@ -51,7 +52,7 @@ stopped_follows c o s t w v d h =
     subst (λ (x : Status). Follows c (step_at o x s w) (step o t v)) (sym d)
     (subst (λ (x : Status). Follows c (step_at o Done s w) (step_at o x t v)) (sym d ∙ h.status) (keeps_alike h refl))
 
--- a step of the run without a fault, and a step from an alike state
+-- so do steps from a state of the run without a fault and from an alike state
 pub follows_along : (c : Colour) (o : Object) (p : Place) (s t : State) (w v : List Wild) → IsSpellable o →
     IsAccepted o → EndsOrFits o p s → AreAlike c s t → Follows c (step o s w) (step o t v)
 follows_along c o p s t w v spelled acc (ended d) h = stopped_follows c o s t w v d h
@@ -86,7 +87,7 @@ pub data AreTied (c : Colour) (r x : Ran) : Type 0 where
 prefix_more : (a b rest : List Output) → IsPrefix a b → IsPrefix a (b ++ rest)
 prefix_more a b rest h = begins_on a b (b ++ rest) h (rest, refl)
 
--- after a step of both
+-- if the outputs so far are equal, the runs are tied after a step that keeps them alike or detects the second
 tied_after : (c : Colour) (os ps : List Output) (x y : Stepping) → os ≡ ps → Follows c x y →
     AreTied c (extended os x) (extended ps y)
 tied_after c os ps x y e (keeps_alike h f) = together h (λ i. e i ++ option_to_list (f i))
@@ -102,7 +103,7 @@ over_after c o r os ps Detected w t e f h = over f
     (subst (λ (l : List Output). IsPrefix l (os ++ option_to_list r.output)) (sym (append-nil ps))
     (prefix_more ps os (option_to_list r.output) h))
 
--- one more step of both, without a strike
+-- tied runs stay tied after one more step of both, without a strike
 tied_step : (c : Colour) (o : Object) (p : Place) (r x : Ran) → IsSpellable o → IsAccepted o → EndsOrFits o p r.state →
     AreTied c r x → AreTied c (extended r.outputs (step o r.state r.wild)) (extended x.outputs (step o x.state x.wild))
 tied_step c o p r x spelled acc fits (together h e) =
@@ -127,7 +128,7 @@ module _ (o : Object) (x : Strike) (w : List Wild) where
   abbrev c : Colour
   c = colour_of_site (state_after o None w x.step) x.site
 
-  -- the run about to take step n
+  -- the run just before step n, struck if the strike is due there
   abbrev ready : ℕ → Ran → Ran
   ready n r = record r { state = struck_before (Some x) n r.state }
 

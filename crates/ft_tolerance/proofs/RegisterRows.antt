@@ -56,7 +56,7 @@ register_by : (o : Object) (v : Valuation) (b : Bool) (t t' : Typed) (u : Option
 register_by o v true t t' u x y m h e = let same : t ≡ t' = cc in subst (λ (z : Typed). FitsRegister o v z x) same m
 register_by o v false t t' u x y m h e = h t' e
 
--- a register gets a word that fits what is then known of it
+-- if a word fits what is then known of a register, writing it there leads to a state that fits
 pub write_fits : (o : Object) (v : Valuation) (c : Context) (s : State) (w : List Wild) (rd : Reg) (t : Typed)
     (x : Coloured) → FitsContext o v c s → FitsRegister o v t x →
     GoesOn o v s w (writes rd x.colour x.word s w) (with_type rd.number t c)
@@ -77,7 +77,7 @@ write_fits o v c s w rd t x h m = record {
   fetched = refl;
 }
 
--- the constant of a word denotes it
+-- the constant polynomial of a word denotes that word
 constant_denotes : (w : ℕ) (v : Valuation) → IsWord w → w ≡ value_polynomial (constant w) v
 constant_denotes w v h = sym (value_constant w v ∙ mod-eq_of_lt h)
 
@@ -171,7 +171,7 @@ index_row o v c s w E rd rs first m few run h =
 
 -- LOADS
 
--- an entry at the address takes the place of the old word
+-- an entry at the address replaces the old word
 newest_by : (b : Bool) (u : Option ℕ) (x old : ℕ) → option_or (option_or u (if b then Some x else None)) (Some old)
     ≡ option_or u (Some (cond b x old))
 newest_by true None x old = refl
@@ -185,7 +185,7 @@ pub record FindsWord (o : Object) (v : Valuation) (m : Updates) (a : ℕ) (b : B
   pub denoted : word ≡ word_at (value_updates m v) a
   pub typed : HasType o word b
 
--- the word at an address after an update of a form
+-- an update changes the word at its own address only
 pub updated : (m : Updates) (p : FormPair) (v : Valuation) (a : ℕ) → word_at (value_updates (norm_upd m p.0 p.1) v) a
     ≡ (if a == value_polynomial p.0 v then value_polynomial p.1 v else word_at (value_updates m v) a)
 updated m p v a = ap (λ z. word_at z a) (value_upd m p.0 p.1 v)

@@ -34,7 +34,7 @@ use Rattle.ft_types.proofs.Maps.{get-insert}
 
 -- THE CELLS
 
--- the values of a map with numbered entries are words
+-- whichever of two values a test selects is a word if both are; a missing value counts as 0
 word_by : (b : Bool) (x : ℕ) (u : Option ℕ) → IsWord x → IsWord (unwrap_or u 0) →
     IsWord (unwrap_or (cond b (Some x) u) 0)
 word_by true x u h k = h
@@ -51,7 +51,7 @@ words_tabulated value (suc n) a h =
     (word_by (a == cell_address n) (value n) (finite.get (tabulate n cell_address value) a) (h n (omega arith))
     (words_tabulated value n a (λ k l. h k (omega arith))))
 
--- the initial word of an existing cell
+-- `init_of` is the initial word of an existing cell
 init_there : (o : Object) (k : ℕ) (x : Cell) → slice_get o.cells k ≡ Some x → init_of o k ≡ x.init
 init_there o k x e = ap (λ u. init_or_zero (option_map cell_head_of u)) e
 
@@ -63,7 +63,7 @@ init_is_word o k spelled h = elim (slice_get_cases o.cells k).1 [
   | inr e ↦ absurd (omega (arith, e.0))
 ]
 
--- the object's cell at a cell's address
+-- the cell of the object at an address
 pub record CellThere (o : Object) (a : ℕ) (b : Basic) : Type 0 where
   pub number : ℕ
   pub cell : Cell
@@ -91,7 +91,7 @@ cell_there o a b h = by_test (nat_le 1048576 a) refl h
     by_test true e k = by_cell (slice_get o.cells (a - 1048576)) refl (leb-true 1048576 a e) k
     by_test false e k = cc
 
--- the form of the memory variable
+-- the form of a node that is the memory variable is the unchanged memory
 form_of_variable : (o : Object) (n : ℕ) → AreNodes o.nodes → HasShape o.nodes n shape.Memory → memory_form_of o n
     ≡ unchanged
 unfolding memory_form_of

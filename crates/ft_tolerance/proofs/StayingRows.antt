@@ -24,7 +24,7 @@ use Rattle.ft_tolerance.proofs.Premises.{After, after_goes, after_ends, after_ne
 use Rattle.ft_tolerance.proofs.RegisterRows.{GoesOn, op_row, op_word_row, mov_row, index_row, load_row}
 use Rattle.ft_tolerance.proofs.StoreRows.{store_green_row, store_blue_row}
 
--- d gets a word that fits what is then known of it, and the machine goes on
+-- if d gets a word that fits what is then known of it, the machine goes on to a state that fits
 d_fits : (o : Object) (v : Valuation) (c : Context) (s : State) (w : List Wild) (x : StateOfD) (d : ℕ) →
     FitsContext o v c s → FitsD o v x d → GoesOn o v s w (quiet (goes_on (record s { d = d })) w) (record c { d = x })
 d_fits o v c s w x d h f = record {
@@ -36,14 +36,14 @@ d_fits o v c s w x d h f = record {
   fetched = refl;
 }
 
--- a green jump when d is 0
+-- if d is 0, a green jump leads to a state that fits
 jump_green_fits : (o : Object) (v : Valuation) (c : Context) (s : State) (w : List Wild) (x : StateOfD) (a : ℕ) →
     FitsContext o v c s → s.d ≡ 0 → FitsD o v x a → GoesOn o v s w (jump_green a s w) (record c { d = x })
 jump_green_fits o v c s w x a h z f = subst (λ (t : Bool).
     GoesOn o v s w (if t then quiet (goes_on (record s { d = a })) w else detected s w) (record c { d = x }))
     (sym (eq-eqb s.d 0 z)) (d_fits o v c s w x a h f)
 
--- a branch that is not taken, when d is 0
+-- if d is 0, a branch that is not taken leads to a state that fits
 pub pass_fits : (o : Object) (v : Valuation) (c : Context) (s : State) (w : List Wild) (x : StateOfD) →
     FitsContext o v c s → s.d ≡ 0 → FitsD o v x 0 → GoesOn o v s w (pass s w) (record c { d = x })
 pass_fits o v c s w x h z f = subst (λ (t : Bool).
@@ -95,7 +95,7 @@ halt_row o c s w G =
     let E = (execute Halt s w).state.status ≡ Done in
     after_zero G E c.d _ (λ z. after_need G E premise.QueueUnlike (is_empty c.queue) _ (λ n. after_ends G E refl))
 
--- an instruction that always goes on to the next one of its block
+-- an instruction without a substitution, other than `halt`, leads to a state that fits the context after its row
 pub staying_row : (o : Object) (v : Valuation) (c : Context) (s : State) (w : List Wild) (E : Type 0) (i : Instr) →
     subst_of i ≡ None → i ≢ Halt → length o.cells ≤ 1024 → IsInstr (length o.types) (length o.cells) i →
     FitsContext o v c s → After (GoesOn o v s w (execute i s w)) E (row o c i)

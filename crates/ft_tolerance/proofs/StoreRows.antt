@@ -31,12 +31,12 @@ pub same_denotes : (p q : Polynomial) (v : Valuation) → same_polynomial p q �
     ≡ value_polynomial q v
 same_denotes p q v e = ap (λ (z : Polynomial). value_polynomial z v) ((equal_polynomials p q).0 e)
 
--- a word that has a type also has each type that this type is accepted as
+-- if one type is accepted as another, each word of the first type has the second type, too
 pub has_seen : (o : Object) (w : ℕ) (a b : Basic) → is_seen_as a b ≡ true → HasType o w a → HasType o w b
 has_seen o w a b e h = ⊎_elim (λ (s : a ≡ b). subst (HasType o w) s h) (λ (s : b ≡ int). subst (HasType o w) (sym s) tt)
     ((is_seen_as_decides a b).0 e)
 
--- one more pair in both queues
+-- the queues still fit after a pair is added to each, if these pairs fit
 queue_append : (o : Object) (v : Valuation) (ps : List FormPair) (q : Pending) (p : FormPair) (x : ℕ × ℕ) →
     FitsQueue o v ps q → FitsPair o v p x → FitsQueue o v (ps ++ p ∷ []) (q ++ x ∷ [])
 queue_append o v [] [] p x f g = (g, tt)
@@ -44,7 +44,7 @@ queue_append o v [] (y ∷ q) p x f g = absurd f
 queue_append o v (r ∷ ps) [] p x f g = absurd f
 queue_append o v (r ∷ ps) (y ∷ q) p x f g = (f.0, queue_append o v ps q p x f.1 g)
 
--- both queues are equally long
+-- the two queues have the same length
 pub queue_length : (o : Object) (v : Valuation) (ps : List FormPair) (q : Pending) → FitsQueue o v ps q → length ps
     ≡ length q
 queue_length o v [] [] f = refl
@@ -90,7 +90,7 @@ store_green_row o v c s w E rd rs h =
       fetched = refl;
     }))))))))
 
--- the cell holds the new word or the old one, and it has the cell's type
+-- whichever word the cell then holds, the new one or the old one, has the cell's type
 written : (o : Object) (b : Basic) (t : Bool) (x z : ℕ) (u : Option ℕ) → (t ≡ true → HasType o x b) → u ≡ Some z →
     HasType o z b → (cond t (Some x) u ≡ Some (if t then x else z)) × HasType o (if t then x else z) b
 written o b true x z u f e h = (refl, f refl)
@@ -114,7 +114,7 @@ cells_written o v m cells a x fa fx b h ea ex at has = λ q b' at'.
       typed = subst (λ z. HasType o z b') (sym now) g.1;
     }
 
--- a blue store, if the oldest pair of the static queue denotes what the registers hold
+-- if the oldest pair of the static queue denotes what the registers hold, a blue store leads to a state that fits
 commit_fits : (o : Object) (v : Valuation) (c : Context) (s : State) (w : List Wild) (a x : ℕ) (fa fx : Polynomial)
     (b : Basic) (p : FormPair) (ps : List FormPair) (q : Pending) → s.queue ≡ q → FitsContext o v c s → a
     ≡ value_polynomial fa v → x ≡ value_polynomial fx v → cell_type o a ≡ Some b → HasType o x b → value_polynomial fa v

@@ -94,7 +94,7 @@ like_fits o u v (Some t) r y nodes lawful l h =
       basic = has_seen o y.word t.basic r.basic q.1 m.basic;
     }
 
--- what the rows say of a register, or what was known before
+-- a register fits what is known of it, whether that comes from the last row or from before
 by_row : (o : Object) (v : Valuation) (b : Bool) (t y : Typed) (u : Option Typed) (x : Coloured) →
     (b ≡ true → FitsRegister o v t x) → (u ≡ Some y → FitsRegister o v y x) → cond b (Some t) u ≡ Some y →
     FitsRegister o v y x
@@ -120,7 +120,7 @@ rows_fit o u v c s (row ∷ rows) m nodes h l k r y e =
     (rw (get-insert m n (typed_row o row) q) at i))
     r y e
 
--- a queue that is like the target's fits it
+-- a queue that is like the target's queue rows fits them afterwards
 queue_leads : (o : Object) (u : Subst) (v : Valuation) (ps : List FormPair) (rows : List (ℕ × ℕ)) (q : Pending) →
     AreNodes o.nodes → IsLawful v → is_queue_like o (replacement o u) ps rows ≡ true → FitsQueue o v ps q →
     FitsQueue o (valuation_by o u v) (map (queue_pair o) rows) q
@@ -157,7 +157,7 @@ same_cells o v v' m m' cells e h = λ a b at.
       typed = subst (λ (z : WordMap). HasType o (word_at z a) b) e f.typed;
     }
 
--- a context that leads to code type t by a substitution
+-- under a substitution, a context meets the requirements of code type t
 pub record Leads (o : Object) (u : Subst) (t : ℕ) (c : Context) : Type 0 where
   pub registers : are_like o (replacement o u) c (reg_rows o t) ≡ true
   pub queue : is_queue_like o (replacement o u) c.queue (queue_rows o t) ≡ true
@@ -197,7 +197,7 @@ pub record Arrives (o : Object) (v : Valuation) (a : ℕ) (s : State) (w : List 
   pub status : t.state.status ≡ s.status
   pub fetched : t.state.fetched ≡ None
 
--- a blue jump to where d points
+-- a blue jump to the address in d arrives at the block there
 arrive : (o : Object) (u : Subst) (v : Valuation) (c : Context) (s : State) (w : List Wild) (a t : ℕ) →
     AreNodes o.nodes → FitsContext o v c s → s.d ≡ a → HasType o s.d (code t) → Leads o u t c →
     Arrives o (valuation_by o u v) a s w (jump_blue a s w)

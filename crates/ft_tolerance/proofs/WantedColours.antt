@@ -36,7 +36,7 @@ Wants (BzG rz rd) s = (colour s rz ≡ Green) × (colour s rd ≡ Green)
 Wants (BzB rz rd u) s = (colour s rz ≡ Blue) × (colour s rd ≡ Blue)
 Wants i s = Unit {0}
 
--- a fact that holds whatever the row gives
+-- a fact that holds anyway holds after any row
 pub anyhow : (C : Type 0) (x : Outcome) → C → After (λ _. C) C x
 unfolding After
 anyhow C (Goes c) h = h
@@ -48,7 +48,7 @@ has_colour : (o : Object) (v : Valuation) (c : Context) (s : State) (r : Reg) (t
     FitsContext o v c s → typed c r.number ≡ Some t → same_colour t.colour k ≡ true → colour s r ≡ k
 has_colour o v c s r t k h it e = (h.registers r.number t it).colour ∙ same_colour_is t.colour k e
 
--- what is known of a typed register
+-- if something is known of a register, looking it up with a default finds just that
 typed_is : (x : Option Typed) (d : Typed) → is_some x ≡ true → x ≡ Some (unwrap_or x d)
 typed_is None d e = cc
 typed_is (Some t) d e = refl

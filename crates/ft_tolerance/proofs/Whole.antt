@@ -18,7 +18,7 @@ pub record Along (o : Object) (p : Place) (s : State) (w v : List Wild) : Type 0
   pub after : EndsOrFits o p s
   pub wild : w ≡ v
 
--- one more step
+-- one more step keeps this, for the next place
 along_step : (o : Object) (p : Place) (s : State) (w v : List Wild) → IsSpellable o → IsAccepted o → EndsOrFits o p s →
     w ≡ v → Along o (next_place o s.fetched s p) (step o s w).state (step o s w).wild v
 along_step o p s w v spelled acc (ended d) e = subst (λ (x : Status).
@@ -27,7 +27,7 @@ along_step o p s w v spelled acc (ended d) e = subst (λ (x : Status).
 along_step o p s w v spelled acc (running go at fits) e = let k = keeps o p s w spelled acc at go fits in
     record { after = k.after; wild = k.wild ∙ e }
 
--- the run after n steps
+-- after n steps, the run is done or fits its place, and all answers to wild loads are left
 pub along : (o : Object) (w : List Wild) (n : ℕ) → IsSpellable o → IsAccepted o →
     Along o (place o w n) (state_after o None w n) (wild_after o None w n) w
 unfolding run place
@@ -39,7 +39,7 @@ along o w (suc n) spelled acc =
     let h = along o w n spelled acc in
     along_step o (place o w n) (state_after o None w n) (wild_after o None w n) w spelled acc h.after h.wild
 
--- what holds of each state of the run
+-- a run of which this holds is as `FitsAfter` says
 fits_by : (o : Object) (w : List Wild) (n : ℕ) → IsSpellable o → IsAccepted o →
     EndsOrFits o (place o w n) (state_after o None w n) → wild_after o None w n ≡ w → FitsAfter o w n
 fits_by o w n spelled acc (ended d) e = record {

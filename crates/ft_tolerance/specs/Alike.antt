@@ -62,8 +62,8 @@ pub data IsAlikeOrDetected (c : Colour) (s t : State) : Type 0 where
 abbrev pub IsAlikeAfter : Object → Strike → List Wild → ℕ → State → Type 0
 IsAlikeAfter o x w n s = IsAlikeOrDetected (colour_of_site (state_after o None w x.step) x.site) (state_after o None w n) s
 
--- from the strike on, the states from which step n is taken are alike, or the struck one is detected; the first of
--- these is the state right after the strike
+-- from the strike on, the states from which step n is taken are alike, or the struck one is detected; at the step of
+-- the strike, the struck one is the state right after the strike
 abbrev pub StaysAlike : Object → Strike → List Wild → ℕ → Type 0
 StaysAlike o x w n = x.step ≤ n → IsAlikeAfter o x w n (struck_before (Some x) n (state_after o (Some x) w n))
 

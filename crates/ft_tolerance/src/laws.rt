@@ -44,9 +44,9 @@ pub fn steps_keep_states_alike()
     ensures { (c : Colour) (o : Object) (p : Place) (s t : State) (w v : List Wild) → IsSpellable o → IsAccepted o → IsPlace o p → s.status ≡ Running → Fits o p s → AreAlike c s t → Follows c (step o s w) (step o t v) }
 {}
 
-/// Right after a strike, and after each later step, the state of the struck run of an accepted object and that of the
-/// run without the strike, after the same number of steps, are alike for the colour of the struck site, or the struck
-/// run is detected.
+/// Right after a strike, and after each later step, the struck run of an accepted object and the run without the
+/// strike, after the same number of steps, are in states that are alike for the colour of the struck site, or the
+/// struck run is detected.
 pub fn struck_runs_stay_alike()
     ensures from_strike { (o : Object) (strike : Strike) (w : List Wild) (n : ℕ) → IsSpellable o → IsAccepted o → StaysAlike o strike w n }
     ensures later { (o : Object) (strike : Strike) (w : List Wild) (n : ℕ) → IsSpellable o → IsAccepted o → IsAlikeLater o strike w n }
@@ -54,7 +54,7 @@ pub fn struck_runs_stay_alike()
 
 /// One fault is masked or detected: after any number of steps, the run of an accepted object under a plan with at most
 /// one strike has the outputs and the status of the run without the strike, or it is detected and its outputs are a
-/// prefix of those.
+/// prefix of that run's outputs.
 pub fn one_fault_is_masked_or_detected()
     ensures { (o : Object) (strike : Option Strike) (w : List Wild) (n : ℕ) → IsSpellable o → IsAccepted o → Agrees (outputs_after o strike w n) (status_after o strike w n) (outputs_after o None w n) (status_after o None w n) }
 {}

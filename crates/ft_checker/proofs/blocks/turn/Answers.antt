@@ -13,7 +13,7 @@ use Rattle.ft_checker.specs.Judges.{Turns}
 use Rattle.ft_checker.proofs.Turned.{on_last, on_more, end_last, end_more, row_fails}
 use Rattle.ft_checker.proofs.blocks.turn.Goals as goal
 
--- an error of the row is an error of the turn
+-- an error of the row is a correct error of `turn`
 error_turns : (x : Outcome) (e : RuleError) (k : ℕ) (others : List Instr) (next : Context →
     Option (ℕ × Premise)) (later : Option (ℕ × Premise)) → IsRefusal x e →
     Turns (after_row x k others next) k later (Err e)

@@ -7,7 +7,7 @@ use Rattle.ft_contexts.proofs.Registers.{apart}
 use Rattle.ft_contexts.proofs.Turns.{head_says}
 use Rattle.ft_checker.proofs.entry.is_entry_type.Goals as goal
 
--- a list is empty if its length is 0
+-- a list is empty exactly when its length is 0
 none_counted : {X : Type 0} (xs : List X) → has_none xs ≡ (length xs == 0)
 none_counted [] = refl
 none_counted (x ∷ xs) = sym (apart _ 0 (λ e. absurd (omega arith)))

@@ -5,7 +5,7 @@ use Rattle.circular_buffer.specs.Buffer.{Buffer, buffer}
 use Rattle.ft_debug.specs.Kept.{HasMomentCells}
 use Rattle.ft_debug.proofs.history.History.new.Goals as goal
 
--- a moment was pushed
+-- a push makes the ring longer by one
 pushed_length : {X : Type 0} (a b : Buffer X) (x : X) (n : ℕ) → b ≡ buffer (a.items ++ x ∷ []) a.capacity →
     length a.items ≡ n → length b.items ≡ n + 1
 pushed_length a b x n e is = ap (λ (r : Buffer _). length r.items) e ∙ omega (arith, length-append a.items (x ∷ []), is)

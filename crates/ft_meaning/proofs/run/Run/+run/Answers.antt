@@ -345,7 +345,7 @@ statement-returns-in-Assign-clause-runs g t c =
     (λ o w. ap (λ b. run b (state r o w)) form ∙ ap (λ x. Ended (assigned to x (evaluated e (state r o w))))
     (sym c.word-word.ensures)) c.assign.ensures.runs
 
--- an assignment with an index, level by level
+-- in the definition, an assignment with an index is an `assign_at` of its parts
 at_form : (s : Stmt Slot) (to : Slot) (i e : Expr Slot) → s ≡ AssignAt to i e → plain_statement same_slot s none
     ≡ assign_at to (plain_expression same_slot i) (plain_expression same_slot e) none
 at_form s to i e is = ap (λ x. plain_statement same_slot x none) is ∙ assign_at_form same_slot to i e none
