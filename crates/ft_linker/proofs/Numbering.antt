@@ -120,7 +120,7 @@ module _ (nodes : List Node) (cs : List ℕ) (n c : ℕ) (y : Node) (known next 
   first_next : (k : Shape) (d : ℕ) → next k ≡ Some d → First k d
   first_next k d e = first_by (test k) k d refl e
 
-  -- two numbers are equal exactly if the keys are
+  -- two numbers are equal exactly when the keys are
   numbers_of_keys : (i j : ℕ) (u z : Node) → i < n + 1 → j < n + 1 → slice_get nodes i ≡ Some u → slice_get nodes j
       ≡ Some z → number_in ds i ≡ number_in ds j → key_of ds u.shape ≡ key_of ds z.shape
   unfolding First

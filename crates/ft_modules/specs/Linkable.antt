@@ -29,7 +29,8 @@ HasPlainRow r = r.basic.base ≡ Int
 abbrev pub HasPlainRows : CodeType → Type 0
 HasPlainRows t = All HasPlainRow t.regs
 
--- a module that can be added to modules with these cells: refusals 3, 4 and 5 do not apply
+-- a module that can be added to modules with these cells: it is spellable and accepted, and refusals 3, 4 and 5 do not
+-- apply
 pub record IsModule (cells : List Cell) (o : Object) : Type 0 where
   pub spelled : IsSpellable o
   pub accepted : IsAccepted o
