@@ -90,11 +90,11 @@ module _ (p : Program) (o : Object) (vars : ℕ) (bs : Blocks) (L : Lowers p bs)
   is_run : (k : ℕ) → flow_run bs (words_of o) k ≡ at k
   is_run k = ap (λ ws. flow_run bs ws k) same
 
-  -- the machine's outputs after the cost of k flow steps
+  -- after as many machine steps as k flow steps cost, the machine has the flow's outputs
   out_at : (k : ℕ) → (ran o (spent k)).outputs ≡ (at k).out
   out_at k = (D.after k).out ∙ ap (λ (f : FlowState). f.out) (is_run k)
 
-  -- the machine's status after the cost of k flow steps
+  -- after as many machine steps as k flow steps cost, the machine is done exactly when the flow is
   status_at : (k : ℕ) → (ran o (spent k)).state.status ≡ cond (at k).done Done Running
   status_at k = (D.after k).status ∙ ap (λ (f : FlowState). cond f.done Done Running) (is_run k)
 
