@@ -25,7 +25,7 @@ pub record IsResolved (p : Program) : Type 0 where
   pub need : program_need p ≤ 32
   pub weight : program_weight p ≤ 65536
 
--- the state after the zeros at the start
+-- what the steps for the zeros at the start lead to: a running state at place p with 0 in each pair
 record Fresh (bs : Blocks) (k : ℕ) (p : Place) (f : FlowState) : Type 0 where
   end : FlowState
   reaches : Reaches bs k f end
