@@ -19,7 +19,7 @@ abbrev pub is_word : List ℕ → Bool
 is_word [] = false
 is_word (b ∷ bs) = is_letter b && list_all is_name_byte bs
 
--- a word with one more byte of a name
+-- a word followed by a byte of a name is a word
 word_more : (t : List ℕ) (b : ℕ) → is_word t ≡ true → is_name_byte b ≡ true → is_word (t ++ b ∷ []) ≡ true
 word_more [] b e f = cc
 word_more (c ∷ cs) b e f =
@@ -66,12 +66,12 @@ plain_fits k t at h = record {
   number_fits = λ e. absurd (subst IsPlain e h);
 }
 
--- a choice between two such scans is one
+-- a choice between two such scans is such a scan
 if_fits : (c : Bool) (x y : Scan) → AreFit x → AreFit y → AreFit (if c then x else y)
 if_fits true x y h k = h
 if_fits false x y h k = k
 
--- a choice among the kinds of words is not that of numbers
+-- none of the kinds of words is that of numbers
 word_choice : (a b c d e : Bool) → IsNoNumber (if a then kinds.Cell
     else (if b then kinds.Var else (if c then kinds.While
     else (if d then kinds.If else (if e then kinds.Else else kinds.Name)))))
@@ -93,7 +93,7 @@ abbrev IsPlainSign : Option Kind → Type 0
 IsPlainSign None = Unit {0}
 IsPlainSign (Some k) = IsPlain k
 
--- a choice between such a kind and others is one
+-- a choice between such a kind and such an option is such an option
 if_plain : (c : Bool) (k : Kind) (o : Option Kind) → IsPlain k → IsPlainSign o → IsPlainSign (if c then Some k else o)
 if_plain true k o h g = h
 if_plain false k o h g = g
@@ -162,12 +162,12 @@ number_token_fits true start t rest e h = token_fits (record {
     no f = cc
 number_token_fits false start t rest e h = wrong_fits
 
--- a sign before a scan that fits makes one that fits
+-- a sign followed by a scan that fits is a scan that fits
 sign_fits : (o : Option Kind) (at b : ℕ) (rest : Scan) → IsPlainSign o → AreFit rest → AreFit (sign_at o at b rest)
 sign_fits None at b rest p h = wrong_fits
 sign_fits (Some k) at b rest p h = token_fits (plain_fits k (b ∷ []) at p) h
 
--- ending what has begun before a scan that fits makes one that fits
+-- the scan is also one that fits if what has begun ends before a scan that fits
 ends_fits : (m : Mode) (rest : Scan) → MayEnd m → AreFit rest → AreFit (ends m rest)
 ends_fits gap rest m h = h
 ends_fits comment rest m h = h
@@ -178,13 +178,13 @@ ends_fits (name start t) rest m h = token_fits (record {
 ends_fits (number start t) rest m h = number_token_fits (nat_lt (numeral 0 t) (2 ^ 64)) start t rest refl h
 ends_fits (once k start b) rest m h = sign_fits (sign_kind b) start b rest (sign_kind_plain b) h
 
--- what a sign begins makes a scan that fits
+-- the scan of what a sign begins fits if the scans after it do
 sign_from_fits : (o : Option Kind) (at b : ℕ) (after : Mode → Scan) → IsPlainSign o →
     ((n : Mode) → MayEnd n → AreFit (after n)) → AreFit (sign_from o at b after)
 sign_from_fits None at b after p h = sign_fits (sign_kind b) at b (after gap) (sign_kind_plain b) (h gap tt)
 sign_from_fits (Some k) at b after p h = h (once k at b) p
 
--- a choice of five such scans is one
+-- a choice of five such scans is such a scan
 begins_choice : (a b c d : Bool) (u v w x y : Scan) → AreFit u → AreFit v → (c ≡ true → AreFit w) → AreFit x →
     AreFit y → AreFit (if a then u else (if b then v else (if c then w else (if d then x else y))))
 begins_choice true b c d u v w x y hu hv hw hx hy = hu
@@ -193,7 +193,7 @@ begins_choice false false true d u v w x y hu hv hw hx hy = hw refl
 begins_choice false false false true u v w x y hu hv hw hx hy = hx
 begins_choice false false false false u v w x y hu hv hw hx hy = hy
 
--- what a byte begins makes a scan that fits
+-- the scan of what a byte begins fits if the scans after it do
 begins_fits : (at b : ℕ) (after : Mode → Scan) → ((n : Mode) → MayEnd n → AreFit (after n)) → AreFit (begins at b after)
 begins_fits at b after h =
     begins_choice (is_blank b) (b == 35) (is_letter b) (is_digit b) (after gap) (after comment)
@@ -202,14 +202,14 @@ begins_fits at b after h =
     (h (number at (b ∷ [])) tt)
     (sign_from_fits (pair_kind b) at b after (pair_kind_plain b) h)
 
--- a byte after a name makes a scan that fits
+-- the scan of a byte after a name fits if the scans after it do
 in_name_fits : (goes long : Bool) (at : ℕ) (more end : Scan) → (goes ≡ true → long ≡ false → AreFit more) → AreFit end →
     AreFit (in_name goes long at more end)
 in_name_fits false long at more end h k = k
 in_name_fits true false at more end h k = h refl refl
 in_name_fits true true at more end h k = wrong_fits
 
--- each byte makes a scan that fits
+-- the scan of any byte fits if the scans after it do
 reads_fits : (m : Mode) (at b : ℕ) (after : Mode → Scan) (other : Scan) → MayEnd m →
     ((n : Mode) → MayEnd n → AreFit (after n)) → AreFit other → AreFit (reads m at b after other)
 reads_fits gap at b after other m h k = k
