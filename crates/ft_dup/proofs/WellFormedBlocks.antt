@@ -27,7 +27,7 @@ pub starts_length : (n : ℕ) (bs : Blocks) → length (starts_from n bs) ≡ le
 starts_length n [] = refl
 starts_length n (b ∷ bs) = ap suc (starts_length (n + row_size b) bs)
 
--- the start of an existing block
+-- the list of starts has the start of each existing block
 pub start_at : (n : ℕ) (bs : Blocks) (b : ℕ) → b < length bs → slice_index (starts_from n bs) b ≡ n + start_of bs b
 start_at n [] b h = absurd (omega arith)
 start_at n (x ∷ bs) zero h = omega arith
