@@ -9,7 +9,7 @@ pub cond_is_or : (b x : Bool) → cond b true x ≡ (b || x)
 cond_is_or true x = refl
 cond_is_or false x = refl
 
--- a comparison by two keys gives equality exactly when both keys are equal
+-- a comparison by two keys finds equality exactly when both keys compare as equal
 first_of_two : (o p : Ordering) → is_eq (ordering_then o p) ≡ (is_eq o && is_eq p)
 first_of_two Less p = refl
 first_of_two Equal p = refl
