@@ -43,11 +43,11 @@ module _ (cs : List ℕ) (o : Object) (k : ℕ) (x : Object) (l : ℕ) (one : Ar
 pub refuted : {P : Type 0} → (P → ⊥) → IsTrue false ↔ P
 refuted h = (λ e. absurd (true≢false (sym e)), λ p. absurd (h p))
 
--- a fact does not hold if it implies one that does not
+-- `false` also decides a fact that implies one that `false` decides
 pub without : {P Q : Type 0} → IsTrue false ↔ Q → (P → Q) → IsTrue false ↔ P
 without t f = (λ e. absurd (true≢false (sym e)), λ p. t.1 (f p))
 
--- the rows of a code type name nodes of integers, if the object obeys the rules of the format
+-- if an object obeys the rules of the format, so do its code types, and their rows name nodes of integers
 pub is_code_type : (o : Object) (t : ℕ) (y : CodeType) → IsSpellable o → slice_get o.types t ≡ Some y →
     IsCodeType (length o.types) o.nodes y
 is_code_type o t y s e = all_there (IsCodeType (length o.types) o.nodes) o.types t y s.types e

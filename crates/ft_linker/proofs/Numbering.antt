@@ -164,7 +164,7 @@ module _ (nodes : List Node) (cs : List ℕ) (n c : ℕ) (y : Node) (known next 
     first = first_next;
   }
 
--- before any node is numbered
+-- `AreKnown` holds before any node is numbered
 pub known_none : (nodes : List Node) (cs : List ℕ) (known : Shape → Option ℕ) → cs ≡ [] →
     ((q : Shape) → known q ≡ None) →
     AreKnown nodes cs 0 known
@@ -175,12 +175,12 @@ known_none nodes cs known e h = record {
   first = λ k c f. let g = sym (h k) ∙ f in cc;
 }
 
--- once all nodes are numbered
+-- once all nodes are numbered, `AreNumbered` holds
 pub all_known : (nodes : List Node) (cs : List ℕ) (n : ℕ) (known : Shape → Option ℕ) → AreKnown nodes cs n known → n
     ≡ length nodes → AreNumbered nodes cs
 all_known nodes cs n known h e = record { count = h.count ∙ e; trees = subst (AreTreeNumbers nodes cs) e h.trees }
 
--- one more node, where an equation gives the longer list
+-- `AreKnown` holds after one more node, given an equation for the longer list
 pub known_next : (nodes : List Node) (cs ds : List ℕ) (n c : ℕ) (y : Node) (known next : Shape →
     Option ℕ) (test : Shape →
     Bool) (k : Shape) → AreNodes nodes → AreKnown nodes cs n known → slice_get nodes n ≡ Some y → k

@@ -56,9 +56,10 @@ impl Linker {
         }
     }
 
-    /// Links the modules, in the map's order, by a sound map with as many files as there are modules, and consumes the
-    /// linker. The linked object obeys the rules of the format, is accepted, runs as the modules do, and tolerates one
-    /// fault. The errors are `Block`, `Stub`, `Missing` and `Types`, exactly as `refusal_of` says, and `NoMemory`.
+    /// Links the modules by a sound map and consumes the linker. The map has as many files as there are modules; they
+    /// correspond in order. The linked object obeys the rules of the format, is accepted, runs as the modules do, and
+    /// tolerates one fault. The errors are `Block`, `Stub`, `Missing` and `Types`, exactly as `refusal_of` says, and
+    /// `NoMemory`.
     pub fn finish(self, linkage: &LinkMap) -> Result<Object, LinkError>
         requires sound { IsSound linkage.now }
         requires modules { length self ≡ length linkage.now.files }
