@@ -108,7 +108,7 @@ module _ (p : Program) (o : Object) (vars : ℕ) (bs : Blocks) (L : Lowers p bs)
     done : (ran o n).state.status ≡ Done → (s : State) × (meaning p n ≡ Ended s) × ((ran o n).outputs ≡ s.out)
     running : (ran o n).state.status ≡ Running → Begins (ran o n).outputs (outputs (meaning p n))
 
-  -- it holds if the flow is done after n of its own steps
+  -- this holds if the flow is done after n of its own steps
   seen_done : (n : ℕ) → (at n).done ≡ true → Seen n
   seen_done n d =
       let c = spent n in
@@ -126,7 +126,7 @@ module _ (p : Program) (o : Object) (vars : ℕ) (bs : Blocks) (L : Lowers p bs)
             (subst (λ x. Begins (ran o n).outputs x) out (outputs_grow o None [] n c (omega (arith, lt))));
       }
 
-  -- it holds if the flow is still running
+  -- this holds if the flow is still running
   seen_running : (n : ℕ) → (at n).done ≡ false → Seen n
   seen_running n d =
       let c = spent n in
@@ -142,7 +142,7 @@ module _ (p : Program) (o : Object) (vars : ℕ) (bs : Blocks) (L : Lowers p bs)
             (subst (λ x. Begins x (outputs (meaning p n))) (sym (out_at n)) R);
       }
 
-  -- so it holds in either case
+  -- so this holds in either case
   seen_by : (n : ℕ) (b : Bool) → (at n).done ≡ b → Seen n
   seen_by n true e = seen_done n e
   seen_by n false e = seen_running n e

@@ -255,7 +255,7 @@ variable_there vars q lt =
 pub first_pair : (q : ℕ) → q < 32 → slice_index first_pairs q ≡ suc q
 first_pair q lt = get_or-range_with_len 1 32 q 0 lt ∙ omega arith
 
--- each of the variables' nodes is that of a variable
+-- each node in the list of variables' nodes is the node of a variable
 variable_is : (vars a n k : ℕ) (x : Node) → slice_get (map (variable_node vars) (range_with_len a n)) k ≡ Some x →
     (i : ℕ) × (i < a + n) × (variable_node vars i ≡ x)
 variable_is vars a zero k x e = cc

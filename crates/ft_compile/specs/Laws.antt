@@ -78,10 +78,11 @@ DoneRunsWriteTheMeaning = (p : Program) (o : Object) → StandsFor p o → (n : 
 abbrev pub RunningRunsBeginTheMeaning : Type 0
 RunningRunsBeginTheMeaning = (p : Program) (o : Object) → StandsFor p o → (n : ℕ) → status_after o None [] n ≡ Running → LinesBegin (object_lines o (outputs_after o None [] n)) (output_lines p.names (outputs (meaning p n)))
 
--- if the meaning has ended, the run is done with its lines after 16 times the work plus 320 steps
+-- if the meaning has ended, the run of such an object is done, with the meaning's lines, after 16 times the work plus
+-- 320 steps, or more
 abbrev pub EndedMeaningsAreWritten : Type 0
 EndedMeaningsAreWritten = (p : Program) (o : Object) → StandsFor p o → (n t : ℕ) (s : State) → meaning p t ≡ Ended s → 16 * s.work + 320 ≤ n → (status_after o None [] n ≡ Done) × (object_lines o (outputs_after o None [] n) ≡ output_lines p.names s.out)
 
--- if the meaning is cut, its lines are a prefix of those of the run after 16 times its work plus 320 steps, or more
+-- if the meaning is cut, its lines are a prefix of the run's lines after 16 times its work plus 320 steps, or more
 abbrev pub CutMeaningsBeginTheRun : Type 0
 CutMeaningsBeginTheRun = (p : Program) (o : Object) → StandsFor p o → (n t : ℕ) (s : State) → meaning p t ≡ Cut s → 16 * s.work + 320 ≤ n → LinesBegin (output_lines p.names s.out) (object_lines o (outputs_after o None [] n))

@@ -33,7 +33,7 @@ pub record IsNameText (t : List ℕ) : Type 0 where
   pub word : is_word t ≡ true
   pub short : length t ≤ 32
 
--- a name has such a text, and a number is below 2^64
+-- if the lexeme is a name, its text is the text of a name; if it is a number, it is below 2^64
 pub record IsFit (l : Lexeme) : Type 0 where
   pub name_fits : l.kind ≡ kinds.Name → IsNameText l.text
   pub number_fits : l.kind ≡ kinds.Number → numeral 0 l.text < 2 ^ 64
@@ -44,7 +44,7 @@ data AreFit : Scan → Type 0 where
   wrong_fits : {e : LexError} → AreFit (wrong e)
   token_fits : {l : Lexeme} {rest : Scan} → IsFit l → AreFit rest → AreFit (token l rest)
 
--- the first token of such a scan fits, and the rest is such a scan
+-- if a scan fits, so do its first token and the rest of the scan
 token_parts : (l : Lexeme) (rest : Scan) → AreFit (token l rest) → IsFit l × AreFit rest
 token_parts l rest (token_fits a b) = (a, b)
 
@@ -66,12 +66,12 @@ plain_fits k t at h = record {
   number_fits = λ e. absurd (subst IsPlain e h);
 }
 
--- a choice between two such scans is such a scan
+-- if two scans fit, so does a choice between them
 if_fits : (c : Bool) (x y : Scan) → AreFit x → AreFit y → AreFit (if c then x else y)
 if_fits true x y h k = h
 if_fits false x y h k = k
 
--- none of the kinds of words is that of numbers
+-- no kind of word is the kind of numbers
 word_choice : (a b c d e : Bool) → IsNoNumber (if a then kinds.Cell
     else (if b then kinds.Var else (if c then kinds.While
     else (if d then kinds.If else (if e then kinds.Else else kinds.Name)))))
@@ -82,7 +82,7 @@ word_choice false false false true e = tt
 word_choice false false false false true = tt
 word_choice false false false false false = tt
 
--- so the kind of a word is not that of numbers
+-- so the kind of a word is not the kind of numbers
 word_kind_plain : (t : List ℕ) → IsNoNumber (word_kind t)
 unfolding word_kind
 word_kind_plain t = word_choice (bytes_eq t (codes "cell")) (bytes_eq t (codes "var")) (bytes_eq t (codes "while"))
@@ -93,12 +93,12 @@ abbrev IsPlainSign : Option Kind → Type 0
 IsPlainSign None = Unit {0}
 IsPlainSign (Some k) = IsPlain k
 
--- a choice between such a kind and such an option is such an option
+-- `IsPlainSign` holds of a choice if it holds in both cases
 if_plain : (c : Bool) (k : Kind) (o : Option Kind) → IsPlain k → IsPlainSign o → IsPlainSign (if c then Some k else o)
 if_plain true k o h g = h
 if_plain false k o h g = g
 
--- the kind of a sign is neither that of names nor that of numbers
+-- the kind of a sign is neither the kind of names nor the kind of numbers
 sign_kind_plain : (b : ℕ) → IsPlainSign (sign_kind b)
 unfolding sign_kind
 sign_kind_plain b =
@@ -167,7 +167,7 @@ sign_fits : (o : Option Kind) (at b : ℕ) (rest : Scan) → IsPlainSign o → A
 sign_fits None at b rest p h = wrong_fits
 sign_fits (Some k) at b rest p h = token_fits (plain_fits k (b ∷ []) at p) h
 
--- the scan is also one that fits if what has begun ends before a scan that fits
+-- if a scan fits, so does the scan in which what has begun ends before it
 ends_fits : (m : Mode) (rest : Scan) → MayEnd m → AreFit rest → AreFit (ends m rest)
 ends_fits gap rest m h = h
 ends_fits comment rest m h = h
@@ -184,7 +184,7 @@ sign_from_fits : (o : Option Kind) (at b : ℕ) (after : Mode → Scan) → IsPl
 sign_from_fits None at b after p h = sign_fits (sign_kind b) at b (after gap) (sign_kind_plain b) (h gap tt)
 sign_from_fits (Some k) at b after p h = h (once k at b) p
 
--- a choice of five such scans is such a scan
+-- if five scans fit, so does a choice of them
 begins_choice : (a b c d : Bool) (u v w x y : Scan) → AreFit u → AreFit v → (c ≡ true → AreFit w) → AreFit x →
     AreFit y → AreFit (if a then u else (if b then v else (if c then w else (if d then x else y))))
 begins_choice true b c d u v w x y hu hv hw hx hy = hu

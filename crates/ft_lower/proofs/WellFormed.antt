@@ -183,19 +183,19 @@ module _ (n m : ℕ) (blocks : ℕ) where
     well : FlatIsWell k is
     knows : Knows n (walk k is)
 
-  -- a well-formed row followed by such a row is such a row
+  -- a well-formed row followed by a `FlatRow` is a `FlatRow`
   flat_then : (k : Known) (a b : List Step3) → FlatIsWell k a → FlatRow (walk k a) b → FlatRow k (a ++ b)
   flat_then k a b p q = record {
     well = flat-append k a b p q.well;
     knows = subst (λ (f : Known). Knows n f) (sym (walk-append k a b)) q.knows;
   }
 
-  -- a jump followed by such a row is such a row
+  -- a jump followed by a `FlatRow` is a `FlatRow`
   flat_go : (k : Known) (to : ℕ) (is : List Step3) → to < blocks → 0 < to → Knows n k → FlatRow (pairs_below n) is →
       FlatRow k (Go n to ∷ is)
   flat_go k to is there entry h R = record { well = ((target to there entry, keeps k h), R.well); knows = R.knows }
 
-  -- an exit followed by such a row is such a row
+  -- an exit followed by a `FlatRow` is a `FlatRow`
   flat_exit : (k : Known) (to : ℕ) (is : List Step3) → to < blocks → 0 < to → k (n + 1) ≡ true → Knows n k →
       FlatRow (forget n k) is → FlatRow k (Exit (n + 1) n to ∷ is)
   flat_exit k to is there entry here h R = record {
@@ -204,7 +204,7 @@ module _ (n m : ℕ) (blocks : ℕ) where
     knows = R.knows;
   }
 
-  -- an assignment followed by such a row is such a row
+  -- an assignment followed by a `FlatRow` is a `FlatRow`
   flat_write : (to : Slot) (k : Known) (is : List Step3) → SlotFits m n to → k (n + 1) ≡ true → Knows n k →
       ((k1 : Known) → Knows n k1 → FlatRow k1 is) → FlatRow k (write n to ∷ is)
   flat_write (Var x) k is fits here h rest = let R = rest (learn x k) (λ y l. learn_keeps x k y (h y l)) in
@@ -213,7 +213,7 @@ module _ (n m : ℕ) (blocks : ℕ) where
       record { well = ((fits, (here, λ e. omega arith)), R.well); knows = R.knows }
   flat_write (Run c l) k is fits here h rest = absurd fits
 
-  -- an assignment with an index, followed by such a row, is such a row
+  -- an assignment with an index, followed by a `FlatRow`, is a `FlatRow`
   flat_write_at : (to : Slot) (k : Known) (is : List Step3) → RunFits m to → k (n + 1) ≡ true → k (n + 2) ≡ true →
       Knows n k → ((k1 : Known) → Knows n k1 → FlatRow k1 is) → FlatRow k (write n to ∷ is)
   flat_write_at (Var x) k is fits index here h rest = absurd fits

@@ -11,7 +11,7 @@ pub record Lowers (p : Program) (bs : Blocks) : Type 0 where
   pub done : (k : ℕ) → (flow_run bs p.inits k).done ≡ true → (s : State) × (meaning p k ≡ Ended s) × ((flow_run bs p.inits k).out ≡ s.out)
   -- a run that is not done has outputs that are a prefix of the meaning's
   pub running : (k : ℕ) → (flow_run bs p.inits k).done ≡ false → Begins (flow_run bs p.inits k).out (outputs (meaning p k))
-  -- if the meaning ends, the run is done with its outputs after twice the work plus 40 steps
+  -- if the meaning ends, the run is done with its outputs after twice the work plus 40 steps, or more
   pub ends : (k t : ℕ) (s : State) → meaning p t ≡ Ended s → 2 * s.work + 40 ≤ k → ((flow_run bs p.inits k).done ≡ true) × ((flow_run bs p.inits k).out ≡ s.out)
   -- if the meaning is cut, its outputs are a prefix of the run's after twice its work plus 40 steps, or more
   pub cuts : (k t : ℕ) (s : State) → meaning p t ≡ Cut s → 2 * s.work + 40 ≤ k → Begins s.out (flow_run bs p.inits k).out

@@ -68,7 +68,7 @@ module _ (nodes : List Node) (cs : List ℕ) (n : ℕ) (h : AreNodes nodes) (s :
         λ e. λ i. here.1 (ap (λ zs. get_or zs 0 (integer (word 0))) e) i ∷ rest.1 (ap (drop 1) e) i,
       )
 
-  -- the parts of a node up to node n
+  -- each part of a node up to node n is `Named`
   parts_of : (i scope : ℕ) (y : Shape) → i ≤ n → IsShape nodes i scope y → AllByRecursion Named (parts y)
   parts_of i scope y le h = each_listed (λ b m. Named (b, m)) y (each_part (MayName nodes i scope) (λ b m. Named (b, m))
       (λ b m k. (i, scope, le, k)) y (parts_named nodes i scope y h))

@@ -12,7 +12,7 @@ use Rattle.ft_modules.specs.Linked.{after_module, before_module, laid}
 
 -- ELEMENTS OF APPENDED LISTS
 
--- an element of the second list, after the elements of the first
+-- an element of the second list is in the two lists appended, after the elements of the first
 pub get_right : {X : Type 0} (xs ys : List X) (n k : ℕ) → n ≡ length xs + k → slice_get (xs ++ ys) n ≡ slice_get ys k
 get_right [] ys n k e = (let same : n ≡ k = omega arith in ap (slice_get ys) same)
 get_right (x ∷ xs) ys zero k e = absurd (omega (arith, e))

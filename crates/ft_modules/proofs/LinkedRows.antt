@@ -1,4 +1,4 @@
--- The typing rules of a module's instructions, compared with those of the linked object's.
+-- The typing rules of a module's instructions, compared with the rules of the linked object's instructions.
 use Rattle.std.proofs.Common.{◌≡◌, ℕ, zero, suc, Bool, true, false, not, ◌&&◌, ◌||◌, ◌+◌, List, [], ◌∷◌, ◌++◌, length}
 use Rattle.std.proofs.Common.{map, nat_le, nat_lt, ◌==◌, Option, Some, None, is_some, eqb-true, refl, sym, ap, ◌∙◌}
 use Rattle.std.proofs.Common.{subst, eq-eqb}

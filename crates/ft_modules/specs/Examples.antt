@@ -43,7 +43,7 @@ go m b l = record { «module» = m; block = b; name = codes "go"; line = l }
 abbrev pub importing : ℕ → LinkMap
 importing b = record { files = codes "m" ∷ codes "a" ∷ []; exports = go 1 0 4 ∷ []; imports = go 0 b 2 ∷ [] }
 
--- a module that passes its own code address on as a number: its word is substituted for the target's variable
+-- a module that passes its own code address on as a number: the address is substituted for the target's variable
 abbrev pub hands_address_over : Object
 hands_address_over = record {
   cells = int_cell (codes "out") 0 ∷ [];
