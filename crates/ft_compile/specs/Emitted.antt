@@ -90,8 +90,8 @@ emitted names inits vars bs = record {
 }
 
 -- the object is that of a flow of the program, over the program's cells and at most 32 variables: the flow's blocks are
--- well formed, their run commits what the program means and ends when the meaning ends, they become at most as many
--- instructions as the program weighs, and all their pairs are below its need
+-- well formed, their run commits the outputs of the program's meaning and ends when the meaning ends, they become at
+-- most as many instructions as the program weighs, and all their pairs are below the program's need
 pub record IsEmitted (p : Program) (o : Object) : Type 0 where
   pub flow : Blocks
   pub few : p.vars ≤ 32

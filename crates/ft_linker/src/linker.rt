@@ -40,9 +40,9 @@ impl Linker {
         })
     }
 
-    /// Adds a checked program as the next module. It is refused exactly as `added_refusal` says: its cells differ from
-    /// the first module's or have a `code` base, a register row has a `code` base, the walk fails, or a total exceeds
-    /// its limit. After an error the linker is unchanged.
+    /// Adds a checked program as the next module. It is refused exactly as `added_refusal` says: if its cells differ
+    /// from the first module's or have a `code` base, if a register row has a `code` base, if the walk fails, or if a
+    /// total exceeds its limit. After an error the linker is unchanged.
     pub fn add<'a, P: Program>(&mut self, checked: &Checked<'a, P>) -> Result<(), LinkError>
         ensures ok { OnOk result (self.new ≡ self.old ++ P.object checked.now ∷ []) }
         ensures unrefused { OnOk result (added_refusal self.old (P.object checked.now) ≡ None) }

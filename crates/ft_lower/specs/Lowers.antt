@@ -5,7 +5,7 @@ use Rattle.ft_meaning.specs.Meaning.{State, Ended, Cut, outputs, meaning}
 use Rattle.ft_meaning.specs.Begins.{Begins}
 use Rattle.ft_lower.specs.Flow.{Blocks, flow_run}
 
--- the run of the blocks commits what the program means, and ends when the meaning ends
+-- the run of the blocks commits the outputs of the program's meaning, and ends when the meaning ends
 pub record Lowers (p : Program) (bs : Blocks) : Type 0 where
   -- a run that is done after k steps has the outputs of the meaning with k turns, which has ended
   pub done : (k : ℕ) → (flow_run bs p.inits k).done ≡ true → (s : State) × (meaning p k ≡ Ended s) × ((flow_run bs p.inits k).out ≡ s.out)

@@ -41,8 +41,8 @@ pub fn examples_of_walks()
     ensures unknown { code_walk caller finite.empty 0 (JmpG r1 ∷ Halt ∷ []) ≡ Some 0 }
 {}
 
-/// Where a machine is sent before a step: from the stub at address 5 to the storer's block. It stays where it is at
-/// another address, if something is fetched, if the counters differ, or in the storer.
+/// Where a machine is sent before a step: from the stub at address 5 to the storer's block. It stays where it is if it
+/// is at another address, if something is fetched, if the counters differ, or if it is in the storer.
 pub fn examples_of_sending()
     ensures stub { sent_from (machine_at 0 5 5 None) ≡ machine_at 1 1 1 None }
     ensures elsewhere { sent_from (machine_at 0 4 4 None) ≡ machine_at 0 4 4 None }
