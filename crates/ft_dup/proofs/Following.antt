@@ -176,7 +176,7 @@ module _ (o : Object) (vars cells : ℕ) (bs : Blocks) (W : IsWell vars cells bs
           fine = fine;
         }
 
-    -- after a step that continues with the next one, both are at the same place again: given the step's `Row`
+    -- after a step that continues with the next one, both are at the same place again, given the step's `Row`
     on_row : (f g : FlowState) (i j : ℕ) (m : Registers) (c : Cells) (s : Step3) (front rest : List Step3)
         (known : Known)
         → At f i m c front (s ∷ rest) known → IsBlock rest → act s f ≡ g → g.place ≡ on f.place → j ≡ i + size s →
@@ -186,7 +186,7 @@ module _ (o : Object) (vars cells : ℕ) (bs : Blocks) (W : IsWell vars cells bs
         (standing j R.regs R.cells (front ++ s ∷ []) rest (known_after s known)
         (goes f g i j m R.regs c R.cells s front rest known A ended place num R.holds R.memory fine))
 
-    -- after a step that jumps to a block, both are at the same place again: given the step's `Row`
+    -- after a step that jumps to a block, both are at the same place again, given the step's `Row`
     to_row : (f g : FlowState) (i to spare : ℕ) (m : Registers) (c : Cells) (s : Step3) (front rest : List Step3)
         (known : Known) → At f i m c front (s ∷ rest) known → IsTarget (length bs) to →
         KeepsVariables vars known spare →

@@ -167,7 +167,7 @@ sign_fits : (o : Option Kind) (at b : ℕ) (rest : Scan) → IsPlainSign o → A
 sign_fits None at b rest p h = wrong_fits
 sign_fits (Some k) at b rest p h = token_fits (plain_fits k (b ∷ []) at p) h
 
--- if a scan fits, so does the scan in which what has begun ends before it
+-- if a scan fits, it still fits when what has begun ends in front of it
 ends_fits : (m : Mode) (rest : Scan) → MayEnd m → AreFit rest → AreFit (ends m rest)
 ends_fits gap rest m h = h
 ends_fits comment rest m h = h

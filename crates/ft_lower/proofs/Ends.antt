@@ -56,7 +56,7 @@ prepend bs n c d j p s s1 f f1 (Cut t) to few many r = record {
   running = r.running;
 }
 
--- if the flow runs to a place at which a jump is, it runs to the jump's target
+-- if the flow runs to a jump, it also runs to the jump's target
 pub jump_on : (bs : Blocks) (n c to : ℕ) (p : Place) (s : State) (f : FlowState) (r : Outcome) → step_at bs p
     ≡ Some (Go n to) → Runs bs n (suc c) p s f r → Runs bs n c (first to) s f r
 jump_on bs n c to p s f (Ended t) at r =

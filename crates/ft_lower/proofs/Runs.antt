@@ -135,7 +135,7 @@ record Begun (open_block left : List Step3) : Type 0 where
   others : Blocks
   is : blocks_onto open_block left ≡ (open_block ++ rest) ∷ others
 
--- the first block begins so whether or not the next step ends it
+-- the first block begins this way whether or not the next step ends it
 begun_by : (x : Step3) (o : List Step3) (i : Step3) (is : List Step3) (b : Bool) → Begun (x ∷ (o ++ i ∷ [])) is →
     (rest : List Step3) × (others : Blocks) × ((elim b as (λ b. Blocks) [
       | true ↦ (x ∷ (o ++ i ∷ [])) ∷ blocks_onto [] is
@@ -144,13 +144,13 @@ begun_by : (x : Step3) (o : List Step3) (i : Step3) (is : List Step3) (b : Bool)
 begun_by x o i is true d = (i ∷ [], blocks_onto [] is, refl)
 begun_by x o i is false d = (i ∷ d.rest, d.others, d.is ∙ ap (λ l. (x ∷ l) ∷ d.others) (append_assoc o (i ∷ []) d.rest))
 
--- the first block begins so if the open block has a first step
+-- the first block begins this way if the open block has a first step
 begun : (x : Step3) (open_block is : List Step3) → Begun (x ∷ open_block) is
 begun x o [] = record { rest = []; others = []; is = ap (λ l. l ∷ []) (sym (append-nil (x ∷ o))) }
 begun x o (i ∷ is) = let b = begun_by x o i is (is_last i) (begun x (o ++ i ∷ []) is) in
     record { rest = b.0; others = b.1; is = b.2 }
 
--- the first block begins so if the open block has a last step
+-- the first block begins this way if the open block has a last step
 begun_after : (o : List Step3) (i : Step3) (is : List Step3) → Begun (o ++ i ∷ []) is
 begun_after [] i is = begun i [] is
 begun_after (x ∷ o) i is = begun x (o ++ i ∷ []) is

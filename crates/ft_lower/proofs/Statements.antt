@@ -30,7 +30,7 @@ module _ (bs : Blocks) (n m : ℕ) where
     reaches : Reaches bs (expression_nodes e + 1) f end
     like : Like n p (evaluated e s) end
 
-  -- the flow takes the steps of a test: given what its exit does
+  -- the flow takes the steps of a test, given what its exit does
   tested_by : (e : Expression Slot) (to : ℕ) (p q : Place) (s : State) (f g : FlowState) →
       (V : Valued bs n (after p (expression_steps (n + 1) e)) (n + 1) e s f) →
       step_at bs (after p (expression_steps (n + 1) e)) ≡ Some (Exit (n + 1) n to) → act (Exit (n + 1) n to) V.end ≡ g →

@@ -99,8 +99,8 @@ module _ (n m : ℕ) (blocks : ℕ) where
   flat-append k [] b p q = q
   flat-append k (i ∷ a) b p q = (p.0, flat-append (after_step i k) a b p.1 q)
 
-  -- an expression's steps are well formed, leave the variables and pair t known, and do not change what is known of the
-  -- pairs below t
+  -- an expression's steps are well formed, leave the variables and pair t known, and do not change what is known about
+  -- the pairs below t
   record FlatExpression (t : ℕ) (k : Known) (e : Expression Slot) : Type 0 where
     well : FlatIsWell k (expression_steps t e)
     knows : Knows n (walk k (expression_steps t e))

@@ -102,7 +102,7 @@ record Crossed (o : Object) (e : Entered) (a b : Instr) : Type 0 where
   pub first_passes : is_traced o (entered_after b e) a ≡ true
   pub same : entered_after b (entered_after a e) ≡ entered_after a (entered_after b e)
 
--- this holds: by cases on whether each of them writes a register or is a store
+-- this holds, by cases on whether each of them writes a register or is a store
 crossed_by : (o : Object) (e : Entered) (n : ℕ) (a b : Instr) → Trailing a → Leading b → Permits n a b → is_traced o e a
     ≡ true → is_traced o (entered_after a e) b ≡ true → Crossed o e a b
 crossed_by o e n a b (trailing_write p wa la) (leading_write q wb lb) h ta tb =
