@@ -65,7 +65,7 @@ abbrev pub RunFits : ℕ → Slot → Type 0
 RunFits c (Run f l) = (0 < l) × (l ≤ 1024) × (f + l ≤ c)
 RunFits c _ = ⊥
 
--- each name refers to an existing cell or variable, or with an index to a run, and each literal is a word
+-- each name refers to an existing cell or variable or, with an index, to a run; each literal is a word
 abbrev pub ExpressionFits : ℕ → ℕ → Expression Slot → Type 0
 ExpressionFits c v (literal w) = IsWord w
 ExpressionFits c v (name s) = SlotFits c v s
