@@ -136,7 +136,7 @@ module _ (bs : Blocks) (n m : ℕ) where
   left_of (Cell c) v e s = omega arith
   left_of (Run c k) v e s = omega arith
 
-  -- a choice leaves no more turns than there were before it
+  -- a choice leaves no more turns than there were before it if each of its sides does so
   zero_less : (v : ℕ) (s : State) (a b : Outcome) → (state_of a).left ≤ s.left → (state_of b).left ≤ s.left →
       (state_of (at_zero v a b)).left ≤ s.left
   zero_less zero s a b p q = p
