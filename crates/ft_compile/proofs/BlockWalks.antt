@@ -48,7 +48,7 @@ pub record AreUnentered (k : Known) (e : Entered) : Type 0 where
   pub green_out : (q : ℕ) → k q ≡ true → finite.get e (green q).number ≡ None
   pub blue_out : (q : ℕ) → k q ≡ true → finite.get e (blue q).number ≡ None
 
--- a register that is not entered stays so when one is removed
+-- a register that is not entered is still not entered after one is removed
 out_stays : (e : Entered) (r q : ℕ) → finite.get e q ≡ None → finite.get (entered_with r None e) q ≡ None
 out_stays e r q h = entered_get e r None q ∙ either (q == r) (finite.get e q) h
   where

@@ -220,7 +220,7 @@ block_walked o b k spelled p j y ey h =
       | inr ne ↦ ap (code_walk o finite.empty 0) (other_block o b k j y spelled p ey ne) ∙ h
     ]
 
--- a module stays one after an exchange
+-- a module is still a module after an exchange
 module_exchanged : (cells : List Cell) (o : Object) (b k : ℕ) → IsModule cells o → IsPermitted o b k →
     IsModule cells (after_exchange o b k)
 module_exchanged cells o b k h p = record {
@@ -235,7 +235,7 @@ module_exchanged cells o b k h p = record {
   ];
 }
 
--- a module stays one after exchanges
+-- a module is still a module after exchanges
 pub modules_exchanged : (cells : List Cell) (o s : Object) → IsModule cells o → ComesFrom o s → IsModule cells s
 modules_exchanged cells o _ h itself = h
 modules_exchanged cells o _ h (exchange {s = s} b k comes p) =
