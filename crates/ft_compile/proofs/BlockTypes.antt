@@ -82,7 +82,7 @@ module _ (o : Object) (vars : ℕ) (T : HasTypes o vars) (scope : ℕ) (pairs : 
     pub memory_is : u.memory ≡ memory
     pub many : length pairs ≡ 32
 
-  -- the registers have what code type 1 requires
+  -- both registers of each variable's pair have the form of the variable's node
   abbrev HasVariables : Context → Type 0
   HasVariables c = (q : ℕ) → q < vars → (typed c (green q).number
       ≡ Some (ty Green int (integer_form_of o (slice_index pairs q))))
@@ -116,7 +116,7 @@ module _ (o : Object) (vars : ℕ) (T : HasTypes o vars) (scope : ℕ) (pairs : 
       ∙ get_or-map f (take vars pairs) q 0
       ∙ ap f (get_or-take vars pairs q 0 lt)
 
-  -- the register of a row is as the row requires
+  -- the register of a row meets the row's requirements
   row_like : PutsThese → (c : Context) (q : ℕ) (x : RegType) → q < vars → HasVariables c →
       (x ≡ green_row q) ⊎ (x ≡ blue_row q) → is_like o (replacement o u) (typed c x.reg.number) x ≡ true
   unfolding is_like same_colour is_seen_as same_basic
@@ -131,7 +131,7 @@ module _ (o : Object) (vars : ℕ) (T : HasTypes o vars) (scope : ℕ) (pairs : 
       (ap (λ t. is_like o (replacement o u) t (blue_row q)) (h q lt).1 ∙ ap (same_polynomial y) (put_variable P q lt)
       ∙ same_itself y)
 
-  -- the registers of all rows are as the rows require
+  -- the registers of all rows meet the rows' requirements
   rows_like : PutsThese → (c : Context) (xs : List RegType) → HasVariables c → AreRows vars xs →
       are_like o (replacement o u) c xs ≡ true
   rows_like P c [] h r = refl

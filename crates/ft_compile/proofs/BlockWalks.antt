@@ -48,7 +48,7 @@ pub record AreUnentered (k : Known) (e : Entered) : Type 0 where
   pub green_out : (q : ℕ) → k q ≡ true → finite.get e (green q).number ≡ None
   pub blue_out : (q : ℕ) → k q ≡ true → finite.get e (blue q).number ≡ None
 
--- a register that is not entered stays so when one is removed
+-- a register that is not entered is still not entered after one is removed
 out_stays : (e : Entered) (r q : ℕ) → finite.get e q ≡ None → finite.get (entered_with r None e) q ≡ None
 out_stays e r q h = entered_get e r None q ∙ either (q == r) (finite.get e q) h
   where
@@ -56,11 +56,11 @@ out_stays e r q h = entered_get e r None q ∙ either (q == r) (finite.get e q) 
     either true u g = refl
     either false u g = g
 
--- the register that was entered or removed
+-- a register that is entered or removed has the new entry, or none
 taken_out : (e : Entered) (r : ℕ) (v : Option ℕ) → finite.get (entered_with r v e) r ≡ v
 taken_out e r v = entered_get e r v r ∙ ap (λ b. cond b v (finite.get e r)) (eq-eqb r r refl)
 
--- any other register is unchanged
+-- entering or removing a register leaves any other register unchanged
 other_stays : (e : Entered) (r q : ℕ) (v : Option ℕ) → q ≢ r → finite.get (entered_with r v e) q ≡ finite.get e q
 other_stays e r q v ne = entered_get e r v q ∙ ap (λ b. cond b v (finite.get e q)) (ne_eqb q r ne)
 
@@ -68,7 +68,7 @@ other_stays e r q v ne = entered_get e r v q ∙ ap (λ b. cond b v (finite.get 
 free_of : (e : Entered) (r : ℕ) → finite.get e r ≡ None → not (is_some (finite.get e r)) ≡ true
 free_of e r h = ap (λ u. not (is_some u)) h
 
--- both registers of a pair, entered or removed
+-- enters or removes both registers of a pair
 abbrev two : ℕ → Option ℕ → Entered → Entered
 two p v e = entered_with (blue p).number v (entered_with (green p).number v e)
 
@@ -126,12 +126,12 @@ unentered_forget k e p v lt h = record {
 still_known : (k : Known) (p q : ℕ) → q ≢ p → k q ≡ true → forget p k q ≡ true
 still_known k p q ne h = ap (λ b. cond b false (k q)) (ne_eqb q p ne) ∙ h
 
--- the green register, after both registers of its pair were entered or removed
+-- after both registers of a pair are entered or removed, the green one has the new entry, or none
 entered_green : (e : Entered) (p : ℕ) (v : Option ℕ) → p < 32 → finite.get (two p v e) (green p).number ≡ v
 entered_green e p v lt = other_stays (entered_with (green p).number v e) (blue p).number (green p).number v
     (green_is_not_blue p p lt lt) ∙ taken_out e (green p).number v
 
--- the blue register, after both registers of its pair were entered or removed
+-- likewise for the blue one
 entered_blue : (e : Entered) (p : ℕ) (v : Option ℕ) → finite.get (two p v e) (blue p).number ≡ v
 entered_blue e p v = taken_out (entered_with (green p).number v e) (blue p).number v
 
@@ -357,7 +357,7 @@ pub compiled_module : (text : List ℕ) (p : Program) (o : Object) → IsProgram
     IsModule o.cells o
 compiled_module text p o h e = module_of_flow p o (program_cells text p h) e
 
--- so is any object that comes from it by exchanges
+-- so is any object that comes from this object by exchanges
 pub scheduled_module : (text : List ℕ) (p : Program) (o s : Object) → IsProgramOf text p → IsEmitted p o →
     ComesFrom o s → IsModule s.cells s
 scheduled_module text p o s h e c =

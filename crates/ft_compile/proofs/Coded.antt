@@ -172,7 +172,7 @@ module _ (vars : ℕ) (start : ℕ → ℕ) where
       ∙ ap (λ n. n + length (joined (rows_coded (suc b) v xs))) (row_length (scope_of_block vars b) (begun w) x)
       ∙ ap (λ n. row_size x + n) (joined_length (suc b) v xs)
 
-  -- where the rows begin, the first at n
+  -- where the rows begin if the first begins at n
   abbrev pub offsets : ℕ → List (List Instr) → List ℕ
   offsets n [] = []
   offsets n (r ∷ rs) = n ∷ offsets (n + length r) rs
@@ -195,7 +195,7 @@ module _ (vars : ℕ) (start : ℕ → ℕ) where
   abbrev row_start : ℕ → List (List Instr) → ℕ → ℕ
   row_start n rs b = unwrap_or (slice_get (offsets n rs) b) 0
 
-  -- a row is the slice at its place, of its length
+  -- the slice of a row's length at the row's place is the row
   cut_first : (front r rest : List Instr) (n e : ℕ) → n ≡ length front → e ≡ n + length r →
       slice_range (front ++ (r ++ rest)) n e ≡ r
   cut_first front r rest n e p q =
@@ -205,7 +205,7 @@ module _ (vars : ℕ) (start : ℕ → ℕ) where
       ∙ ap (take (length r)) (drop-append_seam front (r ++ rest))
       ∙ take-append_seam r rest
 
-  -- row b is the slice from its place to the next one, if other instructions come before all rows
+  -- row b is the slice from its place to that of the next row, even if other instructions come before all rows
   cut_from : (front : List Instr) (rs : List (List Instr)) (n b whole : ℕ) (r : List Instr) → n ≡ length front → whole
       ≡ length (front ++ joined rs) → slice_get rs b ≡ Some r →
       slice_range (front ++ joined rs) (row_start n rs b) (row_end n rs b whole) ≡ r
@@ -224,7 +224,7 @@ module _ (vars : ℕ) (start : ℕ → ℕ) where
       subst (λ t. slice_range t (row_start (n + length x) xs b) (row_end (n + length x) xs b whole) ≡ r) a
       (cut_from (front ++ x) xs (n + length x) b whole r (omega arith) (q ∙ ap length (sym a)) e)
 
-  -- row b is the slice from its place to the next one
+  -- row b is the slice from its place to that of the next row
   pub cut_out : (rs : List (List Instr)) (b : ℕ) (r : List Instr) → slice_get rs b ≡ Some r →
       slice_range (joined rs) (unwrap_or (slice_get (offsets 0 rs) b) 0)
       (unwrap_or (slice_get (offsets 0 rs) (suc b)) (length (joined rs))) ≡ r

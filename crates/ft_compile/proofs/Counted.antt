@@ -164,7 +164,7 @@ pub blocks_few : (xs : Blocks) → HaveSome xs → length xs ≤ blocks_size xs
 blocks_few [] h = omega arith
 blocks_few (x ∷ xs) h = omega (arith, h.0, blocks_few xs h.1)
 
--- the place of block b's first instruction
+-- `starts_from` lists the place of block b's first instruction at index b
 pub start_there : (n : ℕ) (xs : Blocks) (b : ℕ) → b < length xs → slice_get (starts_from n xs) b
     ≡ Some (n + start_of xs b)
 start_there n [] b h = absurd (omega (arith, h))
@@ -178,7 +178,7 @@ start_within [] b = omega arith
 start_within (x ∷ xs) zero = omega arith
 start_within (x ∷ xs) (suc b) = omega (arith, start_within xs b)
 
--- blocks at these places begin there
+-- the blocks made from a list of places begin at these places
 pub places_of_blocks : (ss : List ℕ) → map start_of_block (blocks_at ss) ≡ ss
 places_of_blocks [] = refl
 places_of_blocks (s ∷ ss) = ap (λ l. s ∷ l) (others ss)

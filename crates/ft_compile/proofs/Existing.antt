@@ -15,7 +15,7 @@ use Rattle.ft_compile.specs.StandsFor.{StandsFor}
 use Rattle.ft_compile.proofs.Names.{program_cells}
 use Rattle.ft_compile.proofs.Stands.{stands}
 
--- the object of the lowered program
+-- each program of a text has an object that stands for it: the one emitted from its lowered flow
 pub programs_have_objects : (text : List ℕ) (p : Program) → IsProgramOf text p → (o : Object)
     × (StandsFor p o × IsEmitted p o)
 programs_have_objects text p h =

@@ -30,25 +30,25 @@ green_is_not_blue p q lp lq e = let f = sym (green_number q (omega arith)) ∙ e
 pub blue_is_not_green : (p q : ℕ) → p < 32 → q < 32 → (blue q).number ≢ (green p).number
 blue_is_not_green p q lp lq e = green_is_not_blue q p lq lp (sym e)
 
--- the green register of the pair that was set
+-- after a pair is set, its green register has the new type
 pub both_green : (p : ℕ) (b : Basic) (x : Polynomial) (c : Context) → p < 32 → typed (both p b x c) (green p).number
     ≡ Some (ty Green b x)
 both_green p b x c lt = typed_other (with_type (green p).number (ty Green b x) c) (blue p).number (ty Blue b x)
     (green p).number (green_is_not_blue p p lt lt) ∙ typed_same c (green p).number (ty Green b x)
 
--- the blue register of the pair that was set
+-- after a pair is set, its blue register has the new type
 pub both_blue : (p : ℕ) (b : Basic) (x : Polynomial) (c : Context) → typed (both p b x c) (blue p).number
     ≡ Some (ty Blue b x)
 both_blue p b x c = typed_same (with_type (green p).number (ty Green b x) c) (blue p).number (ty Blue b x)
 
--- the green register of another pair
+-- after a pair is set, the green register of another pair has its old type
 pub other_green : (p q : ℕ) (b : Basic) (x : Polynomial) (c : Context) → p < 32 → q < 32 → q ≢ p →
     typed (both p b x c) (green q).number ≡ typed c (green q).number
 other_green p q b x c lp lq ne = typed_other (with_type (green p).number (ty Green b x) c) (blue p).number (ty Blue b x)
     (green q).number (green_is_not_blue p q lp lq)
     ∙ typed_other c (green p).number (ty Green b x) (green q).number (greens_differ p q lp lq ne)
 
--- the blue register of another pair
+-- after a pair is set, the blue register of another pair has its old type
 pub other_blue : (p q : ℕ) (b : Basic) (x : Polynomial) (c : Context) → p < 32 → q < 32 → q ≢ p →
     typed (both p b x c) (blue q).number ≡ typed c (blue q).number
 other_blue p q b x c lp lq ne = typed_other (with_type (green p).number (ty Green b x) c) (blue p).number (ty Blue b x)
@@ -77,12 +77,12 @@ Others o k pairs p c = (q : ℕ) → q ≢ p → k q ≡ true →
     (typed c (green q).number ≡ Some (ty Green int (integer_form_of o (slice_index pairs q))))
     × (typed c (blue q).number ≡ Some (ty Blue int (integer_form_of o (slice_index pairs q)))) × (q < 32)
 
--- it holds if it does for all known pairs
+-- a context that fits all known pairs fits those other than p
 pub others_of : (o : Object) (scope : ℕ) (k : Known) (pairs : List ℕ) (memory p : ℕ) (c : Context) →
     IsGood o scope k pairs memory c → Others o k pairs p c
 others_of o scope k pairs memory p c G q ne h = (G.green_pair q h, G.blue_pair q h, G.small q h)
 
--- pair p gets the form of its new node and becomes known
+-- the context fits what is known once pair p has the form of its new node and becomes known
 pub good_learn : (o : Object) (scope : ℕ) (k : Known) (pairs : List ℕ) (memory : ℕ) (c : Context) (p new : ℕ)
     (x : Polynomial) → p < 32 → length pairs ≡ 32 → integer_form_of o new ≡ x → Others o k pairs p c → c.d ≡ d_zero →
     c.queue ≡ [] → c.memory ≡ memory_form_of o memory → c.ints ≡ scope →
@@ -119,7 +119,7 @@ good_learn o scope k pairs memory c p new x lt many f old z qu mem ints = record
     there : (q : ℕ) → q ≢ p → slice_index pairs q ≡ slice_index (slice_set pairs p new) q
     there q ne = sym (get_or-set_other pairs p q new 0 ne)
 
--- pair p is set and is no longer known
+-- the context still fits once pair p is set and is no longer known
 pub good_forget : (o : Object) (scope : ℕ) (k : Known) (pairs : List ℕ) (memory : ℕ) (c : Context) (p : ℕ) (b : Basic)
     (x : Polynomial) → p < 32 → IsGood o scope k pairs memory c →
     IsGood o scope (forget p k) pairs memory (both p b x c)

@@ -41,14 +41,14 @@ use Rattle.ft_compile.proofs.PremiseRows.{ty, mov_row}
 
 -- JUMPS
 
--- the rule of a green branch, if d is 0
+-- the rule of a green branch continues, with the branch's target in d, if d was 0
 branch_green_row : (o : Object) (c : Context) (rz rd : Reg) (z a : Polynomial) → typed c rz.number
     ≡ Some (ty Green int z) → typed c rd.number ≡ Some (ty Green (code 1) a) → c.d ≡ d_zero → row o c (instr.BzG rz rd)
     ≡ Goes (record c { d = d_conditional z 1 a })
 unfolding need for_typed for_code_over for_zero same_colour
 branch_green_row o c rz rd z a hz hd d = rw (hz, hd, d) refl
 
--- the rule of the blue branch after it
+-- the rule of the blue branch after it transfers to code type 1 and continues with d back at 0
 branch_blue_row : (o : Object) (c : Context) (rz rd : Reg) (u : Subst) (z a : Polynomial) → typed c rz.number
     ≡ Some (ty Blue int z) → typed c rd.number ≡ Some (ty Blue (code 1) a) →
     leads o u 1 (record c { d = d_conditional z 1 a }) (Goes (record c { d = d_zero }))
@@ -57,25 +57,25 @@ branch_blue_row : (o : Object) (c : Context) (rz rd : Reg) (u : Subst) (z a : Po
 unfolding need for_typed for_code_over for_conditional same_colour
 branch_blue_row o c rz rd u z a hz hd l = rw (hz, hd) (rw (same_itself z) (rw (same_itself a) l))
 
--- the rule of a green jump, if d is 0
+-- the rule of a green jump continues, with the jump's target in d, if d was 0
 jump_green_row : (o : Object) (c : Context) (rd : Reg) (a : Polynomial) → typed c rd.number
     ≡ Some (ty Green (code 1) a) → c.d ≡ d_zero → row o c (instr.JmpG rd) ≡ Goes (record c { d = d_code 1 a })
 unfolding need for_typed for_code_over for_zero same_colour
 jump_green_row o c rd a hd d = rw (hd, d) refl
 
--- the rule of the blue jump after it
+-- the rule of the blue jump after it transfers to code type 1 and ends the block
 jump_blue_row : (o : Object) (c : Context) (rd : Reg) (u : Subst) (a : Polynomial) → typed c rd.number
     ≡ Some (ty Blue (code 1) a) → leads o u 1 (record c { d = d_code 1 a }) Ends ≡ Ends →
     row o (record c { d = d_code 1 a }) (instr.JmpB rd u) ≡ Ends
 unfolding need for_typed for_code_over for_target same_colour
 jump_blue_row o c rd u a hd l = rw hd (rw (same_itself a) l)
 
--- the rule of a halt, if d is 0 and the queue is empty
+-- the rule of a halt ends the block if d is 0 and the queue is empty
 halt_row : (o : Object) (c : Context) → c.d ≡ d_zero → c.queue ≡ [] → row o c instr.Halt ≡ Ends
 unfolding need for_zero is_empty
 halt_row o c d q = rw (d, q) refl
 
--- instructions whose rules continue, followed by instructions whose rules apply
+-- if the rules of some instructions continue and those of the next ones apply, the rules of all of them apply
 passes_applies : (o : Object) (c d : Context) (is js : List Instr) → Passes o c is d → Applies o d js →
     Applies o c (is ++ js)
 passes_applies o c d [] js p a = subst (λ e. Applies o e js) (sym p) a

@@ -29,7 +29,7 @@ get_starts xs ys k x p e = subst (λ l. slice_get l k ≡ Some x) p.1 (there_fro
 pub starts_less : {X : Type 0} (xs ys : List X) (x : X) → Starts (xs ++ x ∷ []) ys → Starts xs ys
 starts_less xs ys x s = starts_trans xs (xs ++ x ∷ []) ys (x ∷ [], refl) s
 
--- a prefix stays one when an element is appended to the list
+-- a prefix is still a prefix when an element is appended to the list
 pub starts_more : {X : Type 0} (xs ys : List X) (y : X) → Starts xs ys → Starts xs (ys ++ y ∷ [])
 starts_more xs ys y s = starts_trans xs ys (ys ++ y ∷ []) s (y ∷ [], refl)
 

@@ -90,11 +90,11 @@ module _ (p : Program) (o : Object) (vars : ℕ) (bs : Blocks) (L : Lowers p bs)
   is_run : (k : ℕ) → flow_run bs (words_of o) k ≡ at k
   is_run k = ap (λ ws. flow_run bs ws k) same
 
-  -- the machine's outputs after the cost of k flow steps
+  -- after as many machine steps as k flow steps cost, the machine has the flow's outputs
   out_at : (k : ℕ) → (ran o (spent k)).outputs ≡ (at k).out
   out_at k = (D.after k).out ∙ ap (λ (f : FlowState). f.out) (is_run k)
 
-  -- the machine's status after the cost of k flow steps
+  -- after as many machine steps as k flow steps cost, the machine is done exactly when the flow is
   status_at : (k : ℕ) → (ran o (spent k)).state.status ≡ cond (at k).done Done Running
   status_at k = (D.after k).status ∙ ap (λ (f : FlowState). cond f.done Done Running) (is_run k)
 
@@ -108,7 +108,7 @@ module _ (p : Program) (o : Object) (vars : ℕ) (bs : Blocks) (L : Lowers p bs)
     done : (ran o n).state.status ≡ Done → (s : State) × (meaning p n ≡ Ended s) × ((ran o n).outputs ≡ s.out)
     running : (ran o n).state.status ≡ Running → Begins (ran o n).outputs (outputs (meaning p n))
 
-  -- it holds if the flow is done after n of its own steps
+  -- this holds if the flow is done after n of its own steps
   seen_done : (n : ℕ) → (at n).done ≡ true → Seen n
   seen_done n d =
       let c = spent n in
@@ -126,7 +126,7 @@ module _ (p : Program) (o : Object) (vars : ℕ) (bs : Blocks) (L : Lowers p bs)
             (subst (λ x. Begins (ran o n).outputs x) out (outputs_grow o None [] n c (omega (arith, lt))));
       }
 
-  -- it holds if the flow is still running
+  -- this holds if the flow is still running
   seen_running : (n : ℕ) → (at n).done ≡ false → Seen n
   seen_running n d =
       let c = spent n in
@@ -142,7 +142,7 @@ module _ (p : Program) (o : Object) (vars : ℕ) (bs : Blocks) (L : Lowers p bs)
             (subst (λ x. Begins x (outputs (meaning p n))) (sym (out_at n)) R);
       }
 
-  -- so it holds in either case
+  -- so this holds in either case
   seen_by : (n : ℕ) (b : Bool) → (at n).done ≡ b → Seen n
   seen_by n true e = seen_done n e
   seen_by n false e = seen_running n e

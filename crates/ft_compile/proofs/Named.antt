@@ -62,7 +62,7 @@ module _ (F : List Node) where
     pub many : length pairs ≡ 32
     pub small : (q : ℕ) → k q ≡ true → q < 32
 
-  -- a pair gets a node
+  -- the known pairs still have nodes once one more pair gets a node and becomes known
   named_pair : (scope : ℕ) (k : Known) (n m : ℕ) (pairs : List ℕ) (memory p new : ℕ) → n ≤ m → p < 32 →
       IsNamed scope k n pairs memory → MayName F m scope false new →
       IsNamed scope (learn p k) m (slice_set pairs p new) memory
@@ -81,7 +81,7 @@ module _ (F : List Node) where
     ];
   }
 
-  -- a pair is no longer known
+  -- the known pairs still have nodes once the spare pair is no longer known and the memory gets a new node
   named_spare : (scope : ℕ) (k : Known) (n m : ℕ) (pairs : List ℕ) (memory spare new : ℕ) → n ≤ m →
       IsNamed scope k n pairs memory → MayName F m scope true new → IsNamed scope (forget spare k) m pairs new
   named_spare scope k n m pairs memory spare new le h x = record {
@@ -96,7 +96,7 @@ module _ (F : List Node) where
     pub named : IsNamed scope k (length w.nodes) w.pairs w.memory
     pub fine : AreFine w.nodes
 
-  -- one more node, which becomes a pair's
+  -- the invariant holds after one more node, which becomes a pair's
   one_node : (scope : ℕ) (k : Known) (w : Noted) (p : ℕ) (x : Shape) → scope ≤ 128 → p < 32 →
       Starts (with_pair_node scope p x w).nodes F → is_memory x ≡ false → IsShape F (length w.nodes) scope x →
       IsLawful scope k w → IsLawful scope (learn p k) (with_pair_node scope p x w)
@@ -108,7 +108,7 @@ module _ (F : List Node) where
         fine = fine_push w.nodes (node scope x) h.fine (record { scope = le; shape = ok });
       }
 
-  -- one more node, which is a part of another
+  -- the invariant holds after one more node that belongs to no pair
   part_node : (scope : ℕ) (k : Known) (w : Noted) (x : Shape) → scope ≤ 128 → IsShape F (length w.nodes) scope x →
       IsLawful scope k w → IsLawful scope k (with_node scope x w)
   part_node scope k w x le ok h =
@@ -123,7 +123,7 @@ module _ (F : List Node) where
         fine = fine_push w.nodes (node scope x) h.fine (record { scope = le; shape = ok });
       }
 
-  -- one more node, which becomes the memory; the spare pair is no longer known
+  -- the invariant holds after one more node, which becomes the memory, once the spare pair is no longer known
   memory_node : (scope : ℕ) (k : Known) (w : Noted) (spare : ℕ) (x : Shape) → scope ≤ 128 →
       Starts (with_memory_node scope x w).nodes F → is_memory x ≡ true → IsShape F (length w.nodes) scope x →
       IsLawful scope k w → IsLawful scope (forget spare k) (with_memory_node scope x w)
@@ -139,12 +139,12 @@ module _ (F : List Node) where
   pub address_is_word : (cells c : ℕ) → cells ≤ 1024 → c < cells → IsWord (cell_address c)
   address_is_word cells c few lt = omega arith
 
-  -- the invariant, after the nodes of the address of the array cell that a known pair selects
+  -- the invariant holds after the nodes of an array cell's address, and the node of the address may be named
   record IsAddressed (scope : ℕ) (k : Known) (before w : Noted) : Type 0 where
     lawful : IsLawful scope k w
     named : MayName F (length w.nodes) scope false (length before.nodes + 2)
 
-  -- it holds after these nodes
+  -- this is so after the nodes of the address of the array cell that a known pair selects
   address_lawful : (scope : ℕ) (k : Known) (w : Noted) (begin many q : ℕ) → scope ≤ 128 → IsWord (cell_address begin) →
       IsLength many → k q ≡ true → Starts (with_address_nodes scope begin many q w).nodes F → IsLawful scope k w →
       IsAddressed scope k w (with_address_nodes scope begin many q w)

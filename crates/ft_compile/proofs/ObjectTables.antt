@@ -78,7 +78,7 @@ cell_is_int [] k c e = cc
 cell_is_int (x ∷ xs) zero c e = let f : cell_from x ≡ c = cc in sym (ap basic_of f)
 cell_is_int (x ∷ xs) (suc k) c e = cell_is_int xs k c e
 
--- each number below the number of cells is that of a cell of type `int`
+-- each cell, by its number, has type `int`
 pub cell_there : (names : List (List ℕ)) (inits : List ℕ) (k : ℕ) → length names ≡ length inits → k < length inits →
     option_map basic_of (slice_get (map cell_from (zip names inits)) k) ≡ Some int
 cell_there [] [] k e lt = absurd (omega (arith, lt))

@@ -287,7 +287,7 @@ module _ (names : List (List ℕ)) (inits : List ℕ) (vars : ℕ) (bs : Blocks)
   cells_typed : (k : ℕ) (x : Cell) → slice_get o.cells k ≡ Some x → HasType o x.init x.basic
   cells_typed k x e = subst (HasType o x.init) (sym (cell_is_int (zip names inits) k x e)) tt
 
-  -- all of these facts
+  -- so the object satisfies `IsEmission`
   emission_of : IsEmission names inits bs o
   emission_of = record {
     names_are = names_are;

@@ -27,7 +27,7 @@ emits p o vars cells bs F W named many L light below e = record {
   object = e ∙ ap (λ v. emitted p.names p.inits v bs) named;
 }
 
--- it stands for the program, if each object that carries the blocks runs as they do
+-- it stands for the program if each object that carries the blocks runs as they do
 pub stands : (p : Program) (o : Object) (vars cells : ℕ) (bs : Blocks) → AreCells p.names p.inits → vars ≤ 32 →
     IsWell vars cells bs → cells ≡ length p.inits → blocks_size bs ≤ program_weight p → Lowers p bs →
     RunsAs vars cells bs → o ≡ emitted p.names p.inits vars bs → StandsFor p o

@@ -53,7 +53,7 @@ pairs_row : (vars scope : ℕ) (w : Noted) (is : List Step3) → length (row_not
 pairs_row vars scope w [] = refl
 pairs_row vars scope w (i ∷ is) = pairs_row vars scope (step_noted vars scope w i) is ∙ pairs_step vars scope w i
 
--- room for a row leaves room for the steps after the first
+-- if there is room for a row, there is room for the later steps after the first is noted
 pub room_next : (vars scope : ℕ) (w : Noted) (i : Step3) (is : List Step3) → vars ≤ 32 → HasRoom w (row_size (i ∷ is)) →
     HasRoom (step_noted vars scope w i) (row_size is)
 room_next vars scope w i is few h = record {
@@ -62,7 +62,7 @@ room_next vars scope w i is few h = record {
   pairs = pairs_step vars scope w i ∙ h.pairs;
 }
 
--- room for blocks leaves room for those after the first
+-- if there is room for blocks, there is room for the later ones after the first is noted
 pub room_blocks : (vars scope : ℕ) (w : Noted) (x : List Step3) (xs : Blocks) → vars ≤ 32 →
     HasRoom w (blocks_size (x ∷ xs)) → HasRoom (row_noted vars scope (begun w) x) (blocks_size xs)
 room_blocks vars scope w x xs few h = record {
@@ -71,7 +71,7 @@ room_blocks vars scope w x xs few h = record {
   pairs = pairs_row vars scope (begun w) x;
 }
 
--- one more green row of a variable
+-- appending one more green row gives the green rows of one more variable
 pub green_more : (new regs old : List RegType) (i : ℕ) (reg : Reg) (expr : ℕ) → new ≡ regs
     ++ record { reg = reg; colour = Green; basic = int; expr = expr } ∷ [] → regs ≡ old
     ++ map green_row (range_with_len 0 i) → reg ≡ green i → expr ≡ 1 + i → new ≡ old
@@ -90,7 +90,7 @@ green_more new regs old i reg expr e f g h =
     ∙ ap (λ x. old ++ (map green_row (range_with_len 0 i) ++ x ∷ [])) row
     ∙ ap (λ l. old ++ l) (sym (map-range_with_len_more green_row 0 i i z))
 
--- one more blue row of a variable
+-- appending one more blue row gives the blue rows of one more variable
 pub blue_more : (new regs old : List RegType) (i : ℕ) (reg : Reg) (expr : ℕ) → new ≡ regs
     ++ record { reg = reg; colour = Blue; basic = int; expr = expr } ∷ [] → regs ≡ old
     ++ map blue_row (range_with_len 0 i) → reg ≡ blue i → expr ≡ 1 + i → new ≡ old
@@ -109,7 +109,7 @@ blue_more new regs old i reg expr e f g h =
     ∙ ap (λ x. old ++ (map blue_row (range_with_len 0 i) ++ x ∷ [])) row
     ∙ ap (λ l. old ++ l) (sym (map-range_with_len_more blue_row 0 i i z))
 
--- the node of one more variable
+-- appending one more node gives the nodes of one more variable
 pub nodes_more : (new nodes : List Node) (first : Node) (vars i : ℕ) → new ≡ nodes ++ variable_node vars i ∷ [] → nodes
     ≡ first ∷ map (variable_node vars) (range_with_len 0 i) → new
     ≡ first ∷ map (variable_node vars) (range_with_len 0 (i + 1))
@@ -124,7 +124,7 @@ pub blocks_end : (blocks : List Block) (ss : List ℕ) (t k : ℕ) → length ss
 blocks_end blocks ss t k le e = sym (append-nil blocks) ∙ ap (λ l. blocks ++ blocks_with t l) (sym (drop_all k ss le))
     ∙ e ∙ blocks_with_zero ss
 
--- one iteration over the steps of a row
+-- an iteration over the steps of a row keeps the final notes the same and leaves room for the rest
 pub row_turn : (vars scope : ℕ) (w v whole : Noted) (is : List Step3) (j : ℕ) (d : Step3) → vars ≤ 32 → j < length is →
     v ≡ step_noted vars scope w (get_or is j d) → row_noted vars scope w (drop j is) ≡ whole →
     HasRoom w (row_size (drop j is)) → (row_noted vars scope v (drop (j + 1) is) ≡ whole)
@@ -142,7 +142,7 @@ row_turn vars scope w v whole is j d few lt e left room =
 abbrev pub items_of : List (Vec Step3 Global) → Blocks
 items_of xs = map (λ b. b.items) xs
 
--- one iteration over the blocks
+-- an iteration over the blocks keeps the final notes the same and leaves room for the rest
 pub block_turn : (vars scope : ℕ) (w v whole : Noted) (xs : List (Vec Step3 Global)) (j : ℕ) (x : Vec Step3 Global) →
     vars ≤ 32 → j < length xs → x ≡ get_or xs j x → scope ≡ scope_of_block vars j → v
     ≡ row_noted vars scope (begun w) x.items → blocks_noted vars j w (items_of (drop j xs)) ≡ whole →
@@ -161,7 +161,7 @@ block_turn vars scope w v whole xs j x few lt is sc e left room =
       subst (λ z. HasRoom z (blocks_size (items_of rest))) (sym e) r,
     )
 
--- there is room at the start
+-- at the start there is room for all blocks
 pub room_at_first : (w : Noted) (vars : ℕ) (xs : Blocks) → w ≡ at_first vars → vars ≤ 32 → blocks_size xs ≤ 65536 →
     HasRoom w (blocks_size xs)
 room_at_first w vars xs e few short =

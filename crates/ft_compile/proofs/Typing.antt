@@ -90,7 +90,8 @@ module _ (o : Object) (N : AreNodes o.nodes) (cells : ℕ)
       ∙ ap (norm_op Add (constant v)) (rem_form o N (length w1.nodes) scope (pair_node w q) many
       (get_newest w1.nodes o.nodes (node scope r) s2))
 
-  -- loads from an address that two instructions put into both registers of a pair
+  -- two instructions that put an address into both registers of a pair, followed by loads from it, lead to the next
+  -- step
   load_leads : (scope : ℕ) (k : Known) (w : Noted) (c : Context) (p : ℕ) (a : Polynomial) (x : Shape) (i j : Instr) →
       p < 32 → integer_form_of o (length w.nodes) ≡ norm_sel c.memory a → IsGood o scope k w.pairs w.memory c →
       row o c i
@@ -131,7 +132,8 @@ module _ (o : Object) (N : AreNodes o.nodes) (cells : ℕ)
             G.ints;
       }
 
-  -- stores to an address that two instructions put into both registers of the spare pair
+  -- two instructions that put an address into both registers of the spare pair, followed by stores to it, lead to the
+  -- next step
   store_leads : (scope : ℕ) (k : Known) (w : Noted) (c : Context) (q spare : ℕ) (a : Polynomial) (x : Shape)
       (i j : Instr) → spare < 32 → k q ≡ true → q ≢ spare → memory_form_of o (length w.nodes)
       ≡ norm_upd c.memory a (integer_form_of o (pair_node w q)) → IsGood o scope k w.pairs w.memory c → row o c i
@@ -177,7 +179,8 @@ module _ (o : Object) (N : AreNodes o.nodes) (cells : ℕ)
         };
       }
 
-  -- the address of the array cell that a pair selects, put into both registers of any pair
+  -- the rule of a blue `idx` continues after the green one: both registers of a pair then have the address of the
+  -- selected array cell
   blue_index : (scope : ℕ) (k : Known) (w : Noted) (c : Context) (p q begin many : ℕ) → p < 32 →
       RunFits cells (Run begin many) → k q ≡ true → IsGood o scope k w.pairs w.memory c →
       let a = run_form begin many (integer_form_of o (pair_node w q)) in

@@ -46,7 +46,7 @@ grows_trans u v w p q = record {
   rows = starts_trans u.rows v.rows w.rows p.rows q.rows;
 }
 
--- an address appends nodes
+-- the nodes of an address are appended to those before
 address_grows : (scope begin many q : ℕ) (w : Noted) → Starts w.nodes (with_address_nodes scope begin many q w).nodes
 address_grows scope begin many q w =
     let w1 = with_node scope (shape.Word (cell_address begin)) w in
@@ -115,7 +115,7 @@ abbrev pub RowsAreFine : ℕ → ℕ → ℕ → ℕ → Blocks → Type 0
 RowsAreFine vars cells blocks b [] = Unit {0}
 RowsAreFine vars cells blocks b (x ∷ xs) = RowIsFine vars cells blocks b x × RowsAreFine vars cells blocks (suc b) xs
 
--- they are if each is
+-- such blocks are well formed if each of them is
 rows_from : (vars cells blocks b : ℕ) (xs : Blocks) → ((j : ℕ) → j < length xs → IsBlock (block_of xs j)) →
     ((j : ℕ) → j < length xs → RowIsWell vars cells blocks (known_first vars (b + j)) (block_of xs j)) →
     PairsBelow 32 xs → RowsAreFine vars cells blocks b xs
@@ -133,7 +133,7 @@ rows_from vars cells blocks b (x ∷ xs) e w p =
           (w (suc j) (omega arith))) (λ k d h. p (suc k) d (omega arith)),
     )
 
--- the blocks of a well-formed flow are
+-- the blocks of a well-formed flow are well formed in this sense
 pub well_rows : (vars cells : ℕ) (bs : Blocks) → IsWell vars cells bs → RowsAreFine vars cells (length bs) 0 bs
 well_rows vars cells bs h = rows_from vars cells (length bs) 0 bs h.ended (λ j lt. let z : j ≡ 0 + j = omega arith in
     subst (λ n. RowIsWell vars cells (length bs) (known_first vars n) (block_of bs j)) z (h.rows j lt)) h.pairs
@@ -146,7 +146,7 @@ module _ (F : List Node) (R : List ℕ) where
   Chain first [] last = first ≡ last
   Chain first (s ∷ ss) last = IsSubst F (length R) first s × Chain s.past ss last
 
-  -- one more substitution at the end
+  -- a chain with one more substitution at the end is a chain
   chain_push : (first : ℕ) (ss : List Subst) (last : ℕ) (s : Subst) → Chain first ss last →
       IsSubst F (length R) last s → Chain first (ss ++ s ∷ []) s.past
   chain_push first [] last s e h = (subst (λ n. IsSubst F (length R) n s) (sym e) h, refl)
@@ -173,7 +173,7 @@ module _ (F : List Node) (R : List ℕ) where
     scope_within = omega (arith, h.scope_within);
   }
 
-  -- this still holds after a jump, at which the variables are known
+  -- the notes stay covered after a jump at which the variables are known
   jump_covered : (vars scope spare : ℕ) (k : Known) (w : Noted) → vars ≤ 32 → scope ≤ 128 → Starts w.nodes F →
       Starts (with_jump vars w).rows R → IsNamed F scope k (length w.nodes) w.pairs w.memory →
       KeepsVariables vars k spare → IsCovered w → IsCovered (with_jump vars w)
@@ -198,7 +198,7 @@ module _ (F : List Node) (R : List ℕ) where
             }));
       }
 
-  -- this still holds after each step
+  -- the notes stay covered after each step
   step_covered : (vars scope : ℕ) (k : Known) (w : Noted) (i : Step3) → vars ≤ 32 → scope ≤ 128 → ReadsKnown vars k i →
       Starts w.nodes F → Starts (step_noted vars scope w i).rows R →
       IsNamed F scope k (length w.nodes) w.pairs w.memory →
@@ -224,7 +224,7 @@ module _ (F : List Node) (R : List ℕ) where
     pub fine : AreFine F w.nodes
     pub covered : IsCovered w
 
-  -- it holds after the steps of a row
+  -- the notes are sound after the steps of a row
   pub row_sound : (vars scope cells blocks : ℕ) (k : Known) (w : Noted) (is : List Step3) → vars ≤ 32 → scope ≤ 128 →
       cells ≤ 1024 → RowIsWell vars cells blocks k is → All (λ i. All (λ p. p < 32) (pairs_of i)) is →
       Starts (row_noted vars scope w is).nodes F → Starts (row_noted vars scope w is).rows R → IsLawful F scope k w →
@@ -243,7 +243,7 @@ module _ (F : List Node) (R : List ℕ) where
 
 -- BEGINNINGS
 
--- node 1 + q is that of variable q
+-- node 1 + q is the node of variable q
 pub variable_there : (vars q : ℕ) → q < vars → slice_get (at_first vars).nodes (suc q) ≡ Some (variable_node vars q)
 variable_there vars q lt =
     let e = slice_get-get_or (range_with_len 0 vars) q 0 (let l = length-range_with_len 0 vars in omega arith) in
@@ -251,11 +251,11 @@ variable_there vars q lt =
     slice_get-map (variable_node vars) (range_with_len 0 vars) q
     ∙ ap (option_map (variable_node vars)) (e ∙ ap Some (get_or-range_with_len 0 vars q 0 lt ∙ z))
 
--- the node of pair q where a block begins
+-- where a block begins, pair q has node 1 + q
 pub first_pair : (q : ℕ) → q < 32 → slice_index first_pairs q ≡ suc q
 first_pair q lt = get_or-range_with_len 1 32 q 0 lt ∙ omega arith
 
--- each of the variables' nodes is that of a variable
+-- each node in the list of variables' nodes is the node of a variable
 variable_is : (vars a n k : ℕ) (x : Node) → slice_get (map (variable_node vars) (range_with_len a n)) k ≡ Some x →
     (i : ℕ) × (i < a + n) × (variable_node vars i ≡ x)
 variable_is vars a zero k x e = cc

@@ -18,21 +18,21 @@ use Rattle.ft_meaning.specs.Meaning.{State, Ended, Cut, outputs, meaning}
 use Rattle.ft_compile.specs.StandsFor.{StandsFor}
 use Rattle.ft_compile.specs.Laws.{object_lines, LinesBegin}
 
--- the line of one output
+-- an output has the same line with the object's cell names as with these names
 same_line : (o : Object) (names : List (List ℕ)) → map name_of o.cells ≡ names → (x : Output) → line_at o x
     ≡ line_of names x
 same_line o names e x =
     let k = x.addr - cell_address 0 in
     ap (λ name. line (unwrap_or name []) x.value) (sym (slice_get-map name_of o.cells k) ∙ ap (λ l. slice_get l k) e)
 
--- the lines of outputs
+-- outputs have the same lines with the object's cell names as with these names
 lines_by_names : (o : Object) (names : List (List ℕ)) → map name_of o.cells ≡ names → (xs : List Output) →
     object_lines o xs ≡ output_lines names xs
 lines_by_names o names e [] = refl
 lines_by_names o names e (x ∷ xs) = ap (λ l. l ∷ object_lines o xs) (same_line o names e x)
     ∙ ap (λ ls. line_of names x ∷ ls) (lines_by_names o names e xs)
 
--- the lines of outputs, if an object stands for a program
+-- if an object stands for a program, outputs have the same lines with the object's cell names as with the program's
 pub same_lines : (p : Program) (o : Object) → StandsFor p o → (xs : List Output) → object_lines o xs
     ≡ output_lines p.names xs
 same_lines p o h xs = lines_by_names o p.names h.names xs
@@ -53,7 +53,7 @@ done_lines p o h n d =
     let m = h.run.done n d in
     (m.0, m.1, same_lines p o h (outputs_after o None [] n) ∙ ap (output_lines p.names) m.2)
 
--- the lines of a run that is running are a prefix of those of the meaning
+-- the lines of a run that is running are a prefix of the meaning's lines
 pub running_lines : (p : Program) (o : Object) → StandsFor p o → (n : ℕ) → status_after o None [] n ≡ Running →
     LinesBegin (object_lines o (outputs_after o None [] n)) (output_lines p.names (outputs (meaning p n)))
 running_lines p o h n r =
@@ -69,7 +69,7 @@ ended_lines p o h n t s e lt =
     let m = h.run.ends n t s e lt in
     (m.0, same_lines p o h (outputs_after o None [] n) ∙ ap (output_lines p.names) m.1)
 
--- the lines of a meaning that is cut are a prefix of those of the run
+-- the lines of a meaning that is cut are a prefix of the run's lines
 pub cut_lines : (p : Program) (o : Object) → StandsFor p o → (n t : ℕ) (s : State) → meaning p t ≡ Cut s →
     16 * s.work + 320 ≤ n → LinesBegin (output_lines p.names s.out) (object_lines o (outputs_after o None [] n))
 cut_lines p o h n t s e lt =

@@ -33,7 +33,7 @@ at_first vars = record { nodes = node 0 shape.Memory ∷ map (variable_node vars
 abbrev pub noted : ℕ → Blocks → Noted
 noted vars bs = blocks_noted vars 0 (at_first vars) bs
 
--- an instruction with this substitution, if it is a blue jump or branch and there is one
+-- an instruction with the first of these substitutions, if it is a blue jump or branch and there is one
 abbrev pub with_subst : Instr → List Subst → Instr
 with_subst (instr.JmpB rd t) (u ∷ us) = instr.JmpB rd u
 with_subst (instr.BzB rz rd t) (u ∷ us) = instr.BzB rz rd u
@@ -90,8 +90,8 @@ emitted names inits vars bs = record {
 }
 
 -- the object is that of a flow of the program, over the program's cells and at most 32 variables: the flow's blocks are
--- well formed, their run commits what the program means and ends when that does, they become at most as many
--- instructions as the program weighs, and all their pairs are below its need
+-- well formed, their run commits the outputs of the program's meaning and ends when the meaning ends, they become at
+-- most as many instructions as the program weighs, and all their pairs are below the program's need
 pub record IsEmitted (p : Program) (o : Object) : Type 0 where
   pub flow : Blocks
   pub few : p.vars ≤ 32

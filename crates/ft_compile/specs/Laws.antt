@@ -38,7 +38,7 @@ pub record IsEmission (names : List (List ℕ)) (inits : List ℕ) (bs : Blocks)
   pub carries : Carries o (length inits) bs
   pub instrs : length o.instrs ≡ blocks_size bs
 
--- the object of well-formed blocks over at most 32 variables is such an object
+-- the object of well-formed blocks over at most 32 variables satisfies `IsEmission`
 abbrev pub EmittedObjectsAreAccepted : Type 0
 EmittedObjectsAreAccepted = (names : List (List ℕ)) (inits : List ℕ) (vars : ℕ) (bs : Blocks) → AreCells names inits → vars ≤ 32 → IsWell vars (length inits) bs → IsEmission names inits bs (emitted names inits vars bs)
 
@@ -54,7 +54,7 @@ ProgramsHaveObjects = (text : List ℕ) (p : Program) → IsProgramOf text p →
 abbrev pub CompiledObjectsAreModules : Type 0
 CompiledObjectsAreModules = (text : List ℕ) (p : Program) (o : Object) → IsProgramOf text p → IsEmitted p o → IsModule o.cells o
 
--- an object that comes from it by permitted exchanges, such as its schedule, is a module too
+-- an object that comes from such an object by permitted exchanges, such as its schedule, is a module too
 abbrev pub SchedulesOfCompiledObjectsAreModules : Type 0
 SchedulesOfCompiledObjectsAreModules = (text : List ℕ) (p : Program) (o s : Object) → IsProgramOf text p → IsEmitted p o → ComesFrom o s → IsModule s.cells s
 
@@ -70,18 +70,19 @@ LinesBegin front all = (rest : List (List ℕ)) × (front ++ rest ≡ all)
 abbrev pub LinesAreByTheProgramsNames : Type 0
 LinesAreByTheProgramsNames = (p : Program) (o : Object) → StandsFor p o → (xs : List Output) → object_lines o xs ≡ output_lines p.names xs
 
--- if its run is done after n steps, its lines are those of the meaning with n turns, which has ended
+-- if the run of such an object is done after n steps, its lines are those of the meaning with n turns, which has ended
 abbrev pub DoneRunsWriteTheMeaning : Type 0
 DoneRunsWriteTheMeaning = (p : Program) (o : Object) → StandsFor p o → (n : ℕ) → status_after o None [] n ≡ Done → (s : State) × (meaning p n ≡ Ended s) × (object_lines o (outputs_after o None [] n) ≡ output_lines p.names s.out)
 
--- if its run is running after n steps, its lines are a prefix of those of the meaning with n turns
+-- if the run of such an object is running after n steps, its lines are a prefix of those of the meaning with n turns
 abbrev pub RunningRunsBeginTheMeaning : Type 0
 RunningRunsBeginTheMeaning = (p : Program) (o : Object) → StandsFor p o → (n : ℕ) → status_after o None [] n ≡ Running → LinesBegin (object_lines o (outputs_after o None [] n)) (output_lines p.names (outputs (meaning p n)))
 
--- if the meaning has ended, the run is done with its lines after 16 times the work plus 320 steps
+-- if the meaning has ended, the run of such an object is done, with the meaning's lines, after 16 times the work plus
+-- 320 steps, or more
 abbrev pub EndedMeaningsAreWritten : Type 0
 EndedMeaningsAreWritten = (p : Program) (o : Object) → StandsFor p o → (n t : ℕ) (s : State) → meaning p t ≡ Ended s → 16 * s.work + 320 ≤ n → (status_after o None [] n ≡ Done) × (object_lines o (outputs_after o None [] n) ≡ output_lines p.names s.out)
 
--- if the meaning is cut, its lines are a prefix of those of the run after 16 times its work plus 320 steps, or more
+-- if the meaning is cut, its lines are a prefix of the run's lines after 16 times its work plus 320 steps, or more
 abbrev pub CutMeaningsBeginTheRun : Type 0
 CutMeaningsBeginTheRun = (p : Program) (o : Object) → StandsFor p o → (n t : ℕ) (s : State) → meaning p t ≡ Cut s → 16 * s.work + 320 ≤ n → LinesBegin (output_lines p.names s.out) (object_lines o (outputs_after o None [] n))

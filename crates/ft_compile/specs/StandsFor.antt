@@ -18,11 +18,12 @@ pub record RunsAsMeant (p : Program) (o : Object) : Type 0 where
   pub undetected : (n : ℕ) → status_after o None [] n ≢ Detected
   -- if it is done after n steps, the meaning with n turns has ended with the same outputs
   pub done : (n : ℕ) → status_after o None [] n ≡ Done → (s : State) × (meaning p n ≡ Ended s) × (outputs_after o None [] n ≡ s.out)
-  -- if it is running after n steps, its outputs are a prefix of those of the meaning with n turns
+  -- if it is running after n steps, its outputs are a prefix of the outputs of the meaning with n turns
   pub running : (n : ℕ) → status_after o None [] n ≡ Running → Begins (outputs_after o None [] n) (outputs (meaning p n))
-  -- if the meaning has ended, the run is done, with the same outputs, after 16 times the work plus 320 steps
+  -- if the meaning has ended, the run is done, with the same outputs, after 16 times the work plus 320 steps, or more
   pub ends : (n t : ℕ) (s : State) → meaning p t ≡ Ended s → 16 * s.work + 320 ≤ n → (status_after o None [] n ≡ Done) × (outputs_after o None [] n ≡ s.out)
-  -- if the meaning is cut, its outputs are a prefix of those of the run after 16 times the work plus 320 steps, or more
+  -- if the meaning is cut, its outputs are a prefix of the run's outputs after 16 times the work plus 320 steps, or
+  -- more
   pub cuts : (n t : ℕ) (s : State) → meaning p t ≡ Cut s → 16 * s.work + 320 ≤ n → Begins s.out (outputs_after o None [] n)
 
 -- the initial word of a cell

@@ -33,12 +33,12 @@ fn compile_program(alloc: Global, prog: &Prog<'_>) -> Result<Object, NoMemory>
 
 /// Compiles a source to an object that stands for its program. The object has the program's cells, of type `int`, with
 /// their names and initial words; it is spellable and accepted, and has at most as many instructions as the program
-/// weighs. Without a fault its run is never detected, and its outputs are a prefix of those of the meaning; if the
+/// weighs. Without a fault its run is never detected, and its outputs are a prefix of the meaning's outputs; if the
 /// meaning ends, the run ends with the same outputs. It is the object of a well-formed flow of this program: one whose
-/// run commits what the program means and ends when that does, with no more instructions than the program weighs and no
-/// pair at or above its need. The entry has code type 0; all other blocks have code type 1, with a row for each
-/// variable in both colours. The object is also a module: the linker refuses neither its cells and rows nor its code
-/// addresses.
+/// run commits the outputs of the program's meaning and ends when the meaning ends, with no more instructions than the
+/// program weighs and no pair at or above the program's need. The entry has code type 0; all other blocks have code
+/// type 1, with a row for each variable in both colours. The object is also a module: the linker refuses neither its
+/// cells and rows nor its code addresses.
 ///
 /// For a text that is not a program, the error is the first that applies, in the order that `parse` and `resolve`
 /// state. If memory runs out, `NoMemory` is returned instead of any other result.

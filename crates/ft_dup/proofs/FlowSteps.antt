@@ -55,7 +55,7 @@ module _ (o : Object) (w : List Wild) where
     pub holds : PairsHeld k regs g.pairs
     pub memory : CellsHold cells g.cells
 
-  -- moves of a word into both registers of a pair
+  -- two moves put a word into both registers of a pair
   two_moves : (i p v : ℕ) (m : Registers) (c : Cells) (os : List Output) → i + 2 < 65537 →
       slice_get (map bare o.instrs) i ≡ Some (instr.Mov (green p) (col Green v) int) →
       slice_get (map bare o.instrs) (suc i) ≡ Some (instr.Mov (blue p) (col Blue v) int) →
@@ -63,7 +63,7 @@ module _ (o : Object) (w : List Wild) where
   two_moves i p v m c os short a b = lead_on o 2 2 _ _ _ (mov o w i (omega arith) m c os (green p) (col Green v) a)
       (mov o w (suc i) (omega arith) (with_held m (green p).number (col Green v)) c os (blue p) (col Blue v) b)
 
-  -- `Put` by its two instructions
+  -- the two instructions of `Put` have its effect
   pub put_row : (k : Known) (i p v : ℕ) (m : Registers) (c : Cells) (f : FlowState) (start : ℕ → ℕ) → i + 2 < 65537 →
       HasInstrs (map bare o.instrs) i (image start (Put p v)) → Below (pairs_of (Put p v)) → IsWord v →
       PairsHeld k m f.pairs → CellsHold c f.cells → Row (learn p k) 4 i (suc (suc i)) m c f (goes_on (with_pair p v f))
@@ -75,7 +75,7 @@ module _ (o : Object) (w : List Wild) where
     memory = cells;
   }
 
-  -- `Copy` by its two instructions
+  -- the two instructions of `Copy` have its effect
   pub copy_row : (k : Known) (i p q : ℕ) (m : Registers) (c : Cells) (f : FlowState) (start : ℕ → ℕ) → i + 2 < 65537 →
       HasInstrs (map bare o.instrs) i (image start (Copy p q)) → Below (pairs_of (Copy p q)) → k q ≡ true →
       PairsHeld k m f.pairs → CellsHold c f.cells → Row (learn p k) 4 i (suc (suc i)) m c f
@@ -101,7 +101,7 @@ module _ (o : Object) (w : List Wild) where
         memory = cells;
       }
 
-  -- `Op` by its two instructions
+  -- the two instructions of `Op` have its effect
   pub op_row : (k : Known) (i p q s : ℕ) (x : Operation) (m : Registers) (c : Cells) (f : FlowState) (start : ℕ → ℕ) →
       i + 2 < 65537 → HasInstrs (map bare o.instrs) i (image start (Op x p q s)) → Below (pairs_of (Op x p q s)) →
       (k q ≡ true) × (k s ≡ true) → PairsHeld k m f.pairs → CellsHold c f.cells →
@@ -125,7 +125,7 @@ module _ (o : Object) (w : List Wild) where
         memory = cells;
       }
 
-  -- the two loads of a pair, after two instructions that leave a cell's address in both its registers
+  -- two instructions that leave a cell's address in both registers of a pair, followed by two loads, load the cell
   loads_row : (k : Known) (i p n : ℕ) (m : Registers) (c : Cells) (f : FlowState) → i + 4 < 65537 → p < 32 →
       Leads o 4 (spot i m 0 [] c w f.out) (spot (suc (suc i))
       (two_held m p (col Green (cell_address n)) (col Blue (cell_address n))) 0 [] c w f.out) →
@@ -153,7 +153,8 @@ module _ (o : Object) (w : List Wild) where
         memory = cells;
       }
 
-  -- the two stores through the spare pair, after two instructions that leave a cell's address in both its registers
+  -- two instructions that leave a cell's address in both registers of the spare pair, followed by two stores, store
+  -- into the cell
   stores_row : (k : Known) (i n q s : ℕ) (m : Registers) (c : Cells) (f : FlowState) → i + 4 < 65537 → s < 32 →
       Leads o 4 (spot i m 0 [] c w f.out) (spot (suc (suc i))
       (two_held m s (col Green (cell_address n)) (col Blue (cell_address n))) 0 [] c w f.out) →
@@ -179,7 +180,7 @@ module _ (o : Object) (w : List Wild) where
         memory = cells_set c f.cells n v there cells;
       }
 
-  -- `Load` by its four instructions
+  -- the four instructions of `Load` have its effect
   pub load_row : (k : Known) (i p n : ℕ) (m : Registers) (c : Cells) (f : FlowState) (start : ℕ → ℕ) → i + 4 < 65537 →
       HasInstrs (map bare o.instrs) i (image start (Load p n)) → Below (pairs_of (Load p n)) → n < length f.cells →
       IsWord (slice_index f.cells n) → PairsHeld k m f.pairs → CellsHold c f.cells →
@@ -188,7 +189,7 @@ module _ (o : Object) (w : List Wild) where
       loads_row k i p n m c f short (first_pair p [] pairs)
       (two_moves i p (cell_address n) m c f.out (omega arith) has.0 has.1.0) has.1.1 there word h cells
 
-  -- `Store` by its four instructions
+  -- the four instructions of `Store` have its effect
   pub store_row : (k : Known) (i n q s : ℕ) (m : Registers) (c : Cells) (f : FlowState) (start : ℕ → ℕ) →
       i + 4 < 65537 → HasInstrs (map bare o.instrs) i (image start (Store n q s)) → Below (pairs_of (Store n q s)) →
       n < length f.cells → (k q ≡ true) × (q ≢ s) → PairsHeld k m f.pairs → CellsHold c f.cells →
@@ -210,7 +211,7 @@ module _ (o : Object) (w : List Wild) where
       (index o w (suc i) (omega arith) (with_held m (green p).number v) c os (blue p) (blue q) first n x Blue b
       (blue_left m p q v lp lq ∙ blue_word))
 
-  -- `LoadAt` by its four instructions
+  -- the four instructions of `LoadAt` have its effect
   pub load_at_row : (k : Known) (i p q first n : ℕ) (m : Registers) (c : Cells) (f : FlowState) (start : ℕ → ℕ) →
       i + 4 < 65537 → HasInstrs (map bare o.instrs) i (image start (LoadAt p q first n)) →
       Below (pairs_of (LoadAt p q first n)) → cell_of_run first n (f.pairs q) < length f.cells →
@@ -224,7 +225,7 @@ module _ (o : Object) (w : List Wild) where
       (two_indexes i p q (f.pairs q) first n m c f.out (omega arith) lt Q.below has.0 has.1.0 Q.green Q.blue) has.1.1
       there word h cells
 
-  -- `StoreAt` by its four instructions
+  -- the four instructions of `StoreAt` have its effect
   pub store_at_row : (k : Known) (i first n x q s : ℕ) (m : Registers) (c : Cells) (f : FlowState) (start : ℕ → ℕ) →
       i + 4 < 65537 → HasInstrs (map bare o.instrs) i (image start (StoreAt first n x q s)) →
       Below (pairs_of (StoreAt first n x q s)) → cell_of_run first n (f.pairs x) < length f.cells → k x ≡ true → k q
@@ -250,7 +251,7 @@ module _ (o : Object) (w : List Wild) where
       subst (λ v. Leads o 4 (spot i m 0 [] c w os) (spot (suc (suc i)) (two_held m s (col Green v) (col Blue v)) 0 [] c
       w os)) e (two_moves i s (code_address t) m c os short a b)
 
-  -- `Go` by its four instructions
+  -- the four instructions of `Go` have its effect
   pub go_row : (k : Known) (i s to : ℕ) (m : Registers) (c : Cells) (f : FlowState) (start : ℕ → ℕ) → i + 4 < 65537 →
       HasInstrs (map bare o.instrs) i (image start (Go s to)) → Below (pairs_of (Go s to)) → PairsHeld k m f.pairs →
       CellsHold c f.cells → Row (forget s k) 8 i (start to) m c f (goes_to to (with_pair s 0 f))
@@ -272,7 +273,7 @@ module _ (o : Object) (w : List Wild) where
         memory = cells;
       }
 
-  -- `Exit` by its four instructions, if the pair holds 0
+  -- the four instructions of `Exit` have its effect if the pair holds 0
   pub exit_zero_row : (k : Known) (i q s to : ℕ) (m : Registers) (c : Cells) (f : FlowState) (start : ℕ → ℕ) →
       i + 4 < 65537 → HasInstrs (map bare o.instrs) i (image start (Exit q s to)) → Below (pairs_of (Exit q s to)) → k q
       ≡ true → q ≢ s → f.pairs q ≡ 0 → PairsHeld k m f.pairs → CellsHold c f.cells →
@@ -297,7 +298,7 @@ module _ (o : Object) (w : List Wild) where
         memory = cells;
       }
 
-  -- `Exit` by its four instructions, if the pair does not hold 0
+  -- the four instructions of `Exit` have its effect if the pair does not hold 0
   pub exit_other_row : (k : Known) (i q s to x : ℕ) (m : Registers) (c : Cells) (f : FlowState) (start : ℕ → ℕ) →
       i + 4 < 65537 → HasInstrs (map bare o.instrs) i (image start (Exit q s to)) → Below (pairs_of (Exit q s to)) → k q
       ≡ true → q ≢ s → f.pairs q ≡ suc x → PairsHeld k m f.pairs → CellsHold c f.cells →

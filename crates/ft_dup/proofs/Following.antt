@@ -38,7 +38,7 @@ use Rattle.ft_dup.proofs.Laying.{blocks_length, Laid, laid}
 
 -- WHAT IS KNOWN
 
--- what is known after one more step
+-- what is known after one more step is what this step leaves known
 row_known-append : (k : Known) (o : List Step3) (i : Step3) → row_known k (o ++ i ∷ []) ≡ known_after i (row_known k o)
 row_known-append k [] i = refl
 row_known-append k (x ∷ o) i = row_known-append (known_after x k) o i
@@ -73,12 +73,12 @@ size_some (Exit q s to) = omega arith
 size_some (Go s to) = omega arith
 size_some Stop = omega arith
 
--- what a step of a running flow costs
+-- a step of a running flow costs two machine steps for each of its instructions
 costs : (bs : Blocks) (f : FlowState) (s : Step3) → f.done ≡ false → step_at bs f.place ≡ Some s →
     cost_if f.done (step_at bs f.place) ≡ 2 * size s
 costs bs f s runs at = ap (λ b. cost_if b (step_at bs f.place)) runs ∙ ap (cost_if false) at
 
--- the step at a place
+-- the step after those that come before a place is the step at this place
 there : (bs : Blocks) (f : FlowState) (front rest : List Step3) (s : Step3) → block_of bs f.place.block ≡ front
     ++ s ∷ rest → f.place.index ≡ length front → step_at bs f.place ≡ Some s
 there bs f front rest s e n =
@@ -88,7 +88,7 @@ there bs f front rest s e n =
 
 module _ (o : Object) (vars cells : ℕ) (bs : Blocks) (W : IsWell vars cells bs) (C : Carries o cells bs) (w : List Wild)
   where
-    -- the cells of a running flow
+    -- the flow is running, has as many cells as the object, and each holds a word
     pub record Fine (cs : List ℕ) (done : Bool) : Type 0 where
       pub many : length cs ≡ cells
       pub words : All IsWord cs
@@ -123,7 +123,8 @@ module _ (o : Object) (vars cells : ℕ) (bs : Blocks) (W : IsWell vars cells bs
     data Onward (s : Step3) (f : FlowState) (r : Ran) : Type 0 where
       onward : (g : FlowState) (q : Ran) → act s f ≡ g → Leads o (2 * size s) r q → Beside g q → Onward s f r
 
-    -- after a step that continues with the next one
+    -- after a step that continues with the next one, the flow and the machine are between this step and the rest of the
+    -- block
     goes : (f g : FlowState) (i j : ℕ) (m n : Registers) (c d : Cells) (s : Step3) (front rest : List Step3)
         (known : Known) → At f i m c front (s ∷ rest) known → IsBlock rest → g.place ≡ on f.place → j ≡ i + size s →
         PairsHeld (known_after s known) n g.pairs → CellsHold d g.cells → Fine g.cells g.done →
@@ -153,7 +154,7 @@ module _ (o : Object) (vars cells : ℕ) (bs : Blocks) (W : IsWell vars cells bs
         let l : q < vars = ltb-true q vars lt in
         h q (ap (λ b. cond b false (k q)) (ne_eqb q spare (λ e. let x = J.free in omega arith)) ∙ J.known q l)
 
-    -- after a step that jumps to a block
+    -- after a step that jumps to a block, the flow and the machine are at the start of this block
     jumps : (k : Known) (spare to : ℕ) (g : FlowState) (n : Registers) (d : Cells) → IsTarget (length bs) to →
         KeepsVariables vars k spare → g.place ≡ first to → PairsHeld (forget spare k) n g.pairs → CellsHold d g.cells →
         Fine g.cells g.done → At g (start_of bs to) n d [] (block_of bs to) (known_first vars to)
@@ -175,7 +176,7 @@ module _ (o : Object) (vars cells : ℕ) (bs : Blocks) (W : IsWell vars cells bs
           fine = fine;
         }
 
-    -- a step that continues with the next one, given its row
+    -- after a step that continues with the next one, both are at the same place again, given the step's `Row`
     on_row : (f g : FlowState) (i j : ℕ) (m : Registers) (c : Cells) (s : Step3) (front rest : List Step3)
         (known : Known)
         → At f i m c front (s ∷ rest) known → IsBlock rest → act s f ≡ g → g.place ≡ on f.place → j ≡ i + size s →
@@ -185,7 +186,7 @@ module _ (o : Object) (vars cells : ℕ) (bs : Blocks) (W : IsWell vars cells bs
         (standing j R.regs R.cells (front ++ s ∷ []) rest (known_after s known)
         (goes f g i j m R.regs c R.cells s front rest known A ended place num R.holds R.memory fine))
 
-    -- a step that jumps to a block, given its row
+    -- after a step that jumps to a block, both are at the same place again, given the step's `Row`
     to_row : (f g : FlowState) (i to spare : ℕ) (m : Registers) (c : Cells) (s : Step3) (front rest : List Step3)
         (known : Known) → At f i m c front (s ∷ rest) known → IsTarget (length bs) to →
         KeepsVariables vars known spare →
@@ -196,7 +197,7 @@ module _ (o : Object) (vars cells : ℕ) (bs : Blocks) (W : IsWell vars cells bs
         (standing (start_of bs to) R.regs R.cells [] (block_of bs to) (known_first vars to)
         (jumps known spare to g R.regs R.cells T J place R.holds R.memory fine))
 
-    -- an exit, by cases on the word that it tests
+    -- after an exit, both are at the same place again: by cases on the word that it tests
     exit_by : (v : ℕ) (f : FlowState) (i : ℕ) (m : Registers) (c : Cells) (q s to : ℕ) (front rest : List Step3)
         (known : Known) → At f i m c front (Exit q s to ∷ rest) known →
         Laid (map bare o.instrs) i (start_of bs) (Exit q s to) → i + 4 < 65537 → Below (pairs_of (Exit q s to)) →
@@ -214,7 +215,7 @@ module _ (o : Object) (vars cells : ℕ) (bs : Blocks) (W : IsWell vars cells bs
         (omega arith) A.fine
         (exit_other_row o w known i q s to v m c f (start_of bs) n L.has p r.0 r.1 is A.holds A.memory)
 
-    -- one step of the flow, by cases on its kind
+    -- after any step of the flow, both are at the same place again: by cases on the kind of step
     by_step : (f : FlowState) (i : ℕ) (m : Registers) (c : Cells) (s : Step3) (front rest : List Step3) (known : Known)
         →
         At f i m c front (s ∷ rest) known → Laid (map bare o.instrs) i (start_of bs) s → i + size s < 65537 →
@@ -297,7 +298,7 @@ module _ (o : Object) (vars cells : ℕ) (bs : Blocks) (W : IsWell vars cells bs
       blocks_length (start_of bs) bs,
     )
 
-    -- after a step and what it costs, both are at the same place
+    -- after a step of the flow and the machine steps that it costs, both are still at the same place
     one_by : (f : FlowState) (r : Ran) (s : Step3) → f.done ≡ false → step_at bs f.place ≡ Some s → Onward s f r →
         Beside (flow_step bs f) (iterate (machine_step o) (cost_if f.done (step_at bs f.place)) r)
     one_by f r s runs at (onward g q eq l h) =
@@ -306,7 +307,8 @@ module _ (o : Object) (vars cells : ℕ) (bs : Blocks) (W : IsWell vars cells bs
         let e = ap (λ n. iterate (machine_step o) n r) (costs bs f s runs at) ∙ l.is in
         subst (Beside (flow_step bs f)) (sym e) (subst (λ x. Beside x q) (sym to) h)
 
-    -- a running flow has a step to take; one that is done stays as it is
+    -- likewise whether the flow is running or done: a running flow has a step to take, and one that is done stays as it
+    -- is
     one : (f : FlowState) (r : Ran) → Beside f r → Beside (flow_step bs f)
         (iterate (machine_step o) (cost_if f.done (step_at bs f.place)) r)
     one f _ (standing i m c front [] known A) = absurd A.ended
@@ -336,7 +338,7 @@ module _ (o : Object) (vars cells : ℕ) (bs : Blocks) (W : IsWell vars cells bs
           queue = refl;
         })
 
-    -- at the same place, they agree
+    -- a flow and a machine at the same place agree
     pub agrees : (f : FlowState) (r : Ran) → Beside f r → Agrees vars bs f r
     agrees f _ (standing i m c front rest known A) = record {
       out = refl;
@@ -346,12 +348,12 @@ module _ (o : Object) (vars cells : ℕ) (bs : Blocks) (W : IsWell vars cells bs
     }
     agrees f r (over d h) = h
 
-    -- any number of steps
+    -- after any number of steps and what they cost, both are at the same place
     pub follow : (k : ℕ) (f : FlowState) (r : Ran) → Beside f r →
         Beside (steps bs k f) (iterate (machine_step o) (cost bs k f) r)
     follow = follows (flow_step bs) (λ f. cost_if f.done (step_at bs f.place)) (machine_step o) Beside one
 
-    -- k steps of a running flow cost at least k
+    -- k steps of a running flow cost at least k machine steps
     pub pace : (k : ℕ) (f : FlowState) (r : Ran) → Beside f r → (steps bs k f).done ≡ false → k ≤ cost bs k f
     pace zero f r h e = omega arith
     pace (suc k) f _ (standing i m c front [] known A) e = absurd A.ended

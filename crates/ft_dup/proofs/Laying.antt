@@ -13,7 +13,7 @@ use Rattle.ft_dup.specs.Images.{image, row_images, blocks_images, start_of, doub
 use Rattle.ft_dup.specs.Doubles.{bare}
 use Rattle.ft_dup.proofs.FlowSteps.{HasInstrs}
 
--- the images of two rows, one after the other
+-- the image of two rows in sequence is that of the first, followed by that of the second
 row_images-append : (start : ℕ → ℕ) (a b : List Step3) → row_images start (a ++ b) ≡ row_images start a
     ++ row_images start b
 row_images-append start [] b = refl
@@ -85,12 +85,12 @@ among start (x ∷ bs) (suc b) front rest s h e =
       long = length-append row A.before ∙ omega (arith, row_length start x, A.long);
     }
 
--- removing the claims from two lists, one after the other
+-- removing claims and substitutions from two lists in sequence removes them from each
 map_append : (a b : List Instr) → map bare (a ++ b) ≡ map bare a ++ map bare b
 map_append [] b = refl
 map_append (x ∷ a) b = ap (λ l. bare x ∷ l) (map_append a b)
 
--- a list begins where the list before it ends
+-- the instructions of a list are in the code from where the list before them ends
 has_here : (js : List Instr) (A C : List Instr) → HasInstrs (A ++ (map bare js ++ C)) (length A) js
 has_here [] A C = tt
 has_here (J ∷ js) A C =

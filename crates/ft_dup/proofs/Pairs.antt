@@ -70,12 +70,12 @@ PairsHeld k m ps = (q : ℕ) → k q ≡ true → Pair m ps q
 abbrev pub two_held : Registers → ℕ → Coloured → Coloured → Registers
 two_held m p x y = with_held (with_held m (green p).number x) (blue p).number y
 
--- the green register of a written pair
+-- the green register of a written pair holds what was written to it
 pub green_read : (m : Registers) (p : ℕ) (x y : Coloured) → p < 32 → held (two_held m p x y) (green p).number ≡ x
 green_read m p x y h = held_other (with_held m (green p).number x) (blue p).number y (green p).number
     (green_no_blue p p h h) ∙ held_same m (green p).number x
 
--- the blue register of a written pair
+-- the blue register of a written pair holds what was written to it
 pub blue_read : (m : Registers) (p : ℕ) (x y : Coloured) → held (two_held m p x y) (blue p).number ≡ y
 blue_read m p x y = held_same (with_held m (green p).number x) (blue p).number y
 
@@ -149,7 +149,7 @@ holds_forget k m f p v x y lt old = λ q known.
 abbrev pub CellsHold : Cells → List ℕ → Type 0
 CellsHold m cs = (c : ℕ) → cell_at m (cell_address c) ≡ slice_get cs c
 
--- the word of an existing cell
+-- memory holds the word of each existing cell at its address
 pub cell_there : (m : Cells) (cs : List ℕ) (c : ℕ) → CellsHold m cs → c < length cs → cell_at m (cell_address c)
     ≡ Some (slice_index cs c)
 cell_there m cs c h lt = h c ∙ slice_get-get_or cs c 0 lt
@@ -162,7 +162,7 @@ get_set_other (x ∷ cs) zero v (suc d) ne = refl
 get_set_other (x ∷ cs) (suc c) v zero ne = refl
 get_set_other (x ∷ cs) (suc c) v (suc d) ne = get_set_other cs c v d (λ e. ne (ap suc e))
 
--- setting a cell in both
+-- memory still holds the cells' words after a cell is set in both
 pub cells_set : (m : Cells) (cs : List ℕ) (c v : ℕ) → c < length cs → CellsHold m cs →
     CellsHold (with_cell m (cell_address c) v) (slice_set cs c v)
 cells_set m cs c v lt h = λ d.

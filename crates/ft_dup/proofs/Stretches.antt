@@ -43,7 +43,7 @@ run_is o w (suc n) = ap (machine_step o) (run_is o w n) ∙ sym (iterate_last (m
 abbrev pub Leads : Object → ℕ → Ran → Ran → Type 0
 Leads o = steps.Leads (machine_step o)
 
--- consecutive stretches join
+-- two consecutive stretches join into one
 pub lead_on : (o : Object) (i j : ℕ) (r q z : Ran) → Leads o i r q → Leads o j q z → Leads o (i + j) r z
 lead_on o = steps.lead_on (machine_step o)
 
@@ -81,7 +81,7 @@ execute_bare (instr.JmpB rd t) s w = refl
 execute_bare (instr.BzB rz rd t) s w = refl
 execute_bare I s w = refl
 
--- the instruction of the code whose bare form this is
+-- the code has an instruction with this bare form
 get_bare : (xs : List Instr) (i : ℕ) (J : Instr) → slice_get (map bare xs) i ≡ Some J → (I : Instr)
     × (slice_get xs i ≡ Some I) × (bare I ≡ J)
 get_bare [] i J h = absurd cc
@@ -92,7 +92,7 @@ get_bare (x ∷ xs) (suc i) J h = get_bare xs i J h
 quiet_ran : (os : List Output) (s : State) (w : List Wild) → extended os (quiet s w) ≡ ran s w os
 quiet_ran os s w = ap (ran s w) (append-nil os)
 
--- a fetch and an instruction that is known except for its claims
+-- two steps fetch an instruction and execute it, where only the bare form of the instruction is known
 pub two_any : (o : Object) (J : Instr) (i : ℕ) (m : Registers) (d : ℕ) (q : Pending) (c : Cells) (w : List Wild)
     (os : List Output) → slice_get (map bare o.instrs) i ≡ Some J → (I : Instr)
     × Leads o 2 (spot i m d q c w os) (extended os (execute J (fetched_state i m d q c I) w))
@@ -108,7 +108,7 @@ two_any o J i m d q c w os at =
     ap (extended os) (execute_bare I.0 f w) ∙ ap (λ x. extended os (execute x f w)) I.2 in
     (I.0, record { is = ap (machine_step o) a ∙ b })
 
--- the same for an instruction whose result is known
+-- likewise for an instruction whose result is known
 two : (o : Object) (J : Instr) (i : ℕ) (m : Registers) (d : ℕ) (q : Pending) (c : Cells) (w : List Wild)
     (os : List Output) (t : Stepping) → slice_get (map bare o.instrs) i ≡ Some J →
     ((I : Instr) → execute J (fetched_state i m d q c I) w ≡ t) → Leads o 2 (spot i m d q c w os) (extended os t)
@@ -116,7 +116,7 @@ two o J i m d q c w os t at does =
     let T = two_any o J i m d q c w os at in
     subst (λ x. Leads o 2 (spot i m d q c w os) (extended os x)) (does T.0) T.1
 
--- the same for an instruction without an output
+-- likewise for an instruction without an output
 two_quiet : (o : Object) (J : Instr) (i : ℕ) (m : Registers) (d : ℕ) (q : Pending) (c : Cells) (w : List Wild)
     (os : List Output) (s : State) → slice_get (map bare o.instrs) i ≡ Some J →
     ((I : Instr) → execute J (fetched_state i m d q c I) w ≡ quiet s w) → Leads o 2 (spot i m d q c w os) (ran s w os)
@@ -129,11 +129,11 @@ next_small i h = omega arith
 
 -- REGISTERS
 
--- reading the register that was written
+-- the register that was written holds the new word
 pub held_same : (m : Registers) (r : ℕ) (x : Coloured) → held (with_held m r x) r ≡ x
 held_same m r x = held-with_held m r x r ∙ ap (λ b. cond b x (held m r)) (eq-eqb r r refl)
 
--- reading another register
+-- any other register holds what it held before
 pub held_other : (m : Registers) (r : ℕ) (x : Coloured) (q : ℕ) → q ≢ r → held (with_held m r x) q ≡ held m q
 held_other m r x q ne = held-with_held m r x q ∙ ap (λ b. cond b x (held m q)) (ne_eqb q r ne)
 
@@ -144,17 +144,17 @@ col c v = record { colour = c; word = v }
 -- EACH INSTRUCTION
 
 module _ (o : Object) (w : List Wild) (i : ℕ) (short : i < 65537) where
-  -- both counters are advanced
+  -- advancing both counters adds 1 to them
   goes_by : (m : Registers) (d : ℕ) (q : Pending) (c : Cells) → quiet (stands (next (suc i)) m d q c) w
       ≡ quiet (stands (suc (suc i)) m d q c) w
   goes_by m d q c = ap (λ z. quiet (stands z m d q c) w) (next_small i short)
 
-  -- a move
+  -- a move puts its word into its register
   pub mov : (m : Registers) (c : Cells) (os : List Output) (r : Reg) (x : Coloured) → slice_get (map bare o.instrs) i
       ≡ Some (instr.Mov r x int) → Leads o 2 (spot i m 0 [] c w os) (spot (suc i) (with_held m r.number x) 0 [] c w os)
   mov m c os r x at = two_quiet o _ i m 0 [] c w os _ at (λ I. goes_by (with_held m r.number x) 0 [] c)
 
-  -- an operation on registers of one colour
+  -- an operation on registers of one colour puts its result into its register
   pub op_reg : (m : Registers) (c : Cells) (os : List Output) (op : Op) (rd rs rt : Reg) (x y : ℕ) (k : Colour) →
       slice_get (map bare o.instrs) i ≡ Some (instr.OpReg op rd rs rt) → held m rs.number ≡ col k x → held m rt.number
       ≡ col k y → Leads o 2 (spot i m 0 [] c w os) (spot (suc i) (with_held m rd.number (col k (apply op x y))) 0 [] c w
@@ -165,7 +165,7 @@ module _ (o : Object) (w : List Wild) (i : ℕ) (short : i < 65537) where
       ∙ ap (λ (h : Coloured). machine.writes rd k (apply op x h.word) s w) et
       ∙ goes_by (with_held m rd.number (col k (apply op x y))) 0 [] c)
 
-  -- an operation on a register and a word of one colour
+  -- likewise for an operation on a register and a word of one colour
   pub op_word : (m : Registers) (c : Cells) (os : List Output) (op : Op) (rd rs : Reg) (x y : ℕ) (k : Colour) →
       slice_get (map bare o.instrs) i ≡ Some (instr.OpWord op rd rs (col k y)) → held m rs.number ≡ col k x →
       Leads o 2 (spot i m 0 [] c w os) (spot (suc i) (with_held m rd.number (col k (apply op x y))) 0 [] c w os)
@@ -173,7 +173,7 @@ module _ (o : Object) (w : List Wild) (i : ℕ) (short : i < 65537) where
       ap (λ (h : Coloured). machine.writes rd h.colour (apply op h.word y) (fetched_state i m 0 [] c I) w) es
       ∙ goes_by (with_held m rd.number (col k (apply op x y))) 0 [] c)
 
-  -- an `idx`: the address of the array cell that a register selects
+  -- an `idx` puts the address of the array cell that a register selects into its register
   pub index : (m : Registers) (c : Cells) (os : List Output) (rd rs : Reg) (first n x : ℕ) (k : Colour) →
       slice_get (map bare o.instrs) i ≡ Some (instr.Idx rd rs first n) → held m rs.number ≡ col k x →
       Leads o 2 (spot i m 0 [] c w os) (spot (suc i) (with_held m rd.number (col k (cell_in_run first n x))) 0 [] c w
@@ -189,7 +189,7 @@ module _ (o : Object) (w : List Wild) (i : ℕ) (short : i < 65537) where
   finds Green m c a I = refl
   finds Blue m c a I = refl
 
-  -- a load from a cell, if nothing is pending
+  -- a load puts the cell's word into its register if nothing is pending
   pub load : (m : Registers) (c : Cells) (os : List Output) (rd rs : Reg) (a v : ℕ) (k : Colour) →
       slice_get (map bare o.instrs) i ≡ Some (instr.Ld k rd rs) → held m rs.number ≡ col k a → cell_at c a ≡ Some v →
       Leads o 2 (spot i m 0 [] c w os) (spot (suc i) (with_held m rd.number (col k v)) 0 [] c w os)
@@ -199,7 +199,7 @@ module _ (o : Object) (w : List Wild) (i : ℕ) (short : i < 65537) where
       ∙ ap (λ x. machine.load k rd x s w) (finds k m c a I ∙ there)
       ∙ goes_by (with_held m rd.number (col k v)) 0 [] c)
 
-  -- a green store, if nothing is pending
+  -- a green store adds its pending store if nothing is pending
   pub store_green : (m : Registers) (c : Cells) (os : List Output) (rd rs : Reg) (a v : ℕ) →
       slice_get (map bare o.instrs) i ≡ Some (instr.St Green rd rs) → held m rd.number ≡ col Green a → held m rs.number
       ≡ col Green v → Leads o 2 (spot i m 0 [] c w os) (spot (suc i) m 0 ((a, v) ∷ []) c w os)
@@ -209,7 +209,7 @@ module _ (o : Object) (w : List Wild) (i : ℕ) (short : i < 65537) where
       ∙ ap (λ (h : Coloured). machine.store_green a h.word s w) es
       ∙ goes_by m 0 ((a, v) ∷ []) c)
 
-  -- a blue store that commits the only pending store as an output
+  -- a blue store with the same address and word commits the only pending store as an output
   pub store_blue : (m : Registers) (c : Cells) (os : List Output) (rd rs : Reg) (a v x : ℕ) →
       slice_get (map bare o.instrs) i ≡ Some (instr.St Blue rd rs) → held m rd.number ≡ col Blue a → held m rs.number
       ≡ col Blue v → cell_at c a ≡ Some x → Leads o 2 (spot i m 0 ((a, v) ∷ []) c w os)
@@ -233,7 +233,7 @@ module _ (o : Object) (w : List Wild) (i : ℕ) (short : i < 65537) where
         output = Some (record { addr = a; value = v });
       } in t) (next_small i short))
 
-  -- a green jump, if d is 0
+  -- a green jump puts its target into d if d is 0
   pub jump_green : (m : Registers) (c : Cells) (os : List Output) (rd : Reg) (a : ℕ) → slice_get (map bare o.instrs) i
       ≡ Some (instr.JmpG rd) → held m rd.number ≡ col Green a →
       Leads o 2 (spot i m 0 [] c w os) (spot (suc i) m a [] c w os)
@@ -241,7 +241,7 @@ module _ (o : Object) (w : List Wild) (i : ℕ) (short : i < 65537) where
       ap (λ (h : Coloured). machine.jump_green h.word (fetched_state i m 0 [] c I) w) ed
       ∙ goes_by m a [] c)
 
-  -- a blue jump to the address in d
+  -- a blue jump to the address in d sets the counters to it and d to 0
   jumps : (m : Registers) (c : Cells) (t : ℕ) (I : Instr) →
       machine.jump_blue (suc t) (fetched_state i m (suc t) [] c I) w ≡ quiet (stands (suc t) m 0 [] c) w
   jumps m c t I =
@@ -250,14 +250,14 @@ module _ (o : Object) (w : List Wild) (i : ℕ) (short : i < 65537) where
       (ne_eqb (suc t) 0 (λ e. omega arith))
       ∙ ap (λ b. cond b (quiet (machine.transfers (suc t) s) w) (detected s w)) (eq-eqb (suc t) (suc t) refl)
 
-  -- a blue jump, if d is its target
+  -- a blue jump goes to its target if d holds it
   pub jump_blue : (m : Registers) (c : Cells) (os : List Output) (rd : Reg) (t : ℕ) → slice_get (map bare o.instrs) i
       ≡ Some (instr.JmpB rd empty) → held m rd.number ≡ col Blue (suc t) →
       Leads o 2 (spot i m (suc t) [] c w os) (spot t m 0 [] c w os)
   jump_blue m c os rd t at ed = two_quiet o _ i m (suc t) [] c w os _ at (λ I.
       ap (λ (h : Coloured). machine.jump_blue h.word (fetched_state i m (suc t) [] c I) w) ed ∙ jumps m c t I)
 
-  -- a green branch that is taken
+  -- a green branch that is taken puts its target into d
   pub branch_green_zero : (m : Registers) (c : Cells) (os : List Output) (rz rd : Reg) (a : ℕ) →
       slice_get (map bare o.instrs) i ≡ Some (instr.BzG rz rd) → held m rz.number ≡ col Green 0 → held m rd.number
       ≡ col Green a → Leads o 2 (spot i m 0 [] c w os) (spot (suc i) m a [] c w os)
@@ -267,7 +267,7 @@ module _ (o : Object) (w : List Wild) (i : ℕ) (short : i < 65537) where
       ∙ ap (λ (h : Coloured). machine.jump_green h.word s w) ed
       ∙ goes_by m a [] c)
 
-  -- a green branch that is not taken
+  -- a green branch that is not taken only advances the counters
   pub branch_green_other : (m : Registers) (c : Cells) (os : List Output) (rz rd : Reg) (x : ℕ) →
       slice_get (map bare o.instrs) i ≡ Some (instr.BzG rz rd) → held m rz.number ≡ col Green (suc x) →
       Leads o 2 (spot i m 0 [] c w os) (spot (suc i) m 0 [] c w os)
@@ -278,7 +278,7 @@ module _ (o : Object) (w : List Wild) (i : ℕ) (short : i < 65537) where
       (ne_eqb (suc x) 0 (λ e. omega arith))
       ∙ goes_by m 0 [] c)
 
-  -- a blue branch that is taken
+  -- a blue branch that is taken goes to its target if d holds it
   pub branch_blue_zero : (m : Registers) (c : Cells) (os : List Output) (rz rd : Reg) (t : ℕ) →
       slice_get (map bare o.instrs) i ≡ Some (instr.BzB rz rd empty) → held m rz.number ≡ col Blue 0 → held m rd.number
       ≡ col Blue (suc t) → Leads o 2 (spot i m (suc t) [] c w os) (spot t m 0 [] c w os)
@@ -288,7 +288,7 @@ module _ (o : Object) (w : List Wild) (i : ℕ) (short : i < 65537) where
       ∙ ap (λ (h : Coloured). machine.jump_blue h.word s w) ed
       ∙ jumps m c t I)
 
-  -- a blue branch that is not taken
+  -- a blue branch that is not taken only advances the counters
   pub branch_blue_other : (m : Registers) (c : Cells) (os : List Output) (rz rd : Reg) (x : ℕ) →
       slice_get (map bare o.instrs) i ≡ Some (instr.BzB rz rd empty) → held m rz.number ≡ col Blue (suc x) →
       Leads o 2 (spot i m 0 [] c w os) (spot (suc i) m 0 [] c w os)

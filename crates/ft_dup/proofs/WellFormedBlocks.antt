@@ -13,7 +13,7 @@ use Rattle.ft_lower.specs.Well.{Known, StepFits, RowIsWell, known_after, known_f
 use Rattle.ft_dup.specs.Shape.{HasTarget, HasShape}
 use Rattle.ft_dup.specs.Images.{image, row_images, blocks_images, starts, starts_from, start_of, doubled}
 
--- what holds of all results of f holds of each of them
+-- what holds of the images of all elements holds of the image of each
 pub all_mapped : {X Y : Type 0} (f : X → Y) (P : Y → Type 0) (xs : List X) (i : ℕ) (x : X) → i < length xs → x
     ≡ get_or xs i x → All P (map f xs) → P (f x)
 all_mapped f P xs i x h e all =
@@ -27,7 +27,7 @@ pub starts_length : (n : ℕ) (bs : Blocks) → length (starts_from n bs) ≡ le
 starts_length n [] = refl
 starts_length n (b ∷ bs) = ap suc (starts_length (n + row_size b) bs)
 
--- the start of an existing block
+-- the list of starts has the start of each existing block
 pub start_at : (n : ℕ) (bs : Blocks) (b : ℕ) → b < length bs → slice_index (starts_from n bs) b ≡ n + start_of bs b
 start_at n [] b h = absurd (omega arith)
 start_at n (x ∷ bs) zero h = omega arith

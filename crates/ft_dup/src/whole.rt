@@ -45,9 +45,10 @@ fn put_blocks(
     Ok(code)
 }
 
-/// Doubles a flow: the instructions of its steps, each in green and in blue, block by block. The flow has only pairs
-/// below 32, each jump goes to an existing block other than the entry, the last step of each block ends it and no other
-/// step does, and there are at most 65,536 instructions in all. The only error is `NoMemory`.
+/// Doubles a flow: the instructions of its steps, each in green and in blue, block by block. The flow must have this
+/// shape: it has only pairs below 32, each jump goes to an existing block other than the entry, the last step of each
+/// block ends it and no other step does, and there are at most 65,536 instructions in all. The only error is
+/// `NoMemory`.
 pub fn duplicate(alloc: Global, flow: &Flow) -> Result<Doubled, NoMemory>
     requires { HasShape (blocks_of flow.now) }
     ensures vars { IfOk result (λ d. d.vars ≡ flow.now.vars) }

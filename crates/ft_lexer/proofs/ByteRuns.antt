@@ -9,7 +9,7 @@ use Rattle.ft_lexer.specs.Ends.{EndsName, EndsNumber}
 use Rattle.ft_lexer.specs.Scan.{scan_from, name, number, in_name, ends, begins, wrong}
 use Rattle.ft_lexer.specs.declared.lex_error.LexError.TheVariants.{Byte}
 
--- taking and dropping one more element
+-- taking one more element appends it; dropping one fewer puts it in front
 next_take : (text : List ℕ) (n : ℕ) → n < length text → take n text ++ get_or text n 0 ∷ [] ≡ take (n + 1) text
 next_take text n h = rw add-one (sym (take-suc text n 0 h))
 
@@ -19,7 +19,7 @@ next_drop text n h = rw add-one (drop-cons text n 0 h)
 short : (n : ℕ) → n < 32 → nat_le 32 n ≡ false
 short n h = grind arith
 
--- the name continues with the next byte
+-- a name of fewer than 32 bytes continues with the next byte if names may have this byte
 one_name : (start at : ℕ) (t : List ℕ) (b : ℕ) (bs : List ℕ) → length t < 32 → is_name_byte b ≡ true →
     scan_from (name start t) at (b ∷ bs) ≡ scan_from (name start (t ++ b ∷ [])) (at + 1) bs
 one_name start at t b bs h g =

@@ -19,7 +19,7 @@ abbrev pub is_word : List ℕ → Bool
 is_word [] = false
 is_word (b ∷ bs) = is_letter b && list_all is_name_byte bs
 
--- a word with one more byte of a name
+-- a word followed by a byte of a name is a word
 word_more : (t : List ℕ) (b : ℕ) → is_word t ≡ true → is_name_byte b ≡ true → is_word (t ++ b ∷ []) ≡ true
 word_more [] b e f = cc
 word_more (c ∷ cs) b e f =
@@ -33,7 +33,7 @@ pub record IsNameText (t : List ℕ) : Type 0 where
   pub word : is_word t ≡ true
   pub short : length t ≤ 32
 
--- a name has such a text, and a number is below 2^64
+-- if the lexeme is a name, its text is the text of a name; if it is a number, it is below 2^64
 pub record IsFit (l : Lexeme) : Type 0 where
   pub name_fits : l.kind ≡ kinds.Name → IsNameText l.text
   pub number_fits : l.kind ≡ kinds.Number → numeral 0 l.text < 2 ^ 64
@@ -44,7 +44,7 @@ data AreFit : Scan → Type 0 where
   wrong_fits : {e : LexError} → AreFit (wrong e)
   token_fits : {l : Lexeme} {rest : Scan} → IsFit l → AreFit rest → AreFit (token l rest)
 
--- the first token of such a scan fits, and the rest is such a scan
+-- if a scan fits, so do its first token and the rest of the scan
 token_parts : (l : Lexeme) (rest : Scan) → AreFit (token l rest) → IsFit l × AreFit rest
 token_parts l rest (token_fits a b) = (a, b)
 
@@ -66,12 +66,12 @@ plain_fits k t at h = record {
   number_fits = λ e. absurd (subst IsPlain e h);
 }
 
--- a choice between two such scans is one
+-- if two scans fit, so does a choice between them
 if_fits : (c : Bool) (x y : Scan) → AreFit x → AreFit y → AreFit (if c then x else y)
 if_fits true x y h k = h
 if_fits false x y h k = k
 
--- a choice among the kinds of words is not that of numbers
+-- no kind of word is the kind of numbers
 word_choice : (a b c d e : Bool) → IsNoNumber (if a then kinds.Cell
     else (if b then kinds.Var else (if c then kinds.While
     else (if d then kinds.If else (if e then kinds.Else else kinds.Name)))))
@@ -82,7 +82,7 @@ word_choice false false false true e = tt
 word_choice false false false false true = tt
 word_choice false false false false false = tt
 
--- so the kind of a word is not that of numbers
+-- so the kind of a word is not the kind of numbers
 word_kind_plain : (t : List ℕ) → IsNoNumber (word_kind t)
 unfolding word_kind
 word_kind_plain t = word_choice (bytes_eq t (codes "cell")) (bytes_eq t (codes "var")) (bytes_eq t (codes "while"))
@@ -93,12 +93,12 @@ abbrev IsPlainSign : Option Kind → Type 0
 IsPlainSign None = Unit {0}
 IsPlainSign (Some k) = IsPlain k
 
--- a choice between such a kind and others is one
+-- `IsPlainSign` holds of a choice if it holds in both cases
 if_plain : (c : Bool) (k : Kind) (o : Option Kind) → IsPlain k → IsPlainSign o → IsPlainSign (if c then Some k else o)
 if_plain true k o h g = h
 if_plain false k o h g = g
 
--- the kind of a sign is neither that of names nor that of numbers
+-- the kind of a sign is neither the kind of names nor the kind of numbers
 sign_kind_plain : (b : ℕ) → IsPlainSign (sign_kind b)
 unfolding sign_kind
 sign_kind_plain b =
@@ -162,12 +162,12 @@ number_token_fits true start t rest e h = token_fits (record {
     no f = cc
 number_token_fits false start t rest e h = wrong_fits
 
--- a sign before a scan that fits makes one that fits
+-- a sign followed by a scan that fits is a scan that fits
 sign_fits : (o : Option Kind) (at b : ℕ) (rest : Scan) → IsPlainSign o → AreFit rest → AreFit (sign_at o at b rest)
 sign_fits None at b rest p h = wrong_fits
 sign_fits (Some k) at b rest p h = token_fits (plain_fits k (b ∷ []) at p) h
 
--- ending what has begun before a scan that fits makes one that fits
+-- if a scan fits, it still fits when what has begun ends in front of it
 ends_fits : (m : Mode) (rest : Scan) → MayEnd m → AreFit rest → AreFit (ends m rest)
 ends_fits gap rest m h = h
 ends_fits comment rest m h = h
@@ -178,13 +178,13 @@ ends_fits (name start t) rest m h = token_fits (record {
 ends_fits (number start t) rest m h = number_token_fits (nat_lt (numeral 0 t) (2 ^ 64)) start t rest refl h
 ends_fits (once k start b) rest m h = sign_fits (sign_kind b) start b rest (sign_kind_plain b) h
 
--- what a sign begins makes a scan that fits
+-- the scan of what a sign begins fits if the scans after it do
 sign_from_fits : (o : Option Kind) (at b : ℕ) (after : Mode → Scan) → IsPlainSign o →
     ((n : Mode) → MayEnd n → AreFit (after n)) → AreFit (sign_from o at b after)
 sign_from_fits None at b after p h = sign_fits (sign_kind b) at b (after gap) (sign_kind_plain b) (h gap tt)
 sign_from_fits (Some k) at b after p h = h (once k at b) p
 
--- a choice of five such scans is one
+-- if five scans fit, so does a choice of them
 begins_choice : (a b c d : Bool) (u v w x y : Scan) → AreFit u → AreFit v → (c ≡ true → AreFit w) → AreFit x →
     AreFit y → AreFit (if a then u else (if b then v else (if c then w else (if d then x else y))))
 begins_choice true b c d u v w x y hu hv hw hx hy = hu
@@ -193,7 +193,7 @@ begins_choice false false true d u v w x y hu hv hw hx hy = hw refl
 begins_choice false false false true u v w x y hu hv hw hx hy = hx
 begins_choice false false false false u v w x y hu hv hw hx hy = hy
 
--- what a byte begins makes a scan that fits
+-- the scan of what a byte begins fits if the scans after it do
 begins_fits : (at b : ℕ) (after : Mode → Scan) → ((n : Mode) → MayEnd n → AreFit (after n)) → AreFit (begins at b after)
 begins_fits at b after h =
     begins_choice (is_blank b) (b == 35) (is_letter b) (is_digit b) (after gap) (after comment)
@@ -202,14 +202,14 @@ begins_fits at b after h =
     (h (number at (b ∷ [])) tt)
     (sign_from_fits (pair_kind b) at b after (pair_kind_plain b) h)
 
--- a byte after a name makes a scan that fits
+-- the scan of a byte after a name fits if the scans after it do
 in_name_fits : (goes long : Bool) (at : ℕ) (more end : Scan) → (goes ≡ true → long ≡ false → AreFit more) → AreFit end →
     AreFit (in_name goes long at more end)
 in_name_fits false long at more end h k = k
 in_name_fits true false at more end h k = h refl refl
 in_name_fits true true at more end h k = wrong_fits
 
--- each byte makes a scan that fits
+-- the scan of any byte fits if the scans after it do
 reads_fits : (m : Mode) (at b : ℕ) (after : Mode → Scan) (other : Scan) → MayEnd m →
     ((n : Mode) → MayEnd n → AreFit (after n)) → AreFit other → AreFit (reads m at b after other)
 reads_fits gap at b after other m h k = k

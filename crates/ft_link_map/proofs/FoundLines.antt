@@ -18,7 +18,7 @@ block_found text = below_found (2 ^ 32) (omega arith) text
 abbrev Passes : (List ℕ → Bool) → List ℕ → Type 0
 Passes test text = test text ≡ true
 
--- by the result of the test
+-- it is decidable whether a text passes a test: by cases on the result of the test
 tested : (test : List ℕ → Bool) (text : List ℕ) (b : Bool) → test text ≡ b → IsDecided (IsOf (Passes test) itself text)
 tested test text true e = inl (text, (e, refl))
 tested test text false e = inr (λ other h. true≢false (sym h.0 ∙ ap test (sym h.1) ∙ e))
@@ -54,7 +54,7 @@ no_form line m e i (Export name block) h = e (name, block) ((h.0, h.1), h.2)
 no_form line m e i (Import name block) h = i (name, block) ((h.0, h.1), h.2)
 no_form line m e i Bad h = h
 
--- the forms are tried one after another
+-- a line has a reading: by cases on which of the three forms it has
 by_forms : (line : List ℕ) → IsDecided (IsFileAfter (codes "module ") line) →
     IsDecided (IsAskAfter (codes "export ") line) → IsDecided (IsAskAfter (codes "import ") line) → (l : MapLine)
     × Says line l

@@ -17,7 +17,7 @@ one_ask a b n m ha hb hn hm e =
     (name_no_space b hb) refl e in
     (parts.0, decimal_injective n m (omega (arith, hn)) (omega (arith, hm)) parts.1)
 
--- the only form that a line can have, by its first byte
+-- the only form that a line can have, as a number, given its first byte
 abbrev form_of_text : List ℕ → ℕ
 form_of_text [] = 0
 form_of_text (byte ∷ bytes) = if byte == 109 then 1 else (if byte == 101 then 2 else 3)

@@ -82,7 +82,7 @@ apart_back : (n : ℕ) (asks : List Ask) (a : Ask) → All (IsBy n) asks → a.l
     All (λ (x : Ask). HaveTwoLines x a) asks
 apart_back n asks a h e = λ i d lt same. absurd (omega (arith, e, same, h i d lt))
 
--- one more module
+-- the invariant holds after one more module
 fair_module : (m : LinkMap) (count : ℕ) (file : List ℕ) → IsFair m count → nat_lt (length m.files) 64 ≡ true →
     IsFair (with_line m (suc count) (Module file)) (suc count)
 fair_module m count file h few =
@@ -104,7 +104,7 @@ fair_module m count file h few =
       sides_apart = h.sides_apart;
     }
 
--- one more export
+-- the invariant holds after one more export
 fair_export : (m : LinkMap) (count : ℕ) (name : List ℕ) (block : ℕ) → IsFair m count → nat_lt 0 (length m.files)
     ≡ true → repeats m (Export name block) ≡ false → IsFair (with_line m (suc count) (Export name block)) (suc count)
 fair_export m count name block h some new =
@@ -128,7 +128,7 @@ fair_export m count name block h some new =
           back (get_or m.imports i d) a (other_blocks m.imports a fresh.1 i d lt));
     }
 
--- one more import
+-- the invariant holds after one more import
 fair_import : (m : LinkMap) (count : ℕ) (name : List ℕ) (block : ℕ) → IsFair m count → nat_lt 0 (length m.files)
     ≡ true → repeats m (Import name block) ≡ false → IsFair (with_line m (suc count) (Import name block)) (suc count)
 fair_import m count name block h some new =
@@ -152,7 +152,7 @@ fair_import m count name block h some new =
           (other_blocks m.exports a fresh.0 i d lt);
     }
 
--- one more line
+-- the invariant holds after one more line
 fair_next : (m : LinkMap) (count : ℕ) (l : MapLine) → IsFair m count → may_stand m l ≡ true → repeats m l ≡ false →
     IsFair (with_line m (suc count) l) (suc count)
 fair_next m count (Module file) h may new = fair_module m count file h may
@@ -199,7 +199,7 @@ sound_after (l ∷ ls) m count h good new =
     let fresh = not_passed (repeats m l) (first_twice (with_line m (suc count) l) (suc count) ls) (suc count) new in
     sound_after ls (with_line m (suc count) l) (suc count) (fair_next m count l h may.0 fresh.0) may.1 fresh.1
 
--- the map of no lines
+-- the invariant holds for the map of no lines
 fair_none : IsFair no_lines 0
 fair_none = record {
   few_files = omega arith;

@@ -14,7 +14,7 @@ use Rattle.ft_link_map.specs.declared.draft.Turn.TheVariants.{On, Again, Stuck}
 use Rattle.ft_link_map.specs.Held.{Holds, Takes, Ends, first_of}
 use Rattle.ft_link_map.proofs.OneLine.{one_line}
 
--- the first repeated line: one so far, or else one of those that are left
+-- the first repeated line: the one found so far, or else the first of those that are left
 abbrev sooner : Option ℕ → Option ℕ → Option ℕ
 sooner (Some number) later = Some number
 sooner None later = later
@@ -24,17 +24,18 @@ abbrev answer_from : LinkMap → Option ℕ → ℕ → List MapLine → Answer
 answer_from m twice count ls = answered (first_bad m count ls) (sooner twice (first_twice m count ls))
     (with_lines m count ls)
 
--- the invariant of the walk: for every reading of all lines, the lines left have a reading that gives the same answer
+-- the invariant of the walk: for every reading of all lines, the lines that are left have a reading with the same
+-- answer
 abbrev pub Leads : List (List ℕ) → LinkMap → Option ℕ → ℕ → List (List ℕ) → Type 0
 Leads all m twice count left = (said : List MapLine) → AllZip Says all said → (rest : List MapLine)
     × AllZip Says left rest × (answer_of said ≡ answer_from m twice count rest)
 
--- the first repeated line, by whether the next line repeats
+-- the first repeated line up to and including the next line, given whether that one repeats
 abbrev next_twice : Option ℕ → Bool → ℕ → Option ℕ
 next_twice (Some first) again number = Some first
 next_twice None again number = if again then Some number else None
 
--- the first repeated line, with the next line counted among those so far
+-- the first repeated line is the same if the next line is counted among those so far
 sooner_step : (twice : Option ℕ) (again : Bool) (number : ℕ) (later : Option ℕ) →
     sooner twice (if again then Some number else later) ≡ sooner (next_twice twice again number) later
 sooner_step (Some n) again number later = refl
@@ -52,7 +53,7 @@ answer_step m twice count l ls may =
     ∙ ap (λ o. answered (first_bad after (suc count) ls) o (with_lines after (suc count) ls))
     (sooner_step twice (repeats m l) (suc count) (first_twice after (suc count) ls))
 
--- after a correctly placed line, the lines after it have a reading that gives the same answer
+-- after a correctly placed line, the lines after it have a reading with the same answer
 step_by : (all : List (List ℕ)) (m : LinkMap) (twice : Option ℕ) (count : ℕ) (line : List ℕ) (after : List (List ℕ))
     (l : MapLine) (said rest : List MapLine) → Says line l → may_stand m l ≡ true → AllZip Says (line ∷ after) rest →
     answer_of said ≡ answer_from m twice count rest
@@ -86,7 +87,7 @@ stop_by m twice count line after l said (k ∷ ks) says may h e =
     e ∙ ap (λ o. answered o (sooner twice (first_twice m count (k ∷ ks))) (with_lines m count (k ∷ ks)))
     (cond-false (may_stand m k) (first_bad next (suc count) ks) (Some (suc count)) not_here)
 
--- the draft and the invariant after a correctly placed line
+-- if the draft holds the map after a correctly placed line, the invariant holds too
 taken : (all : List (List ℕ)) (d : Draft) (m : LinkMap) (twice r : Option ℕ) (count : ℕ) (left : List (List ℕ))
     (line : List ℕ) (after : List (List ℕ)) (l : MapLine) → Leads all m twice count left → left ≡ line ∷ after →
     Says line l
@@ -102,12 +103,12 @@ taken all d m twice r count left line after l h e says may holds first =
           Leads all (with_line m (count + 1) l) o (count + 1) after) (sym first) leads,
     )
 
--- the effect of a repeated line
+-- `first_of` is `next_twice` for a repeated line
 first_again : (twice : Option ℕ) (number : ℕ) → first_of twice Again number ≡ next_twice twice true number
 first_again (Some n) number = refl
 first_again None number = refl
 
--- the effect of a line that does not repeat
+-- `first_of` is `next_twice` for a line that does not repeat
 first_on : (twice : Option ℕ) (number : ℕ) → first_of twice On number ≡ next_twice twice false number
 first_on (Some n) number = refl
 first_on None number = refl
@@ -148,13 +149,13 @@ takes_none all d m twice count left line after l Again h e says takes is said ar
 abbrev end_answer : LinkMap → Option ℕ → ℕ → Answer
 end_answer m twice count = answered (if nat_lt 0 (length m.files) then None else Some (suc count)) (sooner twice None) m
 
--- the answer if no lines are left
+-- if no lines are left, the answer is the one at the end
 end_by : (m : LinkMap) (twice : Option ℕ) (count : ℕ) (said rest : List MapLine) → AllZip Says [] rest → answer_of said
     ≡ answer_from m twice count rest → answer_of said ≡ end_answer m twice count
 end_by m twice count said [] h e = e
 end_by m twice count said (k ∷ ks) h e = absurd h
 
--- the answer at the end, by the invariant
+-- likewise, by the invariant
 leads_end : (all : List (List ℕ)) (m : LinkMap) (twice : Option ℕ) (count : ℕ) (left : List (List ℕ)) →
     Leads all m twice count left → left ≡ [] → (said : List MapLine) → AllZip Says all said → answer_of said
     ≡ end_answer m twice count
@@ -162,7 +163,7 @@ leads_end all m twice count left h e said are =
     let x = h said are in
     end_by m twice count said x.0 (subst (λ (ts : List (List ℕ)). AllZip Says ts x.0) e x.1) x.2
 
--- the answer at the end without a module
+-- without a module, the answer at the end is the number of the line after the last
 pub ends_early : (all : List (List ℕ)) (m : LinkMap) (twice : Option ℕ) (count : ℕ) (left : List (List ℕ)) →
     Leads all m twice count left → left ≡ [] → nat_lt 0 (length m.files) ≡ false
     → (said : List MapLine) → AllZip Says all said → answer_of said ≡ Line (count + 1)
@@ -170,7 +171,7 @@ ends_early all m twice count left h e none said are =
     leads_end all m twice count left h e said are ∙ ap (λ b.
     answered (if b then None else Some (suc count)) (sooner twice None) m) none ∙ ap Line (sym (add-one count))
 
--- the answer at the end after a repeated line
+-- after a repeated line, the answer at the end is the number of the first one
 pub ends_twice : (all : List (List ℕ)) (m map : LinkMap) (twice : Option ℕ) (number count : ℕ) (left : List (List ℕ)) →
     Leads all m twice count left → left ≡ [] → Ends (Some map) m → twice ≡ Some number
     → (said : List MapLine) → AllZip Says all said → answer_of said ≡ Twice number
@@ -179,7 +180,7 @@ ends_twice all m map twice number count left h e ends is said are =
     answered (if b then None else Some (suc count)) (sooner twice None) m) ends.0
     ∙ ap (λ o. answered None (sooner o None) m) is
 
--- the answer at the end is the map
+-- if there is a module and no line is repeated, the answer at the end is the map
 pub ends_well : (all : List (List ℕ)) (m map : LinkMap) (twice : Option ℕ) (count : ℕ) (left : List (List ℕ)) →
     Leads all m twice count left → left ≡ [] → Ends (Some map) m → twice ≡ None
     → (said : List MapLine) → AllZip Says all said → answer_of said ≡ Is map

@@ -30,7 +30,7 @@ pub record Holds (d : Draft) (m : maps.LinkMap) : Type 0 where
   pub exported : (a b : ℕ) → knows_block d.exported a b ≡ has_block m.exports a b
   pub imported : (a b : ℕ) → knows_block d.imported a b ≡ has_block m.imports a b
 
--- the number of the last module, if there is one
+-- this is the number of the last module, or `None` if there is none
 abbrev pub TellsModule : Option ℕ → maps.LinkMap → Type 0
 TellsModule None m = nat_lt 0 (length m.files) ≡ false
 TellsModule (Some number) m = (nat_lt 0 (length m.files) ≡ true) × (number ≡ last_module m)
@@ -45,7 +45,7 @@ Takes On d m number line = (may_stand m line ≡ true) × (repeats m line ≡ fa
 Takes Again d m number line = (may_stand m line ≡ true) × (repeats m line ≡ true) × Holds d (with_line m number line)
 Takes Stuck d m number line = may_stand m line ≡ false
 
--- the map at the end, if it has a module
+-- this is the map at the end, or `None` if it has no module
 abbrev pub Ends : Option maps.LinkMap → maps.LinkMap → Type 0
 Ends None m = nat_lt 0 (length m.files) ≡ false
 Ends (Some map) m = (nat_lt 0 (length m.files) ≡ true) × (map ≡ m)

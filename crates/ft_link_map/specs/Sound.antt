@@ -30,8 +30,8 @@ abbrev pub NameTwoBlocks : Ask → Ask → Type 0
 NameTwoBlocks a b = ¬ (NameOneBlock a b)
 
 -- a map by which modules can be linked: 1 to 64 files, and each export and import refers to one of them; the line
--- numbers of exports are strictly increasing, and so are those of imports, and no line is both; no name is exported
--- twice; no block is named by two imports or by an import and an export
+-- numbers of exports are strictly increasing, and so are those of imports; no line is both an export and an import; no
+-- name is exported twice; no block is named by two imports or by an import and an export
 pub record IsSound (linkage : LinkMap) : Type 0 where
   pub some_files : 1 ≤ length linkage.files
   pub few_files : length linkage.files ≤ 64

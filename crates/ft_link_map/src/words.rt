@@ -71,7 +71,7 @@ pub(crate) fn is_block_name(text: &[u8]) -> bool
     begins_name(text) && text.len() <= NAME_LIMIT
 }
 
-/// The number below 2^32 that a text spells in decimal; `None` exactly if there is no such number.
+/// The number below 2^32 that a text spells in decimal; `None` exactly when there is no such number.
 pub(crate) fn read_block(text: &[u8]) -> Option<u32>
     ensures some { IfSome result (λ n. text.now ≡ decimal n) }
     ensures none { IfNone result ((n : ℕ) → n < 2 ^ 32 → text.now ≢ decimal n) }

@@ -23,7 +23,7 @@ use Rattle.ft_modules.proofs.Exact.{unless_true}
 
 -- TOTALS
 
--- a sum over one more module
+-- a sum over the modules and one more is the sum so far plus the new module's part
 pub sum_more : (f : Object → ℕ) (ms : List Object) (o : Object) → sum_by f ms + f o ≡ sum_by f (ms ++ o ∷ [])
 sum_more f ms o = let a = sum_by-append f ms (o ∷ []) in let c = sum_by-cons f o [] in omega (arith, a, c)
 

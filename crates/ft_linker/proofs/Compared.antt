@@ -1,4 +1,4 @@
--- Nodes of two objects agree exactly if their numbers do.
+-- Nodes of two objects agree exactly when their numbers do.
 use Rattle.std.proofs.Common.{◌≡◌, ℕ, ◌+◌, true, false, List, [], length, slice_get, Option, Some, sym, ap, ◌∙◌, subst}
 use Rattle.std.proofs.Common.{true≢false}
 use Rattle.std.specs.Prelude.{◌↔◌, All, IsTrue}
@@ -20,7 +20,7 @@ use Rattle.ft_linker.specs.Numbers.{AreCompared, HasRow, HasPair}
 
 module _ (cs : List ℕ) (o : Object) (k : ℕ) (x : Object) (l : ℕ) (one : AreNodes o.nodes) (other : AreNodes x.nodes)
     (h : AreCompared cs o k x l) where
-  -- nodes of integers have the same number exactly if they stand for the same integer
+  -- nodes of integers have the same number exactly when they stand for the same integer
   pub integers_compared : (sc sd n m : ℕ) → IsNodeIn o.nodes sc false n → IsNodeIn x.nodes sd false m →
       number_in cs (k + n) ≡ number_in cs (l + m) ↔ SameInteger o x n m
   integers_compared sc sd n m p q =
@@ -43,11 +43,11 @@ module _ (cs : List ℕ) (o : Object) (k : ℕ) (x : Object) (l : ℕ) (one : Ar
 pub refuted : {P : Type 0} → (P → ⊥) → IsTrue false ↔ P
 refuted h = (λ e. absurd (true≢false (sym e)), λ p. absurd (h p))
 
--- a fact does not hold if it implies one that does not
+-- `false` also decides a fact that implies one that `false` decides
 pub without : {P Q : Type 0} → IsTrue false ↔ Q → (P → Q) → IsTrue false ↔ P
 without t f = (λ e. absurd (true≢false (sym e)), λ p. t.1 (f p))
 
--- the rows of a code type name nodes of integers, if the object obeys the rules of the format
+-- if an object obeys the rules of the format, so do its code types, and their rows name nodes of integers
 pub is_code_type : (o : Object) (t : ℕ) (y : CodeType) → IsSpellable o → slice_get o.types t ≡ Some y →
     IsCodeType (length o.types) o.nodes y
 is_code_type o t y s e = all_there (IsCodeType (length o.types) o.nodes) o.types t y s.types e
@@ -63,7 +63,7 @@ pairs_named o t y s e = all_of (HasPair o) y.queue (λ n q f.
     let is = all_there (IsQueueRow o.nodes y.ints) y.queue n q (is_code_type o t y s e).queue f in
     record { scope = y.ints; address = is.address; value = is.value })
 
--- two code types agree exactly if their variables, rows and memories do
+-- two code types agree exactly when their variables, rows and memories do
 module _ (o : Object) (t : ℕ) (x : Object) (u : ℕ) (y z : CodeType) (e : slice_get o.types t
     ≡ Some y) (f : slice_get x.types u ≡ Some z) where
   pub ints_say : LikeTypes o t x u → y.ints ≡ z.ints

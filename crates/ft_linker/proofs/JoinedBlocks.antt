@@ -71,7 +71,7 @@ have_blocks modules asks e = all_of (λ (a : Ask). HasBlock modules a.module a.b
     (not-false _ (none_found (λ (z : Ask). not (has_block modules z.module z.block)) asks (map_parts line_of _ e) n a
     f)))
 
--- whether a module has a block is read off its object
+-- whether a module has a block depends only on its object
 pub has_block_there : (modules : List Object) (m b : ℕ) (o : Object) → slice_get modules m ≡ Some o →
     nat_lt b (length o.blocks) ≡ has_block modules m b
 has_block_there modules m b o e = sym (ap (λ (u : Option Object).

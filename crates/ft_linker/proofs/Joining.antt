@@ -77,7 +77,7 @@ joined_some js ks i a u e longer =
 
 module _ (modules : List Object) (starts : List Before) (can : CanBeLaid modules) (are : starts
     ≡ laid start_part nothing_before modules) where
-  -- the totals before a module, in the table of starts
+  -- the table of starts has the totals before each module
   pub before_there : (m b : ℕ) → HasBlock modules m b → slice_get starts m
       ≡ Some (before_module nothing_before modules m)
   before_there m b h = ap (λ z. slice_get z m) are
@@ -147,7 +147,7 @@ number_fits modules starts can are m b k h e =
     let below = h.below in
     omega (arith, fits, below)
 
--- one more change, in front of the others
+-- the changes that a map holds, from join i on: one more change in front of the others, or none at the end
 pub change_next : (modules : List Object) (js : List Join) (i : ℕ) (j : Join) (d : Changes) → slice_get js i ≡ Some j →
     Holds d (change_of modules (link_as j) ∷ map (change_of modules) (map link_as (drop (i + 1) js))) →
     Holds d (map (change_of modules) (map link_as (drop i js)))

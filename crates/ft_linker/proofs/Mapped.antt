@@ -3,7 +3,7 @@ use Rattle.std.proofs.Common.{◌≡◌, ℕ, zero, suc, ◌+◌, List, [], ◌�
 use Rattle.std.proofs.Common.{slice_get, sym, ap, ◌∙◌, append_assoc, arith}
 use Rattle.std.proofs.lemmas.Option.{slice_get-get_or}
 
--- the image of one more element
+-- mapping one more element appends its image
 map_more : {X Y : Type 0} (f : X → Y) (xs : List X) (k : ℕ) (x : X) → slice_get xs k ≡ Some x → map f (take (suc k) xs)
     ≡ map f (take k xs) ++ f x ∷ []
 map_more f [] k x e = cc
@@ -21,6 +21,6 @@ pub mapped_pushed : {X Y : Type 0} (f : X → Y) (xs : List X) (front ys zs : Li
     ++ map f (take k xs) → slice_get xs k ≡ Some x → y ≡ f x → zs ≡ ys ++ y ∷ [] → zs ≡ front ++ map f (take (k + 1) xs)
 mapped_pushed f xs front ys zs k x y e g h p = p ∙ ap (λ z. ys ++ z ∷ []) h ∙ mapped_more f xs front ys k x e g
 
--- an element that is read by its index
+-- an element that is read by its index is in the list at this index
 pub at_index : {X : Type 0} (xs : List X) (k : ℕ) (x : X) → k < length xs → x ≡ get_or xs k x → slice_get xs k ≡ Some x
 at_index xs k x lt e = slice_get-get_or xs k x lt ∙ ap Some (sym e)

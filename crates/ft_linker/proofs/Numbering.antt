@@ -120,7 +120,7 @@ module _ (nodes : List Node) (cs : List ℕ) (n c : ℕ) (y : Node) (known next 
   first_next : (k : Shape) (d : ℕ) → next k ≡ Some d → First k d
   first_next k d e = first_by (test k) k d refl e
 
-  -- two numbers are equal exactly if the keys are
+  -- two numbers are equal exactly when the keys are
   numbers_of_keys : (i j : ℕ) (u z : Node) → i < n + 1 → j < n + 1 → slice_get nodes i ≡ Some u → slice_get nodes j
       ≡ Some z → number_in ds i ≡ number_in ds j → key_of ds u.shape ≡ key_of ds z.shape
   unfolding First
@@ -164,7 +164,7 @@ module _ (nodes : List Node) (cs : List ℕ) (n c : ℕ) (y : Node) (known next 
     first = first_next;
   }
 
--- before any node is numbered
+-- `AreKnown` holds before any node is numbered
 pub known_none : (nodes : List Node) (cs : List ℕ) (known : Shape → Option ℕ) → cs ≡ [] →
     ((q : Shape) → known q ≡ None) →
     AreKnown nodes cs 0 known
@@ -175,12 +175,12 @@ known_none nodes cs known e h = record {
   first = λ k c f. let g = sym (h k) ∙ f in cc;
 }
 
--- once all nodes are numbered
+-- once all nodes are numbered, `AreNumbered` holds
 pub all_known : (nodes : List Node) (cs : List ℕ) (n : ℕ) (known : Shape → Option ℕ) → AreKnown nodes cs n known → n
     ≡ length nodes → AreNumbered nodes cs
 all_known nodes cs n known h e = record { count = h.count ∙ e; trees = subst (AreTreeNumbers nodes cs) e h.trees }
 
--- one more node, where an equation gives the longer list
+-- `AreKnown` holds after one more node, given an equation for the longer list
 pub known_next : (nodes : List Node) (cs ds : List ℕ) (n c : ℕ) (y : Node) (known next : Shape →
     Option ℕ) (test : Shape →
     Bool) (k : Shape) → AreNodes nodes → AreKnown nodes cs n known → slice_get nodes n ≡ Some y → k

@@ -1,4 +1,4 @@
--- The order of keys treats two keys as equal exactly if they are the same.
+-- The order of keys treats two keys as equal exactly when they are the same.
 use Rattle.std.proofs.Common.{◌≡◌, true, refl, sym, ◌∙◌}
 use Rattle.std.specs.BTreeMap.{is_at}
 use Rattle.ft_static.specs.declared.node.Shape.{Shape}

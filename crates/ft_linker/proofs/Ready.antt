@@ -28,7 +28,7 @@ use Rattle.ft_linker.specs.Numbers.{AreCompared, AreNumbered}
 use Rattle.ft_linker.specs.Joins.{AreReady}
 use Rattle.ft_linker.specs.Linking.{AreAdded}
 
--- each `mov` of an accepted module has a word of the type that it claims
+-- the word of each `mov` of an accepted module has the type that the `mov` claims
 moves_of : (o : Object) → IsSpellable o → IsAccepted o → HasTypedMoves o
 moves_of o s a = λ n rd v b e.
     let p = instr_in_block o n (Mov rd v b) s e in

@@ -11,7 +11,7 @@ use Rattle.ft_modules.specs.Linked.{laid, nothing_before, after_module, before_m
 use Rattle.ft_linker.specs.Tables.{Fits, start_part, AreLaid, AddsModule}
 use Rattle.ft_linker.specs.declared.laying.Laid.{Laid}
 
--- one table after one more module
+-- appending a module's part to a table makes the table of one more module
 laid_more : {X : Type 0} (part : Before → Object → List X) (k : Before) (modules : List Object) (m : ℕ) (o : Object) →
     slice_get modules m ≡ Some o → laid part k (take m modules) ++ part (before_module k modules m) o
     ≡ laid part k (take (suc m) modules)
@@ -29,7 +29,7 @@ laid_next part modules m o k old new e f g h =
     h ∙ (λ i. g i ++ part (f i) o) ∙ laid_more part nothing_before modules m o e
     ∙ (let n : suc m ≡ m + 1 = omega arith in ap (λ j. laid part nothing_before (take j modules)) n)
 
--- all tables after one more module
+-- likewise for all tables
 pub all_next : (modules : List Object) (m : ℕ) (o : Object) (k : Before) (old new : Laid) → slice_get modules m
     ≡ Some o → k ≡ before_module nothing_before modules m → AreLaid (take m modules) old → AddsModule old new k o →
     AreLaid (take (m + 1) modules) new

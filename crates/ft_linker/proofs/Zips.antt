@@ -3,7 +3,7 @@ use Rattle.std.proofs.Common.{◌≡◌, ℕ, zero, suc, ◌+◌, List, [], ◌�
 use Rattle.std.proofs.Common.{subst, arith}
 use Rattle.std.specs.List.{AllZip}
 
--- one more element of each list
+-- prefixes that are related element by element still are with one more element each
 zip_next : {X : Type 0} (R : X → X → Type 0) (xs ys : List X) (k : ℕ) (x y : X) → AllZip R (take k xs) (take k ys) →
     slice_get xs k ≡ Some x → slice_get ys k ≡ Some y → R x y → AllZip R (take (suc k) xs) (take (suc k) ys)
 zip_next R [] ys k x y h e f r = cc
@@ -17,7 +17,7 @@ pub zip_more : {X : Type 0} (R : X → X → Type 0) (xs ys : List X) (k : ℕ) 
 zip_more R xs ys k x y h e f r = let n : suc k ≡ k + 1 = omega arith in
     subst (λ (j : ℕ). AllZip R (take j xs) (take j ys)) n (zip_next R xs ys k x y h e f r)
 
--- the elements at one index
+-- if two lists are related element by element, so are their elements at any index
 pub zip_at : {X : Type 0} (R : X → X → Type 0) (xs ys : List X) (k : ℕ) (x y : X) → AllZip R xs ys → slice_get xs k
     ≡ Some x → slice_get ys k ≡ Some y → R x y
 zip_at R [] ys k x y h e f = cc

@@ -40,8 +40,8 @@ pub record AreAdded (modules : List Object) : Type 0 where
   pub unrefused : turns_refusal modules ≡ None
   pub few : AreFew modules
 
--- the object is what the map makes of the modules; it obeys the rules, is accepted, runs as they do, and tolerates one
--- fault
+-- the object is the one into which the map links the modules; it obeys the rules, is accepted, runs as they do, and
+-- tolerates one fault
 pub record IsLinked (linkage : LinkMap) (modules : List Object) (o : Object) : Type 0 where
   pub first : Object
   pub others : List Object

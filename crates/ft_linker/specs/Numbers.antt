@@ -21,7 +21,7 @@ pub record AreKnown (nodes : List Node) (cs : List ℕ) (n : ℕ) (known : Shape
   pub each : (i : ℕ) (y : Node) → i < n → slice_get nodes i ≡ Some y → known (key_of cs y.shape) ≡ Some (number_in cs i)
   pub first : (k : Shape) (c : ℕ) → known k ≡ Some c → (y : Node) × (c < n) × (slice_get nodes c ≡ Some y) × (key_of cs y.shape ≡ k)
 
--- nodes of two objects, numbered from k and from l: two have equal numbers exactly if they stand for the same tree
+-- nodes of two objects, numbered from k and from l: two have equal numbers exactly when they stand for the same tree
 pub record AreCompared (cs : List ℕ) (o : Object) (k : ℕ) (x : Object) (l : ℕ) : Type 0 where
   pub from : k + length o.nodes ≤ length cs
   pub to : l + length x.nodes ≤ length cs

@@ -24,37 +24,37 @@ CanRaiseShape k y = EachPart (λ s m. k + m < 2 ^ 32) y
 abbrev pub CanRaiseNode : ℕ → Node → Type 0
 CanRaiseNode k y = CanRaiseShape k y.shape
 
--- rows of a code type
+-- likewise for the rows of a code type
 abbrev pub CanRaiseRow : ℕ → RegType → Type 0
 CanRaiseRow k r = k + r.expr < 2 ^ 32
 
 abbrev pub CanRaisePair : ℕ → ℕ × ℕ → Type 0
 CanRaisePair k q = (k + q.0 < 2 ^ 32) × (k + q.1 < 2 ^ 32)
 
--- a code type
+-- likewise for a code type
 pub record CanRaiseType (k : ℕ) (t : CodeType) : Type 0 where
   pub regs : Each (CanRaiseRow k) t.regs
   pub queue : Each (CanRaisePair k) t.queue
   pub memory : k + t.memory < 2 ^ 32
 
--- a block
+-- likewise for a block
 pub record CanRaiseBlock (k : Before) (b : Block) : Type 0 where
   pub start : k.instrs + b.start < 2 ^ 32
   pub code_type : k.types + b.code_type < 2 ^ 32
 
--- a substitution
+-- likewise for a substitution
 pub record CanRaiseSubst (k : Before) (u : Subst) : Type 0 where
   pub first : k.substs + u.first < 2 ^ 32
   pub past : k.substs + u.past < 2 ^ 32
   pub memory : k.nodes + u.memory < 2 ^ 32
 
--- the word and the claimed code type of a `mov`
+-- likewise for the word and the claimed code type of a `mov`
 abbrev pub CanRaiseOver : Before → ℕ → ℕ → Base → Type 0
 CanRaiseOver k w zero Int = Unit {0}
 CanRaiseOver k w zero (Code t) = (k.instrs + w < 2 ^ 64) × (k.types + t < 2 ^ 16)
 CanRaiseOver k w (suc n) base = Unit {0}
 
--- an instruction
+-- likewise for an instruction
 abbrev pub CanRaise : Before → Instr → Type 0
 CanRaise k (Mov rd value basic) = CanRaiseOver k value.word basic.refs basic.base
 CanRaise k (JmpB rd subst) = CanRaiseSubst k subst

@@ -21,7 +21,7 @@ pub record Fits (k : Before) (o : Object) : Type 0 where
   pub instrs : k.instrs + length o.instrs ≤ 65536
   pub substs : k.substs + length o.substs ≤ 1048576
 
--- each `mov` of a module has a word of the type that it claims
+-- the word of each `mov` of a module has the type that the `mov` claims
 abbrev pub HasTypedMoves : Object → Type 0
 HasTypedMoves o = (n : ℕ) (rd : Reg) (v : Coloured) (b : Basic) → slice_get o.instrs n ≡ Some (Mov rd v b) → HasType o v.word b
 

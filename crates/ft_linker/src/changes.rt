@@ -47,7 +47,7 @@ impl Changes {
         self.targets.get(&address).copied()
     }
 
-    /// An instruction; if it is a move of a redirected address, with the new address and code type.
+    /// The instruction, with the new address and code type if it is a move of a redirected address.
     fn change_instr(&self, instr: Instr) -> Instr
         ensures { (cs : List Change) → Holds self.now cs → result ≡ changed_instr cs instr }
     {

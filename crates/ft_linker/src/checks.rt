@@ -25,7 +25,7 @@ fn first_cells<'a>(objects: &'a [Object], object: &'a Object) -> &'a Table<Cell>
     }
 }
 
-/// Whether an object has the same cells as the objects before it, and the bases of all of them are `int`.
+/// Whether an object has the same cells as the objects before it, and all these cells have base `int`.
 fn has_cells(objects: &[Object], object: &Object) -> bool
     ensures { result ≡ (same_cells object.now.cells (cells_of objects.now object.now) && list_all is_plain_cell object.now.cells) }
 {

@@ -40,9 +40,9 @@ impl Linker {
         })
     }
 
-    /// Adds a checked program as the next module. It is refused exactly as `added_refusal` says: its cells differ from
-    /// the first module's or have a `code` base, a register row has a `code` base, the walk fails, or a total exceeds
-    /// its limit. After an error the linker is unchanged.
+    /// Adds a checked program as the next module. It is refused exactly as `added_refusal` says: if its cells differ
+    /// from the first module's or have a `code` base, if a register row has a `code` base, if the walk fails, or if a
+    /// total exceeds its limit. After an error the linker is unchanged.
     pub fn add<'a, P: Program>(&mut self, checked: &Checked<'a, P>) -> Result<(), LinkError>
         ensures ok { OnOk result (self.new ≡ self.old ++ P.object checked.now ∷ []) }
         ensures unrefused { OnOk result (added_refusal self.old (P.object checked.now) ≡ None) }
@@ -56,9 +56,10 @@ impl Linker {
         }
     }
 
-    /// Links the modules, in the map's order, by a sound map with as many files as there are modules, and consumes the
-    /// linker. The linked object obeys the rules of the format, is accepted, runs as the modules do, and tolerates one
-    /// fault. The errors are `Block`, `Stub`, `Missing` and `Types`, exactly as `refusal_of` says, and `NoMemory`.
+    /// Links the modules by a sound map and consumes the linker. The map has as many files as there are modules; they
+    /// correspond in order. The linked object obeys the rules of the format, is accepted, runs as the modules do, and
+    /// tolerates one fault. The errors are `Block`, `Stub`, `Missing` and `Types`, exactly as `refusal_of` says, and
+    /// `NoMemory`.
     pub fn finish(self, linkage: &LinkMap) -> Result<Object, LinkError>
         requires sound { IsSound linkage.now }
         requires modules { length self ≡ length linkage.now.files }

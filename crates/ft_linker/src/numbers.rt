@@ -60,7 +60,7 @@ fn number_key(known: &mut BTreeMap<Shape, u32>, key: Shape, next: u32) -> Result
     Ok(number)
 }
 
-/// Numbers the nodes in order: two nodes have the same number exactly if they stand for the same tree.
+/// Numbers the nodes in order: two nodes have the same number exactly when they stand for the same tree.
 pub fn number_trees(alloc: Global, nodes: &[Node]) -> Result<Vec<u32>, AllocError>
     requires { AreNodes nodes.now }
     ensures { IfOk result (λ v. AreNumbered nodes.now v.items) }

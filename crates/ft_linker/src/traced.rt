@@ -39,7 +39,7 @@ pub struct Traced {
 impl Traced {
     ghost use Rattle.ft_linker.specs.Stands.{Stands};
 
-    /// No register is entered.
+    /// The start of a walk, where no register is entered.
     pub fn new() -> Traced
         ensures { Stands result finite.empty }
     {

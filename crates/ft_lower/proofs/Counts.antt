@@ -17,7 +17,7 @@ loop_stack below s0 s1 r e body h g =
     same_from_push s1 (below ++ body_counts body) r (block_count body) (sym g ∙ h
     ∙ sym (append_assoc below (body_counts body) (block_count body ∷ [])))
 
--- a loop's counts, popped one after another
+-- the counts that are popped for a loop, one after another, are the loop's counts
 pub loop_taken : (s0 s1 s2 : List ℕ) (r : ℕ) (e : Expression Slot) (body : StatementList Slot) → r ≡ block_count body →
     s0 ≡ s1 ++ r ∷ [] → s1 ≡ s2 ++ body_counts body → s0 ≡ s2 ++ body_counts (loop e body none)
 loop_taken s0 s1 s2 r e body k g f =
@@ -35,7 +35,7 @@ choice_stack below s0 s1 p e x y h g =
     ≡ (((below ++ cy) ++ cx) ++ block_count y ∷ []) ++ block_count x ∷ [] = simp append_assoc in
     same_from_push s1 (((below ++ cy) ++ cx) ++ block_count y ∷ []) p (block_count x) (sym g ∙ h ∙ flat)
 
--- a choice's counts, pushed one after another
+-- the counts that are pushed for a choice, one after another, are the choice's counts
 pub choice_put : (s0 s1 s2 s3 s4 : List ℕ) (p q : ℕ) (e : Expression Slot) (x y : StatementList Slot) → s1 ≡ s0
     ++ body_counts y → s2 ≡ s1 ++ body_counts x → s3 ≡ s2 ++ q ∷ [] → s4 ≡ s3 ++ p ∷ [] → p ≡ block_count x → q
     ≡ block_count y → s4 ≡ s0 ++ body_counts (choose e x y none)
@@ -46,7 +46,7 @@ choice_put s0 s1 s2 s3 s4 p q e x y e1 e2 e3 e4 k l =
     let flat : (((s0 ++ cy) ++ cx) ++ q ∷ []) ++ p ∷ [] ≡ s0 ++ (cy ++ (cx ++ q ∷ p ∷ [])) = simp append_assoc in
     all ∙ flat ∙ ap (λ z. s0 ++ (cy ++ (cx ++ z ∷ p ∷ []))) l ∙ ap (λ z. s0 ++ (cy ++ (cx ++ block_count y ∷ z ∷ []))) k
 
--- a choice's counts, popped one after another
+-- the counts that are popped for a choice, one after another, are the choice's counts
 pub choice_taken : (s0 s1 s2 s3 s4 : List ℕ) (p q : ℕ) (e : Expression Slot) (x y : StatementList Slot) → p
     ≡ block_count x → q ≡ block_count y → s0 ≡ s1 ++ p ∷ [] → s1 ≡ s2 ++ q ∷ [] → s2 ≡ s3 ++ body_counts x → s3 ≡ s4
     ++ body_counts y → s0 ≡ s4 ++ body_counts (choose e x y none)

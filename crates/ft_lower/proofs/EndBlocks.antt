@@ -10,7 +10,7 @@ use Rattle.ft_lower.specs.Flow.{Place, on, first}
 use Rattle.ft_lower.specs.Lowered.{read, expression_steps, write, block_count, statement_steps, zeros}
 use Rattle.ft_lower.proofs.Runs.{next, after, after-append}
 
--- the block after two rows of steps
+-- the block after two rows of steps is the one after the second row, begun where the first ends
 pub block_append : (p : Place) (a b : List Step3) → (after p (a ++ b)).block ≡ (after (after p a) b).block
 block_append p a b = ap (λ (q : Place). q.block) (after-append p a b)
 

@@ -19,7 +19,7 @@ pub record EndsAt (bs : Blocks) (n c : ℕ) (p : Place) (s : State) (f : FlowSta
   pub many : s.left ≤ t.left + taken
   pub like : Like n p t end
 
--- likewise for a run that is cut: the flow reaches some state with its outputs
+-- likewise for a run that is cut: the flow reaches some state with the run's outputs
 pub record CutsAt (bs : Blocks) (c : ℕ) (s : State) (f : FlowState) (t : State) : Type 0 where
   pub end : FlowState
   pub taken : ℕ
@@ -34,7 +34,7 @@ abbrev pub Runs : Blocks → ℕ → ℕ → Place → State → FlowState → O
 Runs bs n c p s f (Ended t) = EndsAt bs n c p s f t
 Runs bs n c p s f (Cut t) = CutsAt bs c s f t
 
--- j steps come first
+-- if j steps lead to a state from which the flow runs with this outcome, it does so from the state before them
 pub prepend : (bs : Blocks) (n c d j : ℕ) (p : Place) (s s1 : State) (f f1 : FlowState) (r : Outcome) →
     Reaches bs j f f1 → j + c + 2 * s.work ≤ d + 2 * s1.work → s.left ≤ s1.left + j → Runs bs n d p s1 f1 r →
     Runs bs n c p s f r
@@ -56,7 +56,7 @@ prepend bs n c d j p s s1 f f1 (Cut t) to few many r = record {
   running = r.running;
 }
 
--- a jump follows
+-- if the flow runs to a jump, it also runs to the jump's target
 pub jump_on : (bs : Blocks) (n c to : ℕ) (p : Place) (s : State) (f : FlowState) (r : Outcome) → step_at bs p
     ≡ Some (Go n to) → Runs bs n (suc c) p s f r → Runs bs n c (first to) s f r
 jump_on bs n c to p s f (Ended t) at r =
@@ -79,7 +79,7 @@ jump_on bs n c to p s f (Cut t) at r = record {
   running = r.running;
 }
 
--- one run after another
+-- if one run follows another, the flow runs with the outcome of both in turn
 pub then_run : (bs : Blocks) (n c : ℕ) (p q : Place) (s : State) (f : FlowState) (r : Outcome) (go : State → Outcome) →
     Runs bs n c p s f r → (state_of r).left ≤ s.left → ((t : State) (g : FlowState) → t.left ≤ s.left → Like n p t g →
     Runs bs n 0 q t g (go t)) → Runs bs n c q s f (then_do r go)
@@ -87,7 +87,7 @@ then_run bs n c p q s f (Ended t) go r le k = prepend bs n c 0 r.taken q s t f r
     (omega (arith, r.few)) (omega (arith, r.many)) (k t r.end le r.like)
 then_run bs n c p q s f (Cut t) go r le k = r
 
--- a run that ends at an equal place
+-- a run that ends at a place ends at any equal place
 pub ends_at : (bs : Blocks) (n c : ℕ) (p q : Place) (s : State) (f : FlowState) (r : Outcome) → p ≡ q →
     Runs bs n c p s f r → Runs bs n c q s f r
 ends_at bs n c p q s f r e h = subst (λ x. Runs bs n c x s f r) e h

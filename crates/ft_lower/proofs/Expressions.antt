@@ -24,7 +24,7 @@ pub record Like (n : ℕ) (p : Place) (s : State) (f : FlowState) : Type 0 where
   pub out : f.out ≡ s.out
   pub running : f.done ≡ false
 
--- an equal place
+-- `Like` holds at any equal place
 pub moved : (n : ℕ) (p q : Place) (s : State) (f : FlowState) → p ≡ q → Like n p s f → Like n q s f
 moved n p q s f e l = subst (λ r. Like n r s f) e l
 
@@ -60,7 +60,7 @@ put_first n t v b p s f le l = record {
   running = l.running;
 }
 
--- one step with a known effect
+-- a step whose effect is known leads to its result in one step of the run
 pub reach_act : (bs : Blocks) (n : ℕ) (p : Place) (s : State) (f g : FlowState) (i : Step3) → Like n p s f →
     step_at bs p ≡ Some i → act i f ≡ g → Reaches bs 1 f g
 reach_act bs n p s f g i l at e = subst (λ h. Reaches bs 1 f h) e (reach_one bs f i l.running (ap (step_at bs) l.place
@@ -76,7 +76,7 @@ pub record Valued (bs : Blocks) (n : ℕ) (p : Place) (t : ℕ) (e : Expression 
     pub lower : (q : ℕ) → q < t → end.pairs q ≡ f.pairs q
 
 module _ (bs : Blocks) (n m : ℕ) (s : State) where
-  -- a step that puts a word into pair t
+  -- a step that puts an expression's value into pair t computes the expression
   one : (t v : ℕ) (e : Expression Slot) (i : Step3) (p : Place) (f : FlowState) → n ≤ t → expression_nodes e ≡ 1 →
       step_at bs p ≡ Some i → act i f ≡ goes_on (with_pair t v f) → v ≡ value e s.vars s.cells → Like n p s f →
       Valued bs n (on p) t e s f

@@ -109,7 +109,7 @@ module _ (xs : List (Stmt Slot)) (i : ℕ) (s : Stmt Slot) (lt : i < length xs) 
   steps_left n b c e = ap (statement_steps n b) left
       ∙ steps_follow n b c (plain_statement same_slot s none) (plain_list same_slot (drop (i + 1) xs)) e
 
--- a loop's steps, appended one after another
+-- the steps that are appended for a loop, one after another, are the loop's steps
 pub loop_steps : (s0 s1 s2 s3 s4 s5 : List Step3) (n b r : ℕ) (e : Expression Slot) (body : StatementList Slot) → r
     ≡ b + 2 + block_count body → s1 ≡ s0 ++ Go n (b + 1) ∷ [] → s2 ≡ s1 ++ expression_steps (n + 1) e → s3 ≡ s2
     ++ Exit (n + 1) n r ∷ [] → s4 ≡ s3 ++ statement_steps n (b + 1) body → s5 ≡ s4 ++ Go n (b + 1) ∷ [] → s5 ≡ s0
@@ -123,7 +123,7 @@ loop_steps s0 s1 s2 s3 s4 s5 n b r e body k e1 e2 e3 e4 e5 =
     ++ go ∷ (ce ++ (Exit (n + 1) n r ∷ (cb ++ go ∷ []))) = simp append_assoc in
     all ∙ flat ∙ ap (λ z. s0 ++ go ∷ (ce ++ (Exit (n + 1) n z ∷ (cb ++ go ∷ [])))) k
 
--- a choice's steps, appended one after another
+-- the steps that are appended for a choice, one after another, are the choice's steps
 pub choice_steps : (s0 s1 s2 s3 s4 s5 s6 : List Step3) (n b p q : ℕ) (e : Expression Slot) (x y : StatementList Slot) →
     p ≡ b + 1 + block_count x → q ≡ b + 2 + block_count x + block_count y → s1 ≡ s0 ++ expression_steps (n + 1) e → s2
     ≡ s1 ++ Exit (n + 1) n p ∷ [] → s3 ≡ s2 ++ statement_steps n b x → s4 ≡ s3 ++ Go n q ∷ [] → s5 ≡ s4

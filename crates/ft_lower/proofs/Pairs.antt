@@ -28,7 +28,7 @@ module _ (m : ℕ) where
   abbrev Below : Step3 → Type 0
   Below i = All (λ p. p < m) (pairs_of i)
 
-  -- lists of pairs below m
+  -- if one, two or three pairs are below m, so are all pairs of their list
   one_pair : (p : ℕ) → p < m → All (λ p. p < m) (p ∷ [])
   one_pair p h = All-cons (λ p. p < m) p [] h (All-nil (λ p. p < m))
 
@@ -38,15 +38,15 @@ module _ (m : ℕ) where
   three_pairs : (p q s : ℕ) → p < m → q < m → s < m → All (λ p. p < m) (p ∷ q ∷ s ∷ [])
   three_pairs p q s h g f = All-cons (λ p. p < m) p (q ∷ s ∷ []) h (two_pairs q s g f)
 
-  -- a row of one step
+  -- a row of one step names only pairs below m if the step does
   alone : (i : Step3) → Below i → All Below (i ∷ [])
   alone i h = All-cons Below i [] h (All-nil Below)
 
-  -- a row that begins with an exit
+  -- a row that begins with an exit names only pairs below m if the steps after the exit do
   after_exit : (n to : ℕ) (is : List Step3) → n + 1 < m → All Below is → All Below (Exit (n + 1) n to ∷ is)
   after_exit n to is h rest = All-cons Below (Exit (n + 1) n to) is (two_pairs (n + 1) n h (omega arith)) rest
 
-  -- a row that begins with a jump
+  -- a row that begins with a jump names only pairs below m if the steps after the jump do
   after_go : (n to : ℕ) (is : List Step3) → n < m → All Below is → All Below (Go n to ∷ is)
   after_go n to is h rest = All-cons Below (Go n to) is (one_pair n h) rest
 
@@ -135,7 +135,7 @@ module _ (m : ℕ) where
   zeros_below zero le = All-nil Below
   zeros_below (suc k) le = All-push Below (zeros k) (Put k 0) (zeros_below k (omega arith)) (one_pair k (omega arith))
 
-  -- this still holds after cutting into blocks
+  -- once a row is cut into blocks, its steps still name only pairs below m
   below_onto : (o is : List Step3) → All Below o → All Below is → All (All Below) (blocks_onto o is)
   below_onto [] [] h g = All-nil (All Below)
   below_onto (x ∷ o) [] h g = All-cons (All Below) (x ∷ o) [] h (All-nil (All Below))

@@ -25,12 +25,12 @@ use Rattle.ft_lower.specs.Lowered.{blocks_onto}
 abbrev pub Reaches : Blocks → ℕ → FlowState → FlowState → Type 0
 Reaches bs = Leads (flow_step bs)
 
--- i steps, followed by j
+-- i steps followed by j steps are i + j steps
 pub reach_trans : (bs : Blocks) (i j : ℕ) (f g h : FlowState) → Reaches bs i f g → Reaches bs j g h →
     Reaches bs (i + j) f h
 reach_trans bs = lead_on (flow_step bs)
 
--- one step
+-- a run that is not done takes the step at its place
 pub reach_one : (bs : Blocks) (f : FlowState) (i : Step3) → f.done ≡ false → step_at bs f.place ≡ Some i →
     Reaches bs 1 f (act i f)
 reach_one bs f i run at = record { is = ap (λ b. act_if b (step_at bs f.place) f) run ∙ ap (λ o. act_if false o f) at }
@@ -109,7 +109,7 @@ abbrev pub after : Place → List Step3 → Place
 after p [] = p
 after p (i ∷ is) = after (next i p) is
 
--- the place after two rows
+-- the place after two rows is the one after the second row, begun where the first ends
 pub after-append : (p : Place) (a b : List Step3) → after p (a ++ b) ≡ after (after p a) b
 after-append p [] b = refl
 after-append p (i ∷ a) b = after-append (next i p) a b
@@ -124,7 +124,7 @@ pub has_front : (bs : Blocks) (p : Place) (a b : List Step3) → HasAt bs p (a +
 has_front bs p [] b h = tt
 has_front bs p (i ∷ a) b h = (h.0, has_front bs (next i p) a b h.1)
 
--- they hold the second after it
+-- they hold the second row after the first
 pub has_back : (bs : Blocks) (p : Place) (a b : List Step3) → HasAt bs p (a ++ b) → HasAt bs (after p a) b
 has_back bs p [] b h = h
 has_back bs p (i ∷ a) b h = has_back bs (next i p) a b h.1
@@ -135,7 +135,7 @@ record Begun (open_block left : List Step3) : Type 0 where
   others : Blocks
   is : blocks_onto open_block left ≡ (open_block ++ rest) ∷ others
 
--- so it does whether or not the next step ends the block
+-- the first block begins this way whether or not the next step ends it
 begun_by : (x : Step3) (o : List Step3) (i : Step3) (is : List Step3) (b : Bool) → Begun (x ∷ (o ++ i ∷ [])) is →
     (rest : List Step3) × (others : Blocks) × ((elim b as (λ b. Blocks) [
       | true ↦ (x ∷ (o ++ i ∷ [])) ∷ blocks_onto [] is
@@ -144,18 +144,18 @@ begun_by : (x : Step3) (o : List Step3) (i : Step3) (is : List Step3) (b : Bool)
 begun_by x o i is true d = (i ∷ [], blocks_onto [] is, refl)
 begun_by x o i is false d = (i ∷ d.rest, d.others, d.is ∙ ap (λ l. (x ∷ l) ∷ d.others) (append_assoc o (i ∷ []) d.rest))
 
--- it does for an open block with a first step
+-- the first block begins this way if the open block has a first step
 begun : (x : Step3) (open_block is : List Step3) → Begun (x ∷ open_block) is
 begun x o [] = record { rest = []; others = []; is = ap (λ l. l ∷ []) (sym (append-nil (x ∷ o))) }
 begun x o (i ∷ is) = let b = begun_by x o i is (is_last i) (begun x (o ++ i ∷ []) is) in
     record { rest = b.0; others = b.1; is = b.2 }
 
--- it does for an open block with a last step
+-- the first block begins this way if the open block has a last step
 begun_after : (o : List Step3) (i : Step3) (is : List Step3) → Begun (o ++ i ∷ []) is
 begun_after [] i is = begun i [] is
 begun_after (x ∷ o) i is = begun x (o ++ i ∷ []) is
 
--- the step after those of the open block
+-- the step after those of the open block is at the next index of the block that begins with them
 here : (bs : Blocks) (o rest : List Step3) (others : Blocks) (i : Step3) →
     step_at (bs ++ (o ++ i ∷ rest) ∷ others) (record { block = length bs; index = length o }) ≡ Some i
 here bs o rest others i =

@@ -30,7 +30,7 @@ module _ (bs : Blocks) (n m : ℕ) where
     reaches : Reaches bs (expression_nodes e + 1) f end
     like : Like n p (evaluated e s) end
 
-  -- a test, given what its exit does
+  -- the flow takes the steps of a test, given what its exit does
   tested_by : (e : Expression Slot) (to : ℕ) (p q : Place) (s : State) (f g : FlowState) →
       (V : Valued bs n (after p (expression_steps (n + 1) e)) (n + 1) e s f) →
       step_at bs (after p (expression_steps (n + 1) e)) ≡ Some (Exit (n + 1) n to) → act (Exit (n + 1) n to) V.end ≡ g →
@@ -42,7 +42,7 @@ module _ (bs : Blocks) (n m : ℕ) where
     like = like_evaluated n q e s g l;
   }
 
-  -- if the word is 0, the exit is taken
+  -- if the value of the test is 0, the exit is taken
   tested_zero : (e : Expression Slot) (to : ℕ) (p : Place) (s : State) (f : FlowState) →
       Valued bs n (after p (expression_steps (n + 1) e)) (n + 1) e s f →
       step_at bs (after p (expression_steps (n + 1) e))
@@ -52,7 +52,7 @@ module _ (bs : Blocks) (n m : ℕ) where
       tested_by e to p (first to) s f a V at (ap (λ v. at_zero v a (goes_on (with_pair n 0 V.end))) (V.value ∙ z))
       (put_first n n 0 to _ s V.end (omega arith) V.like)
 
-  -- if it is not, the flow goes on
+  -- if the value is not 0, the flow goes on
   tested_suc : (e : Expression Slot) (to v : ℕ) (p : Place) (s : State) (f : FlowState) →
       Valued bs n (after p (expression_steps (n + 1) e)) (n + 1) e s f →
       step_at bs (after p (expression_steps (n + 1) e))
@@ -66,7 +66,7 @@ module _ (bs : Blocks) (n m : ℕ) where
 
   -- ASSIGNMENTS
 
-  -- the variables after one is set
+  -- after a variable is set, the pairs still hold the variables
   set_var : (x y v : ℕ) (vs : List ℕ) (g : FlowState) → x < length vs → g.pairs y ≡ slice_index vs y →
       (with_pair x v g).pairs y ≡ slice_index (slice_set vs x v) y
   set_var x y v vs g h old =
@@ -89,7 +89,7 @@ module _ (bs : Blocks) (n m : ℕ) where
     running = l.running;
   }
 
-  -- a write is an assignment
+  -- the step that writes has the effect of an assignment
   written : (to : Slot) (v : ℕ) (e : Expression Slot) (p : Place) (s : State) (f : FlowState) → SlotFits m n to →
       f.pairs (n + 1) ≡ v → Like n p s f → Like n (next (write n to) p) (assigned to v (evaluated e s))
       (act (write n to) f)
@@ -110,7 +110,7 @@ module _ (bs : Blocks) (n m : ℕ) where
       (sym is)
       (set_cell c v p (evaluated e s) f (like_evaluated n p e s f l))
 
-  -- a write with an index is an assignment to the cell that the index selects
+  -- likewise for a write with an index: it assigns to the cell that the index selects
   written_at : (c k w v : ℕ) (i e : Expression Slot) (p : Place) (s : State) (f : FlowState) → f.pairs (n + 1) ≡ w →
       f.pairs (n + 2) ≡ v → Like n p s f → Like n (on p) (assigned (Cell (cell_of_run c k w)) v (evaluated_both i e s))
       (act (write n (Run c k)) f)
@@ -122,7 +122,7 @@ module _ (bs : Blocks) (n m : ℕ) where
       (goes_on (with_pair n 0 (with_cell to x f)))) (sym is)
       (set_cell to v p (evaluated_both i e s) f (like_both n p i e s f l)))
 
-  -- an assignment takes no more steps than twice its work
+  -- an assignment takes at most twice as many steps as its work
   work_of : (to : Slot) (v : ℕ) (e : Expression Slot) (s : State) →
       expression_nodes e + 1 + 0 + 2 * s.work ≤ 0 + 2 * (assigned to v (evaluated e s)).work
   work_of (Var x) v e s = omega arith
@@ -136,7 +136,7 @@ module _ (bs : Blocks) (n m : ℕ) where
   left_of (Cell c) v e s = omega arith
   left_of (Run c k) v e s = omega arith
 
-  -- a choice gives back no turns
+  -- a choice leaves no more turns than there were before it if each of its sides does so
   zero_less : (v : ℕ) (s : State) (a b : Outcome) → (state_of a).left ≤ s.left → (state_of b).left ≤ s.left →
       (state_of (at_zero v a b)).left ≤ s.left
   zero_less zero s a b p q = p
@@ -144,7 +144,7 @@ module _ (bs : Blocks) (n m : ℕ) where
 
   -- CHOICES
 
-  -- a test followed by one of two sides and its jump is a choice
+  -- a test, followed by one of two sides and that side's jump, runs as a choice
   choose_run : (v : ℕ) (e : Expression Slot) (to end : ℕ) (p p3 p5 : Place) (s : State) (f : FlowState)
       (ra rb : Outcome) → value e s.vars s.cells ≡ v →
       Valued bs n (after p (expression_steps (n + 1) e)) (n + 1) e s f →
@@ -196,7 +196,7 @@ module _ (bs : Blocks) (n m : ℕ) where
           like = T.like;
         }
 
-    -- a turn follows the program, if the turns after it do
+    -- an iteration follows the program if the iterations after it do
     turn_run : (l w : ℕ) (s : State) (f : FlowState) (rest : State → Outcome) → l ≡ s.left → value e s.vars s.cells
         ≡ suc w → Valued bs n (after (first head) (expression_steps (n + 1) e)) (n + 1) e s f →
         ((t : State) (g : FlowState) → suc t.left ≤ l → Like n (first head) t g → Runs bs n 1 (first out) t g (rest t))

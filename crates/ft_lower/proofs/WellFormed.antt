@@ -89,7 +89,7 @@ module _ (n m : ℕ) (blocks : ℕ) where
   FlatIsWell k [] = Unit {0}
   FlatIsWell k (i ∷ is) = StepIsWell k i × FlatIsWell (after_step i k) is
 
-  -- what is known after two rows
+  -- what is known after two rows is what is known after the second, begun with what is known after the first
   walk-append : (k : Known) (a b : List Step3) → walk k (a ++ b) ≡ walk (walk k a) b
   walk-append k [] b = refl
   walk-append k (i ∷ a) b = walk-append (after_step i k) a b
@@ -99,7 +99,8 @@ module _ (n m : ℕ) (blocks : ℕ) where
   flat-append k [] b p q = q
   flat-append k (i ∷ a) b p q = (p.0, flat-append (after_step i k) a b p.1 q)
 
-  -- an expression's steps are well formed, leave pair t known, and leave the pairs below unchanged
+  -- an expression's steps are well formed, leave the variables and pair t known, and do not change what is known about
+  -- the pairs below t
   record FlatExpression (t : ℕ) (k : Known) (e : Expression Slot) : Type 0 where
     well : FlatIsWell k (expression_steps t e)
     knows : Knows n (walk k (expression_steps t e))
@@ -182,19 +183,19 @@ module _ (n m : ℕ) (blocks : ℕ) where
     well : FlatIsWell k is
     knows : Knows n (walk k is)
 
-  -- one row followed by another
+  -- a well-formed row followed by a `FlatRow` is a `FlatRow`
   flat_then : (k : Known) (a b : List Step3) → FlatIsWell k a → FlatRow (walk k a) b → FlatRow k (a ++ b)
   flat_then k a b p q = record {
     well = flat-append k a b p q.well;
     knows = subst (λ (f : Known). Knows n f) (sym (walk-append k a b)) q.knows;
   }
 
-  -- a jump followed by a row
+  -- a jump followed by a `FlatRow` is a `FlatRow`
   flat_go : (k : Known) (to : ℕ) (is : List Step3) → to < blocks → 0 < to → Knows n k → FlatRow (pairs_below n) is →
       FlatRow k (Go n to ∷ is)
   flat_go k to is there entry h R = record { well = ((target to there entry, keeps k h), R.well); knows = R.knows }
 
-  -- an exit followed by a row
+  -- an exit followed by a `FlatRow` is a `FlatRow`
   flat_exit : (k : Known) (to : ℕ) (is : List Step3) → to < blocks → 0 < to → k (n + 1) ≡ true → Knows n k →
       FlatRow (forget n k) is → FlatRow k (Exit (n + 1) n to ∷ is)
   flat_exit k to is there entry here h R = record {
@@ -203,7 +204,7 @@ module _ (n m : ℕ) (blocks : ℕ) where
     knows = R.knows;
   }
 
-  -- an assignment followed by a row
+  -- an assignment followed by a `FlatRow` is a `FlatRow`
   flat_write : (to : Slot) (k : Known) (is : List Step3) → SlotFits m n to → k (n + 1) ≡ true → Knows n k →
       ((k1 : Known) → Knows n k1 → FlatRow k1 is) → FlatRow k (write n to ∷ is)
   flat_write (Var x) k is fits here h rest = let R = rest (learn x k) (λ y l. learn_keeps x k y (h y l)) in
@@ -212,7 +213,7 @@ module _ (n m : ℕ) (blocks : ℕ) where
       record { well = ((fits, (here, λ e. omega arith)), R.well); knows = R.knows }
   flat_write (Run c l) k is fits here h rest = absurd fits
 
-  -- an assignment with an index, followed by a row
+  -- an assignment with an index, followed by a `FlatRow`, is a `FlatRow`
   flat_write_at : (to : Slot) (k : Known) (is : List Step3) → RunFits m to → k (n + 1) ≡ true → k (n + 2) ≡ true →
       Knows n k → ((k1 : Known) → Knows n k1 → FlatRow k1 is) → FlatRow k (write n to ∷ is)
   flat_write_at (Var x) k is fits index here h rest = absurd fits
@@ -307,7 +308,7 @@ module _ (n m : ℕ) (blocks : ℕ) where
   IsOpen [] = Unit {0}
   IsOpen (i ∷ is) = (is_last i ≡ false) × IsOpen is
 
-  -- appending a step that ends no block
+  -- an open block stays open when a step that ends no block is appended
   open-append : (o : List Step3) (i : Step3) → IsOpen o → is_last i ≡ false → IsOpen (o ++ i ∷ [])
   open-append [] i h e = (e, tt)
   open-append (x ∷ o) i h e = (h.0, open-append o i h.1 e)
@@ -321,13 +322,13 @@ module _ (n m : ℕ) (blocks : ℕ) where
   closed [] i h e = subst (λ b. EndIs b []) (sym e) refl
   closed (x ∷ o) i h e = subst (λ b. EndIs b (o ++ i ∷ [])) (sym h.0) (closed o i h.1 e)
 
-  -- appending a step that is well formed
+  -- a row stays well formed when a well-formed step is appended
   row-append : (k : Known) (o : List Step3) (i : Step3) → RowIsWell n m blocks k o → StepIsWell (row_known k o) i →
       RowIsWell n m blocks k (o ++ i ∷ [])
   row-append k [] i h w = (w.0, w.1, tt)
   row-append k (x ∷ o) i h w = (h.0, h.1, row-append (known_after x k) o i h.2 w)
 
-  -- what is known after one more step
+  -- what is known after one more step is what this step leaves known
   row_known-append : (k : Known) (o : List Step3) (i : Step3) → row_known k (o ++ i ∷ [])
       ≡ known_after i (row_known k o)
   row_known-append k [] i = refl

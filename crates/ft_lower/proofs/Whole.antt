@@ -25,7 +25,7 @@ pub record IsResolved (p : Program) : Type 0 where
   pub need : program_need p ≤ 32
   pub weight : program_weight p ≤ 65536
 
--- the state after the zeros at the start
+-- what the steps for the zeros at the start lead to: a running state at place p with 0 in each pair
 record Fresh (bs : Blocks) (k : ℕ) (p : Place) (f : FlowState) : Type 0 where
   end : FlowState
   reaches : Reaches bs k f end
@@ -142,7 +142,7 @@ running_from bs f k (Ended s) h d =
     subst (λ o. Begins (steps bs k f).out o) h.3 (out_grows bs f k h.0 (omega (arith, lt)))
 running_from bs f k (Cut s) h d = subst (λ o. Begins (steps bs k f).out o) h.4 (out_grows bs f k h.0 h.1)
 
--- if the program ends, the run is done with its outputs after twice the work plus 40 steps
+-- if the program ends, the run is done with its outputs after twice the work plus 40 steps, or more
 ends_from : (bs : Blocks) (f : FlowState) (k t : ℕ) (s : State) → Follows bs f t (Ended s) → 2 * s.work + 40 ≤ k →
     ((steps bs k f).done ≡ true) × ((steps bs k f).out ≡ s.out)
 ends_from bs f k t s h le = let e = done_stays bs f h.0 k (omega (arith, h.1)) h.2 in

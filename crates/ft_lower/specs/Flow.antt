@@ -74,7 +74,7 @@ block_of bs b = unwrap_or (slice_get bs b) []
 abbrev pub step_at : Blocks → Place → Option Step3
 step_at bs p = slice_get (block_of bs p.block) p.index
 
--- a step, if there is one and the run is not done
+-- the effect of a step, if there is one and the run is not done; otherwise nothing changes
 abbrev pub act_if : Bool → Option Step3 → FlowState → FlowState
 act_if true o f = f
 act_if false None f = f

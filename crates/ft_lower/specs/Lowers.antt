@@ -5,13 +5,13 @@ use Rattle.ft_meaning.specs.Meaning.{State, Ended, Cut, outputs, meaning}
 use Rattle.ft_meaning.specs.Begins.{Begins}
 use Rattle.ft_lower.specs.Flow.{Blocks, flow_run}
 
--- the run of the blocks commits what the program means, and ends when that does
+-- the run of the blocks commits the outputs of the program's meaning, and ends when the meaning ends
 pub record Lowers (p : Program) (bs : Blocks) : Type 0 where
   -- a run that is done after k steps has the outputs of the meaning with k turns, which has ended
   pub done : (k : ℕ) → (flow_run bs p.inits k).done ≡ true → (s : State) × (meaning p k ≡ Ended s) × ((flow_run bs p.inits k).out ≡ s.out)
   -- a run that is not done has outputs that are a prefix of the meaning's
   pub running : (k : ℕ) → (flow_run bs p.inits k).done ≡ false → Begins (flow_run bs p.inits k).out (outputs (meaning p k))
-  -- if the meaning ends, the run is done with its outputs after twice the work plus 40 steps
+  -- if the meaning ends, the run is done with its outputs after twice the work plus 40 steps, or more
   pub ends : (k t : ℕ) (s : State) → meaning p t ≡ Ended s → 2 * s.work + 40 ≤ k → ((flow_run bs p.inits k).done ≡ true) × ((flow_run bs p.inits k).out ≡ s.out)
   -- if the meaning is cut, its outputs are a prefix of the run's after twice its work plus 40 steps, or more
   pub cuts : (k t : ℕ) (s : State) → meaning p t ≡ Cut s → 2 * s.work + 40 ≤ k → Begins s.out (flow_run bs p.inits k).out

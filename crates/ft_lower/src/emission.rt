@@ -101,8 +101,8 @@ fn next_count(counts: &mut Vec<u32>) -> u32
     counts.pop().unwrap()
 }
 
-/// Appends the steps of statements that begin within a block, if the variables' pairs are those below the spare, and
-/// the top of the stack has the counts for their bodies. Returns the block in which they end.
+/// Appends the steps of statements that begin within a block, given that the variables' pairs are those below the
+/// spare, and that the counts for their bodies are on top of the stack. Returns the block in which they end.
 #[cycle(emit)]
 fn emit_statements(
     steps: &mut Vec<Step3>,
@@ -125,8 +125,8 @@ fn emit_statements(
     Ok(at)
 }
 
-/// Appends the steps of a statement that begins within a block, if the variables' pairs are those below the spare, and
-/// the top of the stack has the counts for its bodies. Returns the block in which it ends.
+/// Appends the steps of a statement that begins within a block, given that the variables' pairs are those below the
+/// spare, and that the counts for its bodies are on top of the stack. Returns the block in which it ends.
 #[tactic(auto, using(crate::proofs::Forms::forms))]
 #[cycle(emit)]
 fn emit_statement(

@@ -1,10 +1,10 @@
 //! Lowering: blocks of three-address steps that do what a program means.
 //!
-//! The crate promises that `lower` returns a well-formed flow, with at most as many instructions as the
-//! program weighs and no more pairs than it needs, and that the flow's run commits what the program means
-//! and ends when that does. Its definitions: `specs/Flow.antt` (steps and runs), `specs/Well.antt` (well-formed
-//! flows), `specs/Lowers.antt` (what a program's flow does). How statements become blocks is in
-//! `specs/Lowered.antt`, which the clauses of `lower` do not cite.
+//! The crate promises that `lower` returns a well-formed flow, with at most as many instructions as the program weighs
+//! and no more pairs than it needs, and that the flow's run commits the outputs of the program's meaning and ends when
+//! the meaning ends. Its definitions: `specs/Flow.antt` (steps and runs), `specs/Well.antt` (well-formed flows),
+//! `specs/Lowers.antt` (what a program's flow does). How statements become blocks is defined in `specs/Lowered.antt`,
+//! which the clauses of `lower` do not cite.
 #![tactic(auto)]
 
 mod counting;

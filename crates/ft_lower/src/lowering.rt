@@ -15,9 +15,10 @@ use ft_scope::Prog;
 use std::alloc::Global;
 
 /// Returns the flow of a program: well formed, with fewer than 32 variables, no more instructions than the program
-/// weighs and no pair at or above its need; its run commits what the program means, and ends when the program ends.
+/// weighs and no pair at or above the program's need; its run commits the outputs of the program's meaning, and ends
+/// when the meaning ends.
 ///
-/// Its recursion is no deeper than statements and operators nest in the source.
+/// Its recursion is no deeper than the nesting of statements and operators in the source.
 pub fn lower(alloc: Global, prog: &Prog<'_>) -> Result<Flow, NoMemory>
     ensures vars { IfOk result (λ f. f.vars ≡ prog.now.vars) }
     ensures cells { IfOk result (λ f. f.cells ≡ length prog.now.inits.items) }

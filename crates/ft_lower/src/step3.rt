@@ -34,14 +34,14 @@ pub enum Step3 {
         q: u8,
         spare: u8,
     },
-    /// Pair `p` gets the word of the cell at `first` plus the word of pair `q` modulo `length`.
+    /// Pair `p` gets the word of cell `first` + (the word of pair `q` modulo `length`).
     LoadAt {
         p: u8,
         q: u8,
         first: u32,
         length: u32,
     },
-    /// The cell at `first` plus the word of pair `i` modulo `length` gets the word of pair `q`; this is an output.
+    /// Cell `first` + (the word of pair `i` modulo `length`) gets the word of pair `q`; this is an output.
     StoreAt {
         first: u32,
         length: u32,

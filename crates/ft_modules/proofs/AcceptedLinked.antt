@@ -60,13 +60,13 @@ no_pairs o x [] [] e l = refl
 no_pairs o x [] (q ∷ qs) e l = absurd l
 no_pairs o x (r ∷ rs) qs e l = cc
 
--- a node with the shape of the memory variable stands for it
+-- a node whose shape is the memory variable stands for the memory variable
 variable_memory : (o : Object) (n : ℕ) → AreNodes o.nodes → HasShape o.nodes n shape.Memory →
     memory_at (trees o.nodes) n ≡ memory_variable
 variable_memory o n nodes s = ap memory_part (tree_at-row o.nodes n s.node nodes s.found)
     ∙ ap (λ (y : Shape). memory_part (tree_of (trees o.nodes) y)) s.shape
 
--- a memory's node that stands for the memory variable has its shape
+-- a memory shape that stands for the memory variable is the memory variable
 variable_shape : (x : Object) (y : Shape) → is_memory y ≡ true → memory_part (tree_of (trees x.nodes) y)
     ≡ memory_variable → y ≡ shape.Memory
 variable_shape x shape.Memory m e = refl
@@ -120,7 +120,7 @@ module _ (linkage : LinkMap) (first : Object) (others : List Object) (h : AreLin
   spelled : IsSpellable x
   spelled = spelled_linked linkage first others h
 
-  -- what is known of a module
+  -- each of the modules satisfies `IsModule`
   mine : (m : ℕ) (o : Object) → slice_get modules m ≡ Some o → IsModule first.cells o
   mine m o e = is_module linkage first others h spelled m o e
 
@@ -155,7 +155,7 @@ module _ (linkage : LinkMap) (first : Object) (others : List Object) (h : AreLin
 
   -- THE ENTRY
 
-  -- the entry block of the first module
+  -- the first module's block at its entry index is its entry block
   at_entry : slice_get first.blocks first.entry ≡ Some (entry_block first)
   at_entry =
       let p = there_below first.blocks first.entry (mine 0 first refl).spelled.entry in
@@ -191,7 +191,8 @@ module _ (linkage : LinkMap) (first : Object) (others : List Object) (h : AreLin
       and_from _ _ p.0 (eq-eqb _ _ (one_number _ _ _ l.block first.entry b.0 (entry_block first)
       (mine 0 first refl).spelled.blocks there at_entry (omega (arith, start, same))))))
 
-  -- the entry block, by the link of the first module's entry block
+  -- the linked object's entry block is where the first module's is sent: by cases on the link of the first module's
+  -- entry block
   entry_by_link : (u : Option Link) → link_at modules joins 0 (entry_address first) ≡ u →
       EntryIn first x (entry_by modules first.entry u) (sent_by_change (before_of modules 0) first (entry_address first)
       (option_map (change_of modules) u)).0
@@ -250,7 +251,7 @@ module _ (linkage : LinkMap) (first : Object) (others : List Object) (h : AreLin
       (sym (change_is linkage first others h spelled 0 first refl first.entry (entry_block first) at_entry))
       (entry_by_link (link_at modules joins 0 (entry_address first)) refl))
 
-  -- the linked object's entry block
+  -- the linked object's block at its entry index is its entry block
   entry_is : (y : Block) → slice_get x.blocks x.entry ≡ Some y → y ≡ entry_block x
   entry_is y e = λ i. record {
     start = unwrap_or (option_map start_of (sym e i)) 0;
@@ -275,7 +276,7 @@ module _ (linkage : LinkMap) (first : Object) (others : List Object) (h : AreLin
         blocks = applies_all;
       }
 
-  -- the modules in the linked object, as the run needs them
+  -- the modules and the linked object are as the run needs them
   pub linked_world : World modules joins x
   linked_world = world linkage first others h spelled
 

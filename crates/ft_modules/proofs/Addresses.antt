@@ -27,7 +27,7 @@ pub find_same : {X : Type 0} (p q : X → Bool) (xs : List X) → ((n : ℕ) (x 
 find_same p q [] h = refl
 find_same p q (x ∷ xs) h = λ i. cond (h 0 x refl i) (Some x) (find_same p q xs (λ n y e. h (suc n) y e) i)
 
--- a search in a mapped list
+-- a search in a mapped list finds the image of what a search in the list itself finds
 pub find_mapped : {X Y : Type 0} (p : Y → Bool) (f : X → Y) (xs : List X) → find p (map f xs)
     ≡ option_map f (find (λ x. p (f x)) xs)
 find_mapped p f [] = refl

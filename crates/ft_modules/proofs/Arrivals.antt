@@ -1,4 +1,4 @@
--- What a typing rule claims of a step, and how a jump arrives in the module and in the linked object.
+-- What a typing rule claims about a step, and how a jump arrives in the module and in the linked object.
 use Rattle.std.proofs.Common.{◌≡◌, ℕ, zero, suc, ◌+◌, Bool, true, false, not, ◌&&◌, ◌==◌, nat_lt, List, [], ◌∷◌}
 use Rattle.std.proofs.Common.{length, slice_get, Option, Some, None, refl, sym, ap, ◌∙◌, subst, arith, eq-eqb}
 use Rattle.std.proofs.Common.{mod-eq_of_lt}
@@ -40,7 +40,7 @@ use Rattle.ft_modules.proofs.World.{block_place, block_begins, block_start_fits}
 
 -- LISTS
 
--- elements at the same place in two lists
+-- elements at the same place in two related lists are related
 pub zip_at : {A B : Type 0} (R : A → B → Type 0) (xs : List A) (ys : List B) (k : ℕ) (x : A) (y : B) → AllZip R xs ys →
     slice_get xs k ≡ Some x → slice_get ys k ≡ Some y → R x y
 zip_at R [] ys k x y l e f = cc
@@ -123,7 +123,7 @@ pub record GoesTo (o : Object) (c : Context) (i : Instr) (G : Context → Type 0
   pub goes_to : row o c i ≡ Goes context
   pub holds : G context
 
--- it exists, by the rule's outcome
+-- such a context exists if the rule's premises hold: by cases on the rule's outcome
 goes_to_by : (o : Object) (c : Context) (i : Instr) (G : Context → Type 0) (x : Outcome) → row o c i ≡ x → After G ⊥ x →
     Passes o c i → GoesTo o c i G
 unfolding After
@@ -132,7 +132,7 @@ goes_to_by o c i G Ends e a p = absurd a
 goes_to_by o c i G (Fails n) e a (ends f) = cc
 goes_to_by o c i G (Fails n) e a (goes d f) = cc
 
--- it exists if the rule's premises hold
+-- such a context exists if the rule's premises hold
 pub goes_to : (o : Object) (c : Context) (i : Instr) (G : Context → Type 0) → After G ⊥ (row o c i) → Passes o c i →
     GoesTo o c i G
 goes_to o c i G a p = goes_to_by o c i G (row o c i) refl a p
@@ -146,14 +146,14 @@ ends_by o c i E Ends e a p = (e, a)
 ends_by o c i E (Fails n) e a (ends f) = cc
 ends_by o c i E (Fails n) e a (goes d f) = cc
 
--- the claim about the context to which a rule leads
+-- if a rule continues, its claim holds of the context to which it leads
 pub goes_holds : (G : Context → Type 0) (E : Type 0) (x : Outcome) (d : Context) → After G E x → x ≡ Goes d → G d
 unfolding After
 goes_holds G E (Goes c) d a e = let same : c ≡ d = cc in subst G same a
 goes_holds G E Ends d a e = cc
 goes_holds G E (Fails p) d a e = cc
 
--- the claim at the end of a block
+-- if a rule ends the block, its claim about the end holds
 pub ends_holds : (G : Context → Type 0) (E : Type 0) (x : Outcome) → After G E x → x ≡ Ends → E
 unfolding After
 ends_holds G E (Goes c) a e = cc
@@ -162,13 +162,13 @@ ends_holds G E (Fails p) a e = cc
 
 -- WORDS
 
--- the word of a register whose form is a constant
+-- a register whose form is the constant of a word holds this word
 pub address_word : (o : Object) (v : Valuation) (c : Context) (s : State) (r : Reg) (k : Colour) (t w : ℕ) →
     FitsContext o v c s → typed c r.number ≡ Some (addressed k t w) → IsWord w → word s r ≡ w
 address_word o v c s r k t w f e is = (f.registers r.number (addressed k t w) e).word ∙ value_constant w v
     ∙ mod-eq_of_lt is
 
--- what one step gives in each run: equal outputs, and states that correspond
+-- the results of one step in each run: equal outputs, and states that correspond
 pub record Steps (modules : List Object) (joins : List Link) (x : Object) (world : World modules joins x) (m : ℕ)
     (a b : Stepping) : Type 0 where
   pub output : a.output ≡ b.output

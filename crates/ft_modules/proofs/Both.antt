@@ -28,7 +28,7 @@ pub both_end : (R : Context → Context → Type 0) → Both R Ends Ends
 unfolding Both
 both_end R = tt
 
--- a premise whose test passes in the second rule if it does in the first
+-- `Both` holds behind a premise if its test passes in the second rule whenever it passes in the first
 pub both_need : (R : Context → Context → Type 0) (p : Premise) (b b' : Bool) (x x' : Outcome) →
     (b ≡ true → (b' ≡ true) × Both R x x') → Both R (need p b x) (need p b' x')
 unfolding Both need
@@ -36,39 +36,39 @@ both_need R p false b' x x' h = tt
 both_need R p true true x x' h = (h refl).1
 both_need R p true false x x' h = let e = (h refl).0 in cc
 
--- a register that has the same type in both contexts
+-- `Both` holds of rules that read the same register type if it holds for each such type
 both_typed_same : (R : Context → Context → Type 0) (y : Option Typed) (f f' : Typed → Outcome) →
     ((t : Typed) → y ≡ Some t → Both R (f t) (f' t)) → Both R (for_typed y f) (for_typed y f')
 unfolding Both for_typed
 both_typed_same R None f f' h = tt
 both_typed_same R (Some t) f f' h = h t refl
 
--- registers that have the same type in both contexts, by an equation
+-- likewise for two register types that are equal
 pub both_typed : (R : Context → Context → Type 0) (y y' : Option Typed) (f f' : Typed → Outcome) → y ≡ y' →
     ((t : Typed) → y ≡ Some t → Both R (f t) (f' t)) → Both R (for_typed y f) (for_typed y' f')
 both_typed R y y' f f' e h = subst (λ (z : Option Typed). Both R (for_typed y f) (for_typed z f')) e
     (both_typed_same R y f f' h)
 
--- registers with known types
+-- `Both` holds of rules that read registers if it holds for the known types of these registers
 pub both_known : (R : Context → Context → Type 0) (y y' : Option Typed) (t t' : Typed) (f f' : Typed → Outcome) → y
     ≡ Some t → y' ≡ Some t' → Both R (f t) (f' t') → Both R (for_typed y f) (for_typed y' f')
 unfolding for_typed
 both_known R y y' t t' f f' e e' h = rw (e, e') h
 
--- a type that refers to another
+-- `Both` holds of rules that read a reference type if it holds for each type referred to
 pub both_ref : (R : Context → Context → Type 0) (n : ℕ) (base : Base) (f f' : Basic → Outcome) →
     ((b : Basic) → Both R (f b) (f' b)) → Both R (for_ref_over n base f) (for_ref_over n base f')
 unfolding Both for_ref_over
 both_ref R zero base f f' h = tt
 both_ref R (suc k) base f f' h = h (record { refs = k; base = base })
 
--- types of code addresses
+-- `Both` holds of rules that read types of code addresses if it holds for these code types
 pub both_code : (R : Context → Context → Type 0) (t t' : ℕ) (f f' : ℕ → Outcome) → Both R (f t) (f' t') →
     Both R (for_code_over 0 (Code t) f) (for_code_over 0 (Code t') f')
 unfolding for_code_over
 both_code R t t' f f' h = h
 
--- a static queue that is the same in both contexts
+-- `Both` holds of rules that read the oldest entry of the same queue if it holds for each such entry
 both_oldest_same : (R : Context → Context → Type 0) (q : List FormPair) (f f' : FormPair → List FormPair → Outcome) →
     ((p : FormPair) (r : List FormPair) → q ≡ p ∷ r → Both R (f p r) (f' p r)) →
     Both R (for_oldest q f) (for_oldest q f')
@@ -76,7 +76,7 @@ unfolding Both for_oldest
 both_oldest_same R [] f f' h = tt
 both_oldest_same R (p ∷ r) f f' h = h p r refl
 
--- static queues that are the same in both contexts, by an equation
+-- likewise for two queues that are equal
 pub both_oldest : (R : Context → Context → Type 0) (q q' : List FormPair) (f f' : FormPair → List FormPair → Outcome) →
     q ≡ q' → ((p : FormPair) (r : List FormPair) → q ≡ p ∷ r → Both R (f p r) (f' p r)) →
     Both R (for_oldest q f) (for_oldest q' f')

@@ -10,6 +10,6 @@ use Rattle.ft_modules.specs.CodeWalk.{Entered}
 pub all_of : {X : Type 0} (P : X → Type 0) (xs : List X) → ((k : ℕ) (x : X) → slice_get xs k ≡ Some x → P x) → All P xs
 all_of P xs h = λ k d lt. h k (get_or xs k d) (slice_get-get_or xs k d lt)
 
--- the value of a key after a key is removed
+-- after a key is removed, it has no value, and every other key keeps its value
 pub get-remove : (m : Entered) (k q : ℕ) → finite.get (finite.remove m k) q ≡ cond (q == k) None (finite.get m q)
 get-remove m k q = rw (finite.get-remove nat_cmp_total m k q, unsigned_tied q k) refl

@@ -1,4 +1,4 @@
--- No refusal applies to modules and a map exactly if the modules are linkable.
+-- No refusal applies to modules and a map exactly when the modules are linkable.
 use Rattle.std.proofs.Common.{◌≡◌, ℕ, zero, suc, ◌+◌, ◌<◌, Bool, true, false, cond, not, nat_lt, List, [], ◌∷◌, ◌++◌}
 use Rattle.std.proofs.Common.{length, slice_get, Option, Some, None, refl, sym, ap, ◌∙◌, subst, arith}
 use Rattle.std.specs.Prelude.{All, find, filter_map, ◌↔◌}
@@ -107,7 +107,7 @@ modules_pass earlier m cells (y ∷ ys) e zero o f =
 modules_pass earlier m cells (y ∷ ys) e (suc n) o f = let a = or_parts _ _ e in
     modules_pass (earlier ++ y ∷ []) (suc m) cells ys a.1 n o f
 
--- and the totals of all are within their limits
+-- likewise, the totals of all are within their limits
 modules_few : (earlier : List Object) (m : ℕ) (cells : List Cell) (o : Object) (os : List Object) →
     modules_refusal earlier m cells (o ∷ os) ≡ None → AreFew (earlier ++ o ∷ os)
 unfolding modules_refusal
@@ -144,7 +144,7 @@ pass_modules earlier m cells (o ∷ os) h few =
 
 -- LINES
 
--- a block that the test finds, by the module
+-- a block that the test finds exists: by cases on its module
 pub has_block_by : (modules : List Object) (m b : ℕ) (u : Option Object) → slice_get modules m ≡ u →
     nat_lt b (unwrap_or (option_map (λ (o : Object). length o.blocks) u) 0) ≡ true → HasBlock modules m b
 has_block_by modules m b None e t = absurd (omega (arith, ltb-true b 0 t))
@@ -205,7 +205,7 @@ record Exported (modules : List Object) (exports : List Ask) (i : Ask) : Type 0 
   pub like : like_in (slice_get modules i.module) (type_in modules i.module i.block) (slice_get modules ask.module)
       (type_in modules ask.module ask.block) ≡ true
 
--- it exists if the import is not refused, by the search for the export
+-- it exists if the import is not refused: by cases on the result of the search for the export
 exported_by : (modules : List Object) (exports : List Ask) (i : Ask) (u : Option Ask) → export_of exports i.name ≡ u →
     for_export modules i u ≡ None → Exported modules exports i
 exported_by modules exports i None g e = cc
@@ -220,7 +220,7 @@ filter_first f x xs n y None g e h = let r = h n y e in (suc r.0, r.1, r.2, r.3)
 filter_first f x xs zero y (Some z) g e h = (0, x, refl, g ∙ e)
 filter_first f x xs (suc n) y (Some z) g e h = let r = h n y e in (suc r.0, r.1, r.2, r.3)
 
--- an element stays in the list behind an optional first one
+-- an element of a list is still in it when an optional element is put in front
 filter_later : {Y : Type 0} (u : Option Y) (ys : List Y) (y : Y) → (n : ℕ) × (slice_get ys n ≡ Some y) → (n : ℕ)
     × (slice_get (cons_option u ys) n ≡ Some y)
 filter_later None ys y h = h
@@ -240,12 +240,12 @@ to_filter f (z ∷ zs) zero x y e g = let same : z ≡ x = cc in
     (0, ap (λ (u : Option _). slice_get (cons_option u (filter_map f zs)) 0) (ap f same ∙ g))
 to_filter f (z ∷ zs) (suc k) x y e g = filter_later (f z) (filter_map f zs) y (to_filter f zs k x y e g)
 
--- the code types are compared in the modules' objects
+-- `like_in` compares the code types in the two modules' objects
 like_there : (modules : List Object) (m n t u : ℕ) (o x : Object) → slice_get modules m ≡ Some o → slice_get modules n
     ≡ Some x → like_in (slice_get modules m) t (slice_get modules n) u ≡ like_types o t x u
 like_there modules m n t u o x e f = λ i. like_in (e i) t (f i) u
 
--- the test of a stub looks at the module's object
+-- the test for a stub looks at the module's object
 stub_there : (modules : List Object) (m b : ℕ) (o : Object) → slice_get modules m ≡ Some o →
     is_stub (instrs_in modules m b) ≡ is_stub (block_instrs o b)
 stub_there modules m b o e = ap (λ (u : Option Object).
@@ -253,11 +253,11 @@ stub_there modules m b o e = ap (λ (u : Option Object).
 
 -- ALL REFUSALS
 
--- a fact about a link, rewritten by an equation
+-- if two links are equal and one is joined, so is the other
 joined_as : {modules : List Object} (k l : Link) → Some k ≡ Some l → IsJoined modules k → IsJoined modules l
 joined_as {modules} k l e h = let same : k ≡ l = cc in subst (IsJoined modules) same h
 
--- the link of an import that is not refused
+-- the link of an import that is not refused is joined
 link_joined : (modules : List Object) (exports : List Ask) (i : Ask) (l : Link) (x : Exported modules exports i) →
     HasBlock modules i.module i.block → HasBlock modules x.ask.module x.ask.block →
     is_stub (instrs_in modules i.module i.block) ≡ true → link_by i (export_of exports i.name) ≡ Some l →
@@ -289,7 +289,7 @@ module _ (linkage : LinkMap) (first : Object) (others : List Object) where
   abbrev modules : List Object
   modules = first ∷ others
 
-  -- the export of a name is one of the exports
+  -- the export found for a name is one of the exports
   export_there : (name : List ℕ) (a : Ask) → export_of linkage.exports name ≡ Some a → (n : ℕ)
       × (slice_get linkage.exports n ≡ Some a)
   export_there name a e = let f = found_there (λ (z : Ask). same_name z.name name) linkage.exports a e in
@@ -359,7 +359,7 @@ module _ (linkage : LinkMap) (first : Object) (others : List Object) where
       (like_there modules i.module j.ask.module _ _ from.object to.object from.there to.there
       ∙ is_like from.object _ to.object _ j.joined.types)))))
 
--- modules that are spellable and accepted are linkable exactly if no refusal applies
+-- modules that are spellable and accepted are linkable exactly when no refusal applies
 pub linkable_exactly : (linkage : LinkMap) (first : Object) (others : List Object) →
     ((m : ℕ) (o : Object) → slice_get (first ∷ others) m ≡ Some o → IsSpellable o × IsAccepted o) →
     AreLinkable linkage first others ↔ link_refusal linkage first others ≡ None

@@ -38,11 +38,11 @@ turned a b h = by_test (b == a) refl
     by_test false e = e
     by_test true e = (let f : (a == b) ≡ true = eq-eqb a b (sym (eqb-true b a e)) in cc)
 
--- an instruction that writes a register enters or removes only this one
+-- an instruction that writes a register enters or removes only this register
 enters : (e : Entered) (i : Instr) (r : ℕ) → written i ≡ Some r → entered_after i e ≡ entered_with r (claimed i) e
 enters e i r h = ap (λ w. entered_past w (claimed i) e) h
 
--- whether registers are free depends on these registers alone
+-- whether two registers are free depends on these registers alone
 free_same : (e f : Entered) (p q : Option ℕ) →
     ((r : ℕ) → is_one_of p q r ≡ true → finite.get e r ≡ finite.get f r) → both_free e p q ≡ both_free f p q
 free_same e f (Some p) (Some q) same = λ j.
@@ -61,7 +61,7 @@ traced_same o e f (BzG rz rd) h same = cc
 traced_same o e f (BzB rz rd u) h same = cc
 traced_same o e f i h same = free_same e f (first_read i) (second_read i) same
 
--- any other register is unchanged
+-- entering or removing a register leaves any other register unchanged
 entered_other : (e : Entered) (r : ℕ) (v : Option ℕ) (q : ℕ) → (q == r) ≡ false → finite.get (entered_with r v e) q
     ≡ finite.get e q
 entered_other e r v q h = entered_get e r v q ∙ ap (λ b. cond b v (finite.get e q)) h
@@ -102,7 +102,7 @@ record Crossed (o : Object) (e : Entered) (a b : Instr) : Type 0 where
   pub first_passes : is_traced o (entered_after b e) a ≡ true
   pub same : entered_after b (entered_after a e) ≡ entered_after a (entered_after b e)
 
--- this holds by what each of them does: it writes a register, or is a store
+-- this holds, by cases on whether each of them writes a register or is a store
 crossed_by : (o : Object) (e : Entered) (n : ℕ) (a b : Instr) → Trailing a → Leading b → Permits n a b → is_traced o e a
     ≡ true → is_traced o (entered_after a e) b ≡ true → Crossed o e a b
 crossed_by o e n a b (trailing_write p wa la) (leading_write q wb lb) h ta tb =
@@ -139,7 +139,7 @@ crossed o e n a b m ta tb = let h = permits n a b m in crossed_by o e n a b h.tr
 
 -- THE WALK
 
--- a walk that does not fail passes its first instruction, and then the others
+-- a walk that does not fail passes the first instruction and then the others
 pub walk_parts : (o : Object) (e : Entered) (k : ℕ) (i : Instr) (is : List Instr) → code_walk o e k (i ∷ is) ≡ None →
     (is_traced o e i ≡ true) × (code_walk o (entered_after i e) (suc k) is ≡ None)
 unfolding code_walk
@@ -155,7 +155,7 @@ pub walk_on : (o : Object) (e : Entered) (k : ℕ) (i : Instr) (is : List Instr)
 unfolding code_walk
 walk_on o e k i is t h = (λ j. if t j then code_walk o (entered_after i e) (suc k) is else Some k) ∙ h
 
--- a walk that does not fail does not fail after an exchange
+-- a walk that does not fail still does not fail after an exchange
 walk_exchanged : (o : Object) (e : Entered) (k : ℕ) (is : List Instr) (n q : ℕ) (a b : Instr) → slice_get is n
     ≡ Some a → slice_get is (suc n) ≡ Some b → may_exchange q a b ≡ true → code_walk o e k is ≡ None →
     code_walk o e k (exchanged is n) ≡ None
@@ -220,7 +220,7 @@ block_walked o b k spelled p j y ey h =
       | inr ne ↦ ap (code_walk o finite.empty 0) (other_block o b k j y spelled p ey ne) ∙ h
     ]
 
--- a module stays one after an exchange
+-- a module is still a module after an exchange
 module_exchanged : (cells : List Cell) (o : Object) (b k : ℕ) → IsModule cells o → IsPermitted o b k →
     IsModule cells (after_exchange o b k)
 module_exchanged cells o b k h p = record {
@@ -235,7 +235,7 @@ module_exchanged cells o b k h p = record {
   ];
 }
 
--- a module stays one after exchanges
+-- a module is still a module after exchanges
 pub modules_exchanged : (cells : List Cell) (o s : Object) → IsModule cells o → ComesFrom o s → IsModule cells s
 modules_exchanged cells o _ h itself = h
 modules_exchanged cells o _ h (exchange {s = s} b k comes p) =

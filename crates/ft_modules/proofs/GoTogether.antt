@@ -46,7 +46,7 @@ use Rattle.ft_modules.proofs.Arrivals.{goes_holds, ends_holds, address_word, Ste
 
 module _ (modules : List Object) (joins : List Link) (x : Object) (spelled : IsSpellable x) (accepted : IsAccepted x)
     (world : World modules joins x) (a : InModule) (t : State) (h : Stands modules joins x world a t) where
-  -- the module, its state and context, those of the linked object, and the valuations
+  -- the module and the linked object, with their states, contexts and valuations
   abbrev o : Object
   o = h.object
 
@@ -65,7 +65,7 @@ module _ (modules : List Object) (joins : List Link) (x : Object) (spelled : IsS
   abbrev u : Valuation
   u = h.other.valuation
 
-  -- what is known of the module
+  -- the module satisfies `InWorld`
   abbrev home : InWorld modules joins x a.number h.object
   home = world a.number h.object h.there
 
@@ -179,7 +179,8 @@ module _ (modules : List Object) (joins : List Link) (x : Object) (spelled : IsS
       (after_typed (λ _. C) C (typed c rz.number) _ (λ k ik. anyhow C _ (same_word rz k f ik)))
       (subst (Passes o c) e here_o.passes)
 
-  -- the words of an entered target register, in both states
+  -- an entered target register holds the module's address in one state, and in the other the address to which it is
+  -- sent
   target_words : (k : Colour) (n w : ℕ) → (rd : Reg) → code_type_at o w ≡ Some n → typed c rd.number
       ≡ Some (addressed k n w) → typed b rd.number ≡ Some (addressed k (home.to w).1 (home.to w).0) → (word s rd ≡ w)
       × (word t rd ≡ (home.to w).0)
@@ -189,7 +190,7 @@ module _ (modules : List Object) (joins : List Link) (x : Object) (spelled : IsS
         address_word x u b t rd k (home.to w).1 (home.to w).0 h.other_fits.context f sends.sent_word,
       )
 
-  -- both leave their blocks for a target
+  -- both machines leave their blocks for corresponding targets
   leave : (rd : Reg) (w q : Subst) (y z : Stepping) → is_some (finite.get h.entered rd.number) ≡ true →
       SameSubst o x w q → Arrives o (valuation_by o w v) (word s rd) s [] y →
       Arrives x (valuation_by x q u) (word t rd) t [] z →

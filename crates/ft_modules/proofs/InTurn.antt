@@ -17,7 +17,7 @@ or_grouped : {X : Type 0} (a b c : Option X) → option_or a (option_or b c) ≡
 or_grouped None b c = refl
 or_grouped (Some x) b c = refl
 
--- the refusal of modules with one more at the end: theirs, or else that of the last
+-- the refusal of a list of modules with one more at the end is the refusal of the list, or else that of the last module
 one_more : (earlier : List Object) (m : ℕ) (cells : List Cell) (os : List Object) (o : Object) →
     modules_refusal earlier m cells (os ++ o ∷ [])
     ≡ option_or (modules_refusal earlier m cells os) (module_refusal (earlier ++ os) (m + length os) cells o)

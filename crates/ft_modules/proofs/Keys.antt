@@ -1,4 +1,4 @@
--- Shapes whose parts are replaced by their numbers are equal exactly if the trees are.
+-- Shapes whose parts are replaced by their numbers are equal exactly when the trees are.
 use Rattle.std.proofs.Common.{◌≡◌, ℕ, ◌<◌, ◌≤◌, Bool, true, false, List, [], ◌∷◌, map, drop}
 use Rattle.std.proofs.Common.{get_or, slice_get, Some, refl, sym, ap, ◌∙◌, arith, true≢false}
 use Rattle.std.specs.Prelude.{◌↔◌}
@@ -14,7 +14,7 @@ use Rattle.ft_static.proofs.SameTrees.{of_one_tree}
 use Rattle.ft_modules.specs.TreeKeys.{number_in, key_of, AreTreeNumbers}
 
 module _ (nodes : List Node) (cs : List ℕ) (n : ℕ) (h : AreNodes nodes) (s : AreTreeNumbers nodes cs n) where
-  -- integers have the same number exactly if they have the same tree
+  -- integers have the same number exactly when they have the same tree
   same_integers : (i j sc sd a b : ℕ) → i ≤ n → j ≤ n → MayName nodes i sc false a → MayName nodes j sd false b →
       number_in cs a ≡ number_in cs b ↔ integer_at (trees nodes) a ≡ integer_at (trees nodes) b
   same_integers i j sc sd a b li lj p q =
@@ -45,7 +45,7 @@ module _ (nodes : List Node) (cs : List ℕ) (n : ℕ) (h : AreNodes nodes) (s :
   abbrev numbered : Bool × ℕ → Bool × ℕ
   numbered = part_with (number_in cs)
 
-  -- two parts have the same number exactly if they have the same tree
+  -- two parts have the same number exactly when they have the same tree
   same_part : (p q : Bool × ℕ) → Named p → Named q → numbered p ≡ numbered q
       ↔ part_tree (trees nodes) p ≡ part_tree (trees nodes) q
   same_part (false, a) (false, b) h k = let s = same_integers h.0 k.0 h.1 k.1 a b h.2 k.2 h.3 k.3 in
@@ -68,12 +68,12 @@ module _ (nodes : List Node) (cs : List ℕ) (n : ℕ) (h : AreNodes nodes) (s :
         λ e. λ i. here.1 (ap (λ zs. get_or zs 0 (integer (word 0))) e) i ∷ rest.1 (ap (drop 1) e) i,
       )
 
-  -- the parts of a node up to node n
+  -- each part of a node up to node n is `Named`
   parts_of : (i scope : ℕ) (y : Shape) → i ≤ n → IsShape nodes i scope y → AllByRecursion Named (parts y)
   parts_of i scope y le h = each_listed (λ b m. Named (b, m)) y (each_part (MayName nodes i scope) (λ b m. Named (b, m))
       (λ b m k. (i, scope, le, k)) y (parts_named nodes i scope y h))
 
-  -- shapes have the same key exactly if they have the same tree
+  -- shapes have the same key exactly when they have the same tree
   same_shapes : (i j sc sd : ℕ) (y z : Shape) → i ≤ n → j ≤ n → IsShape nodes i sc y → IsShape nodes j sd z →
       key_of cs y ≡ key_of cs z ↔ tree_of (trees nodes) y ≡ tree_of (trees nodes) z
   same_shapes i j sc sd y z li lj p q =
@@ -84,7 +84,7 @@ module _ (nodes : List Node) (cs : List ℕ) (n : ℕ) (h : AreNodes nodes) (s :
             one_renamed (number_in cs) (number_in cs) y z f.0 (t.1 f.1),
       )
 
-  -- two nodes up to node n have equal keys exactly if their trees are equal
+  -- two nodes up to node n have equal keys exactly when their trees are equal
   pub keys_same : (i j : ℕ) (y z : Node) → i ≤ n → j ≤ n → slice_get nodes i ≡ Some y → slice_get nodes j ≡ Some z →
       key_of cs y.shape ≡ key_of cs z.shape ↔ tree_at nodes i ≡ tree_at nodes j
   keys_same i j y z li lj e f =

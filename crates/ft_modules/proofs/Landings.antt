@@ -26,13 +26,13 @@ use Rattle.ft_modules.proofs.World.{before_of, at_address, Lands}
 use Rattle.ft_modules.proofs.SentOn.{like_itself, rises_before, sent_at, stay_at}
 use Rattle.ft_modules.proofs.ModuleInstrs.{sent_by_change, sent_to}
 
--- the start of a block that exists
+-- `start_in` is the start of the block, if the block exists
 pub start_there : (modules : List Object) (m b : ℕ) (o : Object) (y : Block) → slice_get modules m ≡ Some o →
     slice_get o.blocks b ≡ Some y → start_in modules m b ≡ y.start
 start_there modules m b o y e f = ap (λ (u : Option Object). unwrap_or (option_map (λ z. block_start z b) u) 0) e
     ∙ ap (λ (u : Option Block). unwrap_or (option_map start_of u) 0) f
 
--- the code type of a block that exists
+-- `type_in` is the code type of the block, if the block exists
 pub type_there : (modules : List Object) (m b : ℕ) (o : Object) (y : Block) → slice_get modules m ≡ Some o →
     slice_get o.blocks b ≡ Some y → type_in modules m b ≡ y.code_type
 type_there modules m b o y e f = ap (λ (u : Option Object). unwrap_or (option_map (λ z. block_type z b) u) 0) e
@@ -63,7 +63,7 @@ module _ (linkage : LinkMap) (first : Object) (others : List Object) (h : AreLin
   abbrev cs : List Change
   cs = map (change_of (first ∷ others)) (links linkage)
 
-  -- what is known of a module
+  -- each of the modules satisfies `IsModule`
   pub is_module : (m : ℕ) (o : Object) → slice_get modules m ≡ Some o → IsModule first.cells o
   is_module m o e = all_there (IsModule first.cells) modules m o h.modules e
 
@@ -84,7 +84,7 @@ module _ (linkage : LinkMap) (first : Object) (others : List Object) (h : AreLin
       (cases_lt n m))
       (cases_lt m n)
 
-  -- a link changes a block's raised address exactly if it is a link from this block
+  -- a link changes a block's raised address exactly when it is a link from this block
   test_same : (m : ℕ) (o : Object) (e : slice_get modules m ≡ Some o) (n : ℕ) (y : Block) → slice_get o.blocks n
       ≡ Some y → (l : Link) → IsJoined modules l → ((before_of modules m).instrs + code_address y.start ==
       (change_of modules l).from) ≡ ((l.module_of == m)
@@ -112,7 +112,7 @@ module _ (linkage : LinkMap) (first : Object) (others : List Object) (h : AreLin
       let same = eqb-true _ _ p.1 in
       eq-eqb _ _ (omega (arith, same, offset)))
 
-  -- the change of a block's raised address, by its link
+  -- the change of a block's raised address is made from the block's link, if it has one
   pub change_is : (m : ℕ) (o : Object) (e : slice_get modules m ≡ Some o) (n : ℕ) (y : Block) → slice_get o.blocks n
       ≡ Some y → change_at cs ((before_of modules m).instrs + code_address y.start)
       ≡ option_map (change_of modules) (link_at modules joins m (code_address y.start))
@@ -122,7 +122,7 @@ module _ (linkage : LinkMap) (first : Object) (others : List Object) (h : AreLin
       ∙ ap (option_map (change_of modules)) (find_same _ _ joins (λ i l g.
       test_same m o e n y f l (all_there (IsJoined modules) joins i l h.joined g)))
 
-  -- where a block is sent, by its link
+  -- each block has a landing: by cases on its link
   landing_by : (m : ℕ) (o : Object) (e : slice_get modules m ≡ Some o) (n : ℕ) (y : Block) (f : slice_get o.blocks n
       ≡ Some y) (u : Option Link) → link_at modules joins m (code_address y.start) ≡ u →
       Landing modules joins x m o (sent_by_change (before_of modules m) o (code_address y.start)
@@ -191,7 +191,7 @@ module _ (linkage : LinkMap) (first : Object) (others : List Object) (h : AreLin
         code_type = ap (λ t. k.types + t) d_type;
       }
 
-  -- where the block at an address is sent
+  -- the block at an address has a landing
   pub landing : (m : ℕ) (o : Object) (e : slice_get modules m ≡ Some o) (w : ℕ) (y : Block) → block_at o w ≡ Some y →
       Landing modules joins x m o (sent_to cs (before_of modules m) o w) w y
   landing m o e w y f =

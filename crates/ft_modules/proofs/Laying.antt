@@ -12,7 +12,7 @@ use Rattle.ft_modules.specs.Linked.{after_module, before_module, laid}
 
 -- ELEMENTS OF APPENDED LISTS
 
--- an element of the second list
+-- an element of the second list is in the two lists appended, after the elements of the first
 pub get_right : {X : Type 0} (xs ys : List X) (n k : ℕ) → n ≡ length xs + k → slice_get (xs ++ ys) n ≡ slice_get ys k
 get_right [] ys n k e = (let same : n ≡ k = omega arith in ap (slice_get ys) same)
 get_right (x ∷ xs) ys zero k e = absurd (omega (arith, e))
@@ -35,7 +35,7 @@ pub record Among {X : Type 0} (whole part : List X) (n : ℕ) : Type 0 where
   pub is : whole ≡ front ++ (part ++ back)
   pub long : length front ≡ n
 
--- an element of the part
+-- an element of the part is in the whole, n places further
 pub get_among : {X : Type 0} (whole part : List X) (n k : ℕ) (x : X) → Among whole part n → slice_get part k ≡ Some x →
     slice_get whole (n + k) ≡ Some x
 get_among whole part n k x a e =
@@ -44,7 +44,7 @@ get_among whole part n k x a e =
     ap (λ (z : List _). slice_get z (n + k)) a.is ∙ get_right a.front (part ++ a.back) (n + k) k place
     ∙ there_front part a.back k x e
 
--- a slice of the part
+-- a slice of the part is the slice of the whole, n places further
 pub range_among : {X : Type 0} (whole part : List X) (n a b : ℕ) → Among whole part n → a ≤ b → b ≤ length part →
     slice_range whole (n + a) (n + b) ≡ slice_range part a b
 range_among whole part n a b m le few =
@@ -67,7 +67,7 @@ pub record Placed {X : Type 0} (part : Before → Object → List X) (offset : B
   pub is : laid part k modules ≡ front ++ (part (before_module k modules m) o ++ back)
   pub long : offset k + length front ≡ offset (before_module k modules m)
 
--- a module's part has its place in the table
+-- each module's part is in the table, at the module's offset
 pub placed : {X : Type 0} (part : Before → Object → List X) (offset : Before → ℕ) →
     ((k : Before) (o : Object) → offset (after_module k o) ≡ offset k + length (part k o)) →
     (k : Before) (modules : List Object) (m : ℕ) (o : Object) → slice_get modules m ≡ Some o →
@@ -130,7 +130,7 @@ whence part offset grows k (y ∷ ys) n x e =
     })
     (get_joined (part k y) (laid part (after_module k y) ys) n x e)
 
--- the length of a table
+-- the length of a table is the sum of the modules' sizes
 pub laid_length : {X : Type 0} (part : Before → Object → List X) (size : Object → ℕ) →
     ((k : Before) (o : Object) → length (part k o) ≡ size o) → (k : Before) (modules : List Object) →
     length (laid part k modules) ≡ sum_by size modules
@@ -139,7 +139,7 @@ laid_length part size h k [] = refl
 laid_length part size h k (o ∷ os) = length-append (part k o) (laid part (after_module k o) os)
     ∙ (λ i. h k o i + laid_length part size h (after_module k o) os i) ∙ sym (sum_by-cons size o os)
 
--- the totals before the next module
+-- the totals before the next module are those after this one
 pub before_next : (k : Before) (modules : List Object) (m : ℕ) (o : Object) → slice_get modules m ≡ Some o →
     before_module k modules (suc m) ≡ after_module (before_module k modules m) o
 unfolding before_module

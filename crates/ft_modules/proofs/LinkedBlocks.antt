@@ -97,7 +97,7 @@ pub record GoesBeside (R : Context → Context → Type 0) (c : Context) (z : Ou
   pub goes : z ≡ Goes context
   pub beside : R c context
 
--- it does if the first rule continues
+-- this holds if the first rule continues
 pub both_go : (R : Context → Context → Type 0) (y z : Outcome) (c : Context) → Both R y z → y ≡ Goes c →
     GoesBeside R c z
 unfolding Both
@@ -113,7 +113,7 @@ pub record Walked (o : Object) (e : Entered) (k : ℕ) (i : Instr) (is : List In
   pub first : is_traced o e i ≡ true
   pub rest : code_walk o (entered_after i e) (suc k) is ≡ None
 
--- a walk that does not fail passes both: by the result of the test of the instruction
+-- a walk that does not fail passes both: by cases on the test of the instruction
 walked_by : (o : Object) (e : Entered) (k : ℕ) (i : Instr) (is : List Instr) (b : Bool) → is_traced o e i ≡ b →
     (if b then code_walk o (entered_after i e) (suc k) is else Some k) ≡ None → Walked o e k i is
 walked_by o e k i is true f h = record { first = f; rest = h }

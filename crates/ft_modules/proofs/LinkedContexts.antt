@@ -1,5 +1,5 @@
--- A module's contexts correspond to those of the linked object: they are equal except for entered registers and the
--- state of d, where the linked object has the code address that the module's is sent to, and its code type.
+-- A module's contexts correspond to those of the linked object. They are equal except for entered registers and the
+-- state of d: there the linked object has the code address to which the module's is sent, and its code type.
 use Rattle.std.proofs.Common.{◌≡◌, ℕ, Bool, true, false, cond, not, length, nat_le, ◌==◌, Option, Some, None, is_some}
 use Rattle.std.proofs.Common.{refl, subst}
 use Rattle.std.specs.List.{list_all}
@@ -38,12 +38,12 @@ pub record Sends (o x : Object) (to : ℕ → ℕ × ℕ) (w t : ℕ) : Type 0 w
   pub there : code_type_at x (to w).0 ≡ Some (to w).1
   pub alike : LikeTypes o t x (to w).1
 
--- two objects with the same cells, where each code address of the first is sent to one of the second
+-- the two objects have the same cells, and each code address of the first is sent to one of the second
 pub record AreSent (o x : Object) (to : ℕ → ℕ × ℕ) : Type 0 where
   pub cells : x.cells ≡ o.cells
   pub sends : (w t : ℕ) → code_type_at o w ≡ Some t → Sends o x to w t
 
--- two substitutions with the same effect
+-- two substitutions have the same effect
 pub record SameSubst (o x : Object) (u q : Subst) : Type 0 where
   pub forms : replacement o u ≡ replacement x q
   pub count : length (rows_of o u) ≡ length (rows_of x q)
@@ -68,7 +68,7 @@ IsInstrOf o x to i j = j ≡ i
 abbrev pub addressed : Colour → ℕ → ℕ → Typed
 addressed k t w = record { colour = k; basic = code t; form = constant w }
 
--- the types of a register that is entered with code type t, in both contexts
+-- how the types of a register that is entered with code type t correspond in both contexts
 pub record IsEntered (o : Object) (to : ℕ → ℕ × ℕ) (t : ℕ) (y z : Option Typed) : Type 0 where
   pub colour : Colour
   pub word : ℕ
@@ -76,12 +76,13 @@ pub record IsEntered (o : Object) (to : ℕ → ℕ × ℕ) (t : ℕ) (y z : Opt
   pub known : y ≡ Some (addressed colour t word)
   pub beside : z ≡ Some (addressed colour (to word).1 (to word).0)
 
--- the types of a register in both contexts, by the code type with which it is entered, if it is
+-- how the types of a register in both contexts correspond: equal, or as `IsEntered` says if it is entered with a code
+-- type
 abbrev pub RegistersBeside : Object → (ℕ → ℕ × ℕ) → Option ℕ → Option Typed → Option Typed → Type 0
 RegistersBeside o to None y z = y ≡ z
 RegistersBeside o to (Some t) y z = IsEntered o to t y z
 
--- the states of d in both contexts, if d holds a target
+-- how the states of d correspond in both contexts if d holds a target
 pub record IsTarget (o : Object) (to : ℕ → ℕ × ℕ) (t : ℕ) (f : Polynomial) (d : StateOfD) (make : ℕ → Polynomial →
     StateOfD) : Type 0 where
   pub word : ℕ
@@ -89,7 +90,7 @@ pub record IsTarget (o : Object) (to : ℕ → ℕ × ℕ) (t : ℕ) (f : Polyno
   pub form : f ≡ constant word
   pub beside : d ≡ make (to word).1 (constant (to word).0)
 
--- the states of d in both contexts
+-- how the states of d correspond in both contexts
 abbrev pub DBeside : Object → (ℕ → ℕ × ℕ) → StateOfD → StateOfD → Type 0
 DBeside o to d_zero d = d ≡ d_zero
 DBeside o to (d_code t f) d = IsTarget o to t f d d_code
@@ -126,7 +127,7 @@ pub record Target (o : Object) (to : ℕ → ℕ × ℕ) (e : Entered) (c b : Co
   pub entered : finite.get e r.number ≡ Some code_type
   pub is : IsEntered o to code_type (typed c r.number) (typed b r.number)
 
--- an entered register is a target register: by the code type with which it is entered
+-- an entered register is a target register: by cases on the code type with which it is entered
 target_by : (o : Object) (to : ℕ → ℕ × ℕ) (e : Entered) (c b : Context) (r : Reg) (u : Option ℕ) → finite.get e r.number
     ≡ u → RegistersBeside o to u (typed c r.number) (typed b r.number) → is_some u ≡ true → Target o to e c b r
 target_by o to e c b r None g h t = cc
@@ -137,7 +138,7 @@ pub target_there : (o : Object) (to : ℕ → ℕ × ℕ) (e : Entered) (c b : C
     is_entered e r ≡ true → Target o to e c b r
 target_there o to e c b r h t = target_by o to e c b r (finite.get e r.number) refl (h.registers r.number) t
 
--- the target register of a blue jump is entered
+-- a free target is entered
 pub free_target_entered : (o : Object) (e : Entered) (u : Option ℕ) → is_free_target o e u ≡ true → is_some u ≡ true
 free_target_entered o e None h = cc
 free_target_entered o e (Some t) h = refl
@@ -148,7 +149,7 @@ pub record FreeTarget (o : Object) (to : ℕ → ℕ × ℕ) (e : Entered) (c b 
   pub free : are_free e (reg_rows o code_type) ≡ true
   pub is : IsEntered o to code_type (typed c r.number) (typed b r.number)
 
--- a blue jump that the walk passes has such a target
+-- a target that the walk finds free is such a target
 pub free_target_there : (o : Object) (to : ℕ → ℕ × ℕ) (e : Entered) (c b : Context) (r : Reg) → Beside o to e c b →
     is_free_target o e (finite.get e r.number) ≡ true → FreeTarget o to e c b r
 free_target_there o to e c b r h t =
@@ -159,14 +160,14 @@ free_target_there o to e c b r h t =
       is = g.is;
     }
 
--- the types of a register in both contexts, after a write
+-- the types of a register still correspond in both contexts after a write of types that correspond
 wrote_by : (o : Object) (to : ℕ → ℕ × ℕ) (a : Bool) (u v : Option ℕ) (t t' : Typed) (y z : Option Typed) →
     RegistersBeside o to v (Some t) (Some t') → RegistersBeside o to u y z →
     RegistersBeside o to (cond a v u) (cond a (Some t) y) (cond a (Some t') z)
 wrote_by o to true u v t t' y z h k = h
 wrote_by o to false u v t t' y z h k = k
 
--- the entered registers after a write
+-- after a register is entered or removed, only its own entry has changed
 pub entered_get : (e : Entered) (r : ℕ) (v : Option ℕ) (q : ℕ) → finite.get (entered_with r v e) q
     ≡ cond (q == r) v (finite.get e q)
 entered_get e r None q = get-remove e r q
@@ -187,7 +188,7 @@ written o to e c b r v t t' h k = record {
 
 -- THE STATE OF D
 
--- rules that require d to be Zero
+-- `Both` holds of rules that require d to be Zero if it holds when both are
 pub both_zero : (R : Context → Context → Type 0) (o : Object) (to : ℕ → ℕ × ℕ) (d d' : StateOfD) (x x' : Outcome) →
     DBeside o to d d' → (d ≡ d_zero → d' ≡ d_zero → Both R x x') → Both R (for_zero d x) (for_zero d' x')
 unfolding Both for_zero
@@ -195,7 +196,7 @@ both_zero R o to d_zero d' x x' h k = rw h (k refl h)
 both_zero R o to (d_code t f) d' x x' h k = tt
 both_zero R o to (d_conditional z t f) d' x x' h k = tt
 
--- rules that require d to be Code
+-- `Both` holds of rules that require d to be Code if it holds for each target and where it is sent
 pub both_target : (R : Context → Context → Type 0) (o : Object) (to : ℕ → ℕ × ℕ) (d d' : StateOfD) (f f' : ℕ →
     Polynomial → Outcome) → DBeside o to d d' → ((w t : ℕ) → code_type_at o w ≡ Some t →
     Both R (f t (constant w)) (f' (to w).1 (constant (to w).0))) → Both R (for_target d f) (for_target d' f')
@@ -204,7 +205,7 @@ both_target R o to d_zero d' f f' h k = tt
 both_target R o to (d_code t p) d' f f' h k = rw (h.form, h.beside) (k h.word t h.address)
 both_target R o to (d_conditional z t p) d' f f' h k = tt
 
--- rules that require d to be Conditional
+-- `Both` holds of rules that require d to be Conditional if it holds for each target and where it is sent
 pub both_conditional : (R : Context → Context → Type 0) (o : Object) (to : ℕ → ℕ
     × ℕ) (d d' : StateOfD) (f f' : Polynomial → ℕ → Polynomial → Outcome) → DBeside o to d d' →
     ((z : Polynomial) (w t : ℕ) → code_type_at o w ≡ Some t →

@@ -1,4 +1,4 @@
--- The typing rules of a module's instructions, compared with those of the linked object's.
+-- The typing rules of a module's instructions, compared with the rules of the linked object's instructions.
 use Rattle.std.proofs.Common.{◌≡◌, ℕ, zero, suc, Bool, true, false, not, ◌&&◌, ◌||◌, ◌+◌, List, [], ◌∷◌, ◌++◌, length}
 use Rattle.std.proofs.Common.{map, nat_le, nat_lt, ◌==◌, Option, Some, None, is_some, eqb-true, refl, sym, ap, ◌∙◌}
 use Rattle.std.proofs.Common.{subst, eq-eqb}
@@ -62,7 +62,7 @@ memory_after_same : (o x : Object) (p : Replacement) (n m : ℕ) → SameMemory 
 unfolding memory_form_after
 memory_after_same o x p n m h = ap (λ (e : Memory). norm_memory_under e p.integers p.memory) h
 
--- a register meets the requirements of a row exactly if it meets those of a row that agrees with it
+-- a register meets the requirements of a row exactly when it meets those of a row that agrees with it
 like_row : (o x : Object) (p : Replacement) (y : Option Typed) (r q : RegType) → SameRow o x r q → is_like o p y r
     ≡ is_like x p y q
 unfolding is_like
@@ -75,7 +75,7 @@ like_same : (o x : Object) (p : Replacement) (y z : Option Typed) (r q : RegType
     is_like o p y r ≡ is_like x p z q
 like_same o x p y z r q e h = ap (λ (u : Option Typed). is_like o p u r) e ∙ like_row o x p z r q h
 
--- likewise for all rows of a code type without rows for entered registers
+-- likewise for all rows of code types that agree and have no row for an entered register
 rows_same : (o x : Object) (to : ℕ → ℕ × ℕ) (e : Entered) (c b : Context) (p : Replacement) (rs qs : List RegType) →
     Beside o to e c b → are_free e rs ≡ true → AllZip (SameRow o x) rs qs → are_like o p c rs ≡ are_like x p b qs
 rows_same o x to e c b p [] [] h f l = refl
@@ -104,13 +104,13 @@ queue_same o x p (e ∷ es) (r ∷ rs) (q ∷ qs) l =
     λ i. same_polynomial e.0 (after_same o x p r.0 q.0 a.address i)
     && same_polynomial e.1 (after_same o x p r.1 q.1 a.value i) && queue_same o x p es rs qs l.1 i
 
--- of substitutions with the same effect, both or neither fit code types that agree
+-- if two substitutions have the same effect, both or neither fit code types that agree
 annotated_same : (o x : Object) (n : ℕ) (u q : Subst) (t k : ℕ) → SameSubst o x u q → ints_of o t ≡ ints_of x k →
     is_annotated o n u t ≡ is_annotated x n q k
 unfolding is_annotated
 annotated_same o x n u q t k s e = λ i. (s.count i == e i) && s.scopes n i && nat_le (s.memory_scope i) n
 
--- a transfer to code types that agree
+-- the outcomes of transfers to code types that agree correspond
 pub both_leads : (R : Context → Context → Type 0) (o x : Object) (to : ℕ → ℕ × ℕ) (e : Entered) (c b : Context)
     (u q : Subst) (t k : ℕ) (y z : Outcome) → Beside o to e c b → SameSubst o x u q → LikeTypes o t x k →
     are_free e (reg_rows o t) ≡ true → Both R y z → Both R (leads o u t c y) (leads x q k b z)
@@ -153,7 +153,7 @@ has_same o x w zero Int e k h = refl
 has_same o x w zero (Code t) e k h = cc
 has_same o x w (suc n) base e k h = rw e h
 
--- a run of cells has the same type in both objects
+-- the cells of a run have the same type in both objects
 run_same : (o x : Object) (first n : ℕ) → x.cells ≡ o.cells → run_type o first n ≡ run_type x first n
 unfolding run_type
 run_same o x first n e = λ i. only_referable (common_type (map basic_of (slice_range (sym e i) first (first + n))))
@@ -178,15 +178,15 @@ targets_same o x to w t v u a iw iv h =
 
 module _ (o x : Object) (to : ℕ → ℕ × ℕ) (a : AreSent o x to) (e : Entered) (c b : Context) (h : Beside o to e c b)
   where
-    -- the contexts correspond after an instruction
+    -- the relation "the contexts correspond after an instruction"
     abbrev R : Instr → Context → Context → Type 0
     R i = Beside o to (entered_after i e)
 
-    -- the outcomes of the rules correspond
+    -- the outcomes of the rules for two instructions correspond
     abbrev B : Instr → Instr → Type 0
     B i j = Both (R i) (row o c i) (row x b j)
 
-    -- a `mov`
+    -- the outcomes for a `mov` correspond: by cases on the code type that it claims
     mov_by : (rd : Reg) (v : Coloured) (n : ℕ) (base : Base) (j : Instr) (k : Option ℕ) → code_over n base ≡ k →
         IsMovOf to rd v (record { refs = n; base = base }) j k →
         Both (R (Mov rd v (record { refs = n; base = base }))) (row o c (Mov rd v (record { refs = n; base = base })))
@@ -222,7 +222,7 @@ module _ (o x : Object) (to : ℕ → ℕ × ℕ) (a : AreSent o x to) (e : Ente
               })),
         )))
 
-    -- a green jump
+    -- the outcomes for a green jump correspond
     jump_green_row : (rd : Reg) → is_entered e rd ≡ true → Both (R (JmpG rd)) (row o c (JmpG rd)) (row x b (JmpG rd))
     jump_green_row rd f =
         let g = target_there o to e c b rd h f in
@@ -238,7 +238,7 @@ module _ (o x : Object) (to : ℕ → ℕ × ℕ) (a : AreSent o x to) (e : Ente
           }))),
         )))
 
-    -- a green branch
+    -- the outcomes for a green branch correspond
     branch_green_row : (rz rd : Reg) → is_free e rz ≡ true → is_entered e rd ≡ true →
         Both (R (BzG rz rd)) (row o c (BzG rz rd)) (row x b (BzG rz rd))
     branch_green_row rz rd fz f =
@@ -256,7 +256,7 @@ module _ (o x : Object) (to : ℕ → ℕ × ℕ) (a : AreSent o x to) (e : Ente
           }))),
         ))))
 
-    -- a blue jump
+    -- the outcomes for a blue jump correspond
     jump_blue_row : (rd : Reg) (u q : Subst) → SameSubst o x u q → is_traced o e (JmpB rd u) ≡ true →
         Both (R (JmpB rd u)) (row o c (JmpB rd u)) (row x b (JmpB rd q))
     jump_blue_row rd u q s f =
@@ -272,7 +272,7 @@ module _ (o x : Object) (to : ℕ → ℕ × ℕ) (a : AreSent o x to) (e : Ente
               )))),
         )))
 
-    -- a blue branch
+    -- the outcomes for a blue branch correspond
     branch_blue_row : (rz rd : Reg) (u q : Subst) → SameSubst o x u q → is_traced o e (BzB rz rd u) ≡ true →
         Both (R (BzB rz rd u)) (row o c (BzB rz rd u)) (row x b (BzB rz rd q))
     branch_blue_row rz rd u q s f =
@@ -299,7 +299,7 @@ module _ (o x : Object) (to : ℕ → ℕ × ℕ) (a : AreSent o x to) (e : Ente
               )))),
         ))))
 
-    -- the memory that a load sees
+    -- a load sees the same memory in both contexts
     seen_same : (k : Colour) → seen_memory k c ≡ seen_memory k b
     seen_same Green = λ i. pending_memory (h.memory i) (h.queue i)
     seen_same Blue = h.memory
@@ -319,7 +319,7 @@ module _ (o x : Object) (to : ℕ → ℕ × ℕ) (a : AreSent o x to) (e : Ente
     reads_same None (Some q) f r k = read_same q r f k
     reads_same None None f r k = cc
 
-    -- a write of the same type in both contexts
+    -- the outcomes of writes of the same type in both contexts correspond
     wrote_beside : (i : Instr) (r : ℕ) → writes i ≡ Some r → claimed i ≡ None → (u v : Option Typed) (p q : Premise) → v
         ≡ u → Both (R i) (write_row r c u p) (write_row r b v q)
     unfolding write_row Both
@@ -328,7 +328,7 @@ module _ (o x : Object) (to : ℕ → ℕ × ℕ) (a : AreSent o x to) (e : Ente
         (λ k. entered_past (sym w k) (sym n k) e) (written o to e c b r None t t h refl))
     wrote_beside i r w n None v p q s = tt
 
-    -- an instruction that writes a register and is not a `mov`
+    -- the outcomes for an instruction that writes a register and is not a `mov` correspond
     write_beside : (i : Instr) (r : ℕ) → writes i ≡ Some r → claimed i ≡ None →
         ((rd : Reg) (v : Coloured) (y : Basic) → i ≡ Mov rd v y → ⊥) →
         both_free e (first_read i) (second_read i) ≡ true → Both (R i) (row o c i) (row x b i)

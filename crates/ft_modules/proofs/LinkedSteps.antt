@@ -39,7 +39,7 @@ use Rattle.ft_modules.proofs.GoTogether.{related, walked, rows, further, stored_
 
 module _ (modules : List Object) (joins : List Link) (x : Object) (spelled : IsSpellable x) (accepted : IsAccepted x)
     (world : World modules joins x) (a : InModule) (t : State) (h : Stands modules joins x world a t) where
-  -- the module, its state and context, those of the linked object, and the valuations
+  -- the module and the linked object, with their states, contexts and valuations
   abbrev o : Object
   o = h.object
 
@@ -58,7 +58,7 @@ module _ (modules : List Object) (joins : List Link) (x : Object) (spelled : IsS
   abbrev u : Valuation
   u = h.other.valuation
 
-  -- what is known of the module
+  -- the module satisfies `InWorld`
   abbrev home : InWorld modules joins x a.number h.object
   home = world a.number h.object h.there
 
@@ -221,7 +221,7 @@ module _ (modules : List Object) (joins : List Link) (x : Object) (spelled : IsS
   fetched_is o' i k f g e fi (inl n) = cc
   fetched_is o' i k f g e fi (inr m) = cc
 
-  -- a fact about two steps, rewritten by equations
+  -- if steps equal to these correspond, so do these
   steps_as : (p q y z : Stepping) → p ≡ y → q ≡ z → Steps modules joins x world a.number y z →
       Steps modules joins x world a.number p q
   steps_as p q y z e f g = subst (λ (k : Stepping). Steps modules joins x world a.number k q) (sym e)

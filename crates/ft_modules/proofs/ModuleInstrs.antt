@@ -35,13 +35,13 @@ unfolding need
 need_passes p true x y e f = refl
 need_passes p false x y e f = absurd (f p (sym e))
 
--- the first instruction, if it is a `mov`, has a word of the type that it claims
+-- if the first instruction is a `mov`, its word has the type that it claims
 first_passes : (o : Object) (c : Context) (rd : Reg) (v : Coloured) (b : Basic) (is : List Instr) →
     Applies o c (Mov rd v b ∷ is) → has_type o v.word b ≡ true
 first_passes o c rd v b _ (last_row f) = need_passes _ _ _ Ends f (λ n z. cc)
 first_passes o c rd v b is (next_row d f a) = need_passes _ _ _ (Goes d) f (λ n z. cc)
 
--- each `mov` has a word of the type that it claims
+-- the word of each `mov` has the type that the `mov` claims
 moves_typed : (o : Object) (c : Context) (is : List Instr) (n : ℕ) (rd : Reg) (v : Coloured) (b : Basic) →
     Applies o c is → slice_get is n ≡ Some (Mov rd v b) → HasType o v.word b
 moves_typed o c [] n rd v b a e = cc
@@ -84,16 +84,16 @@ covered_subst nodes rows first (suc n) (j ∷ is) i u s c e = covered_by nodes r
 
 -- INSTRUCTIONS
 
--- where a module's code address is sent, by the change of the raised address
+-- where a module's code address is sent, given the change of the raised address
 abbrev pub sent_by_change : Before → Object → ℕ → Option Change → ℕ × ℕ
 sent_by_change k o w None = (k.instrs + w, k.types + unwrap_or (code_type_at o w) 0)
 sent_by_change k o w (Some c) = (c.to, c.code_type)
 
--- where it is sent, by these changes
+-- where a module's code address is sent, given all changes
 abbrev pub sent_to : List Change → Before → Object → ℕ → ℕ × ℕ
 sent_to cs k o w = sent_by_change k o w (change_at cs (k.instrs + w))
 
--- a `mov`, changed
+-- a raised `mov` of a code address, changed, moves the address to which this is sent
 changed_is : (k : Before) (o : Object) (rd : Reg) (v : Coloured) (t : ℕ) (c : Option Change) → code_type_at o v.word
     ≡ Some t → changed_by rd (record { colour = v.colour; word = k.instrs + v.word }) (code (k.types + t)) c
     ≡ moves_to rd v (sent_by_change k o v.word c).0 (sent_by_change k o v.word c).1
@@ -101,7 +101,7 @@ changed_is k o rd v t None e = ap (λ n. moves_to rd v (k.instrs + v.word) (k.ty
     (ap (λ (u : Option ℕ). unwrap_or u 0) (sym e))
 changed_is k o rd v t (Some c) e = refl
 
--- a `mov`, raised and changed
+-- a `mov`, raised and changed, is the linked object's version of it
 mov_is : (cs : List Change) (k : Before) (o : Object) (rd : Reg) (v : Coloured) (n : ℕ) (base : Base) →
     HasType o v.word (record { refs = n; base = base }) →
     IsMovOf (sent_to cs k o) rd v (record { refs = n; base = base })

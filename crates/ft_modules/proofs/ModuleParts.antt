@@ -90,24 +90,24 @@ pub record Sits (o x : Object) (k : Before) (cs : List Change) : Type 0 where
       ≡ map (linked_instr cs k) (slice_range o.instrs a b)
   pub ends : (n : ℕ) (y : Block) → slice_get o.blocks n ≡ Some y → block_end x (k.blocks + n) ≡ k.instrs + block_end o n
 
--- an index without an element is past the end
+-- an index without an element is at or past the end
 pub past_end : {X : Type 0} (xs : List X) (n : ℕ) → slice_get xs n ≡ None → length xs ≤ n
 past_end [] n e = omega arith
 past_end (y ∷ xs) zero e = cc
 past_end (y ∷ xs) (suc n) e = omega (arith, past_end xs n e)
 
--- a slice of a mapped list
+-- a slice of a mapped list is the mapped slice
 pub mapped_range : {X Y : Type 0} (f : X → Y) (xs : List X) (a b : ℕ) → slice_range (map f xs) a b
     ≡ map f (slice_range xs a b)
 mapped_range f xs a b = ap (take (b - a)) (drop-map f a xs) ∙ take-map f (b - a) (drop a xs)
 
--- raising and then changing instructions
+-- raising all instructions and then changing them equals raising and changing each
 map_twice : (cs : List Change) (k : Before) (is : List Instr) → map (changed_instr cs) (map (raised_instr k) is)
     ≡ map (linked_instr cs k) is
 map_twice cs k [] = refl
 map_twice cs k (i ∷ is) = ap (λ (z : List Instr). linked_instr cs k i ∷ z) (map_twice cs k is)
 
--- the first block of a spellable object
+-- a list of blocks that begins at 0 has a first block, and this starts at 0
 pub first_block : (bs : List Block) → BeginAtZero bs → (y : Block) × (slice_get bs 0 ≡ Some y) × (y.start ≡ 0)
 first_block [] h = absurd h
 first_block (y ∷ ys) h = (y, refl, h)
@@ -130,7 +130,7 @@ module _ (linkage : LinkMap) (first : Object) (others : List Object) where
       (among_all blocks_part of_blocks refl blocks_grow modules m o e)
       (there_mapped (raised_block (before_of modules m)) o.blocks n y f)
 
-  -- the end of a module's last block
+  -- a module's last block ends, in the linked object, at the end of the module's instructions
   end_by : (m : ℕ) (o : Object) → slice_get modules m ≡ Some o → (n : ℕ) → suc n ≡ length o.blocks →
       ((j : ℕ) (z : Object) → slice_get modules j ≡ Some z → IsSpellable z) → (u : Option Object) →
       slice_get modules (suc m) ≡ u → block_end x ((before_of modules m).blocks + n)
@@ -162,7 +162,7 @@ module _ (linkage : LinkMap) (first : Object) (others : List Object) where
       (slice_get_past x.blocks (suc (k.blocks + n)) (omega arith))
       ∙ omega arith
 
-  -- the end of any block
+  -- a module's block ends, in the linked object, at its raised end
   end_of : (m : ℕ) (o : Object) → slice_get modules m ≡ Some o → (n : ℕ) (y : Block) → slice_get o.blocks n ≡ Some y →
       ((j : ℕ) (z : Object) → slice_get modules j ≡ Some z → IsSpellable z) → (u : Option Block) →
       slice_get o.blocks (suc n) ≡ u → block_end x ((before_of modules m).blocks + n)
@@ -177,7 +177,7 @@ module _ (linkage : LinkMap) (first : Object) (others : List Object) where
       let above = past_end o.blocks (suc n) g in
       end_by m o e n (omega arith) spelled (slice_get modules (suc m)) refl
 
-  -- all parts of a module
+  -- each module's parts are in the linked object
   pub sits : (m : ℕ) (o : Object) → slice_get modules m ≡ Some o →
       ((j : ℕ) (z : Object) → slice_get modules j ≡ Some z → IsSpellable z) → Sits o x (before_of modules m) cs
   sits m o e spelled =

@@ -33,7 +33,7 @@ use Rattle.ft_modules.proofs.SentOn.{like_through, sent_at}
 use Rattle.ft_modules.proofs.ModuleInstrs.{covered_subst, typed_moves, sent_to, instr_is, instrs_are}
 use Rattle.ft_modules.proofs.Landings.{start_there, is_module, sits_in, landing}
 
--- two tests that do not both pass
+-- if two tests cannot both pass, their conjunction is false
 not_here : (a b : Bool) → (a ≡ true → b ≡ true → ⊥) → (a && b) ≡ false
 not_here true true h = absurd (h refl refl)
 not_here true false h = refl
@@ -69,7 +69,7 @@ module _ (linkage : LinkMap) (first : Object) (others : List Object) (h : AreLin
   type_of_block o n y s f = there_below o.types y.code_type
       (all_there (HasCodeType (length o.types)) o.blocks n y s.block_types f)
 
-  -- the code type of a module's block agrees with the raised one
+  -- the code type of a module's block agrees with its raised code type
   pub block_alike : (m : ℕ) (o : Object) → slice_get modules m ≡ Some o → (n : ℕ) (y : Block) → slice_get o.blocks n
       ≡ Some y → LikeTypes o y.code_type x ((before_of modules m).types + y.code_type)
   block_alike m o e n y f =
@@ -78,7 +78,7 @@ module _ (linkage : LinkMap) (first : Object) (others : List Object) (h : AreLin
       like_raised o x (before_of modules m) cs mine.spelled spelled.nodes (sits_in linkage first others h spelled m o e)
       y.code_type t.0 t.1
 
-  -- a code address is sent to a block whose code type agrees, by the block at the address
+  -- a code address is sent to a block whose code type agrees: by cases on the block at the address
   sends_by : (m : ℕ) (o : Object) (e : slice_get modules m ≡ Some o) (w t : ℕ) (u : Option Block) → block_at o w ≡ u →
       option_map code_type_of u ≡ Some t → Sends o x (sent_to cs (before_of modules m) o) w t
   sends_by m o e w t None f g = cc
@@ -122,7 +122,7 @@ module _ (linkage : LinkMap) (first : Object) (others : List Object) (h : AreLin
           let r = rises (length o.instrs) 0 o.blocks n (suc n) y z s.blocks f g (omega arith) in
           (omega (arith, start, r), omega (arith, w))
 
-  -- a block of a module in the linked object
+  -- each block of a module satisfies `BlockOf` in the linked object
   pub block_in : (m : ℕ) (o : Object) (e : slice_get modules m ≡ Some o) (n : ℕ) (y : Block) → slice_get o.blocks n
       ≡ Some y → BlockOf o x (before_of modules m) (sent_to cs (before_of modules m) o) n y
   block_in m o e n y f =
@@ -188,7 +188,7 @@ module _ (linkage : LinkMap) (first : Object) (others : List Object) (h : AreLin
         inside = inside_in m o e;
       }
 
-  -- where a module's code addresses are sent
+  -- the address map in `world` is `sent_to`
   pub to_is : (m : ℕ) (o : Object) (e : slice_get modules m ≡ Some o) → (world m o e).to
       ≡ sent_to cs (before_of modules m) o
   unfolding world

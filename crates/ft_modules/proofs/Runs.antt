@@ -35,20 +35,20 @@ sent_to_status : (modules : List Object) (a : InModule) (l : Option Link) → (s
 sent_to_status modules a None = refl
 sent_to_status modules a (Some l) = refl
 
--- a choice between two machines with the same status has this status
+-- if two machines have the same status, a choice between them has it too
 if_status : (b : Bool) (x y : InModule) (z : Status) → x.state.status ≡ z → y.state.status ≡ z →
     (if b then x else y).state.status ≡ z
 if_status true x y z h k = h
 if_status false x y z h k = k
 
--- it keeps its status, whatever is fetched
+-- a machine keeps its status when it is sent, whatever is fetched
 sent_by_fetched : (modules : List Object) (joins : List Link) (a : InModule) (f : Option Instr) →
     (sent_unfetched modules joins a f).state.status ≡ a.state.status
 sent_by_fetched modules joins a (Some i) = refl
 sent_by_fetched modules joins a None = if_status (a.state.pc_green == a.state.pc_blue) _ _ _
     (sent_to_status modules a (link_at modules joins a.number a.state.pc_green)) refl
 
--- it keeps its status in every case
+-- a machine keeps its status when it is sent
 sent_status : (modules : List Object) (joins : List Link) (a : InModule) → (sent modules joins a).state.status
     ≡ a.state.status
 sent_status modules joins a = sent_by_fetched modules joins a a.state.fetched
@@ -64,7 +64,7 @@ pub record RunsBeside (modules : List Object) (joins : List Link) (x : Object) (
   pub outputs_same : r.outputs ≡ outputs
   pub together : AreTogether modules joins x world r.at t
 
--- one more step of both runs
+-- the runs still correspond after one more step
 step_runs : (modules : List Object) (joins : List Link) (x : Object) (world : World modules joins x) → IsSpellable x →
     IsAccepted x → (r : ModulesRan) (outputs : List Output) (t : State) → r.outputs ≡ outputs →
     AreTogether modules joins x world r.at t → RunsBeside modules joins x world
@@ -85,7 +85,7 @@ step_runs modules joins x world spelled acc r outputs t same (both_ended d e) =
           ∙ e);
     }
 
--- the runs after n steps
+-- the runs correspond after n steps
 pub runs_beside : (linkage : LinkMap) (first : Object) (others : List Object) (x : Object)
     (world : World (first ∷ others) (links linkage) x) → IsSpellable x → IsAccepted x →
     AreTogether (first ∷ others) (links linkage) x world (record { number = 0; state = start first }) (start x) →
@@ -114,7 +114,7 @@ pub record SameRuns (linkage : LinkMap) (first : Object) (others : List Object) 
   pub outputs : modules_outputs linkage first others n ≡ outputs_after x None [] n
   pub status : modules_status linkage first others n ≡ status_after x None [] n
 
--- they are, if the first states correspond
+-- they are the same if the first states correspond
 pub same_runs : (linkage : LinkMap) (first : Object) (others : List Object) (x : Object)
     (world : World (first ∷ others) (links linkage) x) → IsSpellable x → IsAccepted x →
     AreTogether (first ∷ others) (links linkage) x world (record { number = 0; state = start first }) (start x) →

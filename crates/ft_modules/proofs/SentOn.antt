@@ -49,7 +49,7 @@ rows_through a b c (r ∷ rs) (q ∷ qs) (p ∷ ps) h k =
       rows_through a b c rs qs ps h.1 k.1,
     )
 
--- so is that of queue rows
+-- so is agreement of queue rows
 pairs_through : (a b c : Object) (rs qs ps : List (ℕ × ℕ)) → AllZip (SamePair a b) rs qs → AllZip (SamePair b c) qs ps →
     AllZip (SamePair a c) rs ps
 pairs_through a b c [] [] [] h k = tt
@@ -62,7 +62,7 @@ pairs_through a b c (r ∷ rs) (q ∷ qs) (p ∷ ps) h k =
     let y = k.0 in
     (record { address = x.address ∙ y.address; value = x.value ∙ y.value }, pairs_through a b c rs qs ps h.1 k.1)
 
--- so is that of code types
+-- so is agreement of code types
 pub like_through : (a b c : Object) (t u v : ℕ) → LikeTypes a t b u → LikeTypes b u c v → LikeTypes a t c v
 like_through a b c t u v h k = record {
   ints = h.ints ∙ k.ints;
@@ -93,7 +93,7 @@ rises_before k (y ∷ ys) (suc m) (suc n) o e lt = rises_before (after_module k 
 
 -- SENDING
 
--- where a machine with nothing fetched and both counters at an address is sent
+-- a machine with nothing fetched and both counters at an address is sent by the link at this address
 pub sent_at : (modules : List Object) (joins : List Link) (m w : ℕ) (s : State) → s.fetched ≡ None → s.pc_green ≡ w →
     s.pc_blue ≡ w → sent modules joins (record { number = m; state = s })
     ≡ sent_by modules (record { number = m; state = s }) (link_at modules joins m w)
@@ -104,7 +104,7 @@ sent_at modules joins m w s f g b =
     ∙ ap (λ t. if t then sent_by modules a (link_at modules joins m s.pc_green) else a) test
     ∙ ap (λ n. sent_by modules a (link_at modules joins m n)) g
 
--- a machine whose counters are already at the address
+-- setting both counters to an address changes nothing if they are already there
 pub stay_at : (m w : ℕ) (s : State) → s.pc_green ≡ w → s.pc_blue ≡ w →
     ◌≡◌ {A = InModule} (record { number = m; state = s }) (record { number = m; state = at_address w s })
 stay_at m w s g b = λ i. record { number = m; state = record s { pc_green = g i; pc_blue = b i } }

@@ -116,14 +116,14 @@ raised_code_type t u k ns ms y le few s h = record {
   memory = raised_name ns ms k (length ns) (length ms) y.ints true y.memory s few h.memory;
 }
 
--- raised code types have the same number of rows
+-- if raising a code type keeps a count, it keeps the sum of the counts of all code types
 pub raised_count : (f : CodeType → ℕ) (k : ℕ) (ts : List CodeType) → ((t : CodeType) → f (raised_type k t) ≡ f t) →
     sum_by f (map (raised_type k) ts) ≡ sum_by f ts
 raised_count f k [] h = refl
 raised_count f k (t ∷ ts) h = sum_by-cons f (raised_type k t) (map (raised_type k) ts)
     ∙ (λ i. h t i + raised_count f k ts h i) ∙ sym (sum_by-cons f t ts)
 
--- a sum over a table is a sum over the modules
+-- a sum over a table is the sum over the modules
 pub laid_sum : {X : Type 0} (part : Before → Object → List X) (f : X → ℕ) (size : Object → ℕ) →
     ((k : Before) (o : Object) → sum_by f (part k o) ≡ size o) → (k : Before) (modules : List Object) →
     sum_by f (laid part k modules) ≡ sum_by size modules
@@ -139,7 +139,7 @@ blocks_lower : (end least l : ℕ) (bs : List Block) → l ≤ least → AreBloc
 blocks_lower end least l [] le h = tt
 blocks_lower end least l (b ∷ bs) le h = (omega (arith, le, h.0), h.1, h.2)
 
--- a module's blocks, raised, followed by the blocks of later modules
+-- a module's blocks, raised and followed by the blocks of later modules, are in order
 blocks_join : (end least e l : ℕ) (k : Before) (bs cs : List Block) → AreBlocks e l bs → l ≤ e → least ≤ k.instrs + l →
     k.instrs + e ≤ end → AreBlocks end (k.instrs + e) cs → AreBlocks end least (map (raised_block k) bs ++ cs)
 blocks_join end least e l k [] cs h few le fit rest = blocks_lower end (k.instrs + e) least cs (omega (arith, few, le))
@@ -164,7 +164,7 @@ blocks_laid end k (o ∷ os) s fit =
     (omega arith) (omega arith) (omega (arith, sum, fit))
     (blocks_laid end (after_module k o) os (λ m z e. s (suc m) z e) (omega (arith, sum, fit)))
 
--- blocks whose first begins at instruction 0
+-- if the first block starts at 0, the blocks begin at 0
 pub begin_at_zero : (bs : List Block) (y : Block) → slice_get bs 0 ≡ Some y → y.start ≡ 0 → BeginAtZero bs
 begin_at_zero [] y e z = cc
 begin_at_zero (b ∷ bs) y e z = let same : b ≡ y = cc in ap (λ (k : Block). k.start) same ∙ z
@@ -215,7 +215,7 @@ raised_is_subst ns ms k rows all first u s few fit h = record {
   memory = raised_name ns ms k.nodes (length ns) (length ms) 128 true u.memory s few h.memory;
 }
 
--- a first substitution, if there is one, and those after it
+-- an optional first substitution, raised, and those after it cover the rows if they did before
 cover_by : (ns ms : List Node) (k : Before) (rows all first : ℕ) (us vs : List Subst) → StandIn ns ms k.nodes →
     k.nodes + length ns ≤ length ms → k.substs + rows ≤ all →
     ((f : ℕ) → Cover ns rows f us → Cover ms all (k.substs + f) vs) → (u : Option Subst) →
@@ -226,7 +226,7 @@ cover_by ns ms k rows all first us vs s few fit h (Some u) c = (
   h u.past c.1,
 )
 
--- the substitutions of a module's instructions, raised, followed by those of the modules after it
+-- the substitutions of a module's instructions, raised and followed by those of later modules, cover the rows in order
 cover_join : (ns ms : List Node) (k : Before) (rows all first : ℕ) (is : List Instr) (rest : List Instr) →
     StandIn ns ms k.nodes → k.nodes + length ns ≤ length ms → k.substs + rows ≤ all →
     Cover ns rows first (substs_of is) → Cover ms all (k.substs + rows) (substs_of rest) →
@@ -292,7 +292,7 @@ in_range : (is : List Instr) (a b n : ℕ) (i : Instr) → slice_get is n ≡ So
 in_range is a b n i e le lt = take_get (drop a is) (b - a) (n - a) i (get-drop is a (n - a)
     ∙ ap (slice_get is) (omega (arith, le)) ∙ e) (omega (arith, le, lt))
 
--- so each instruction is one of a block's
+-- so each instruction is an instruction of some block
 pub instr_in_block : (o : Object) (n : ℕ) (i : Instr) → IsSpellable o → slice_get o.instrs n ≡ Some i → (j : ℕ)
     × (y : Block) × (m : ℕ) × (slice_get o.blocks j ≡ Some y) × (slice_get (block_instrs o j) m ≡ Some i)
 instr_in_block o n i spelled e =

@@ -49,7 +49,7 @@ plain_cell_base : (t : ℕ) (b : Base) → b ≡ Int → IsBase t b
 plain_cell_base t Int e = tt
 plain_cell_base t (Code n) e = cc
 
--- a module's part of a table is within it
+-- a module's part of a table ends within the table
 table_within : {X : Type 0} (part : Before → Object → List X) (offset : Before → ℕ) → offset nothing_before ≡ 0 →
     ((k : Before) (o : Object) → offset (after_module k o) ≡ offset k + length (part k o)) →
     (modules : List Object) (m : ℕ) (o : Object) → slice_get modules m ≡ Some o → (n : ℕ) →
@@ -63,7 +63,7 @@ table_within part offset z grows modules m o e n f =
     let l2 = length-append (part (before_of modules m) o) a.back in
     omega (arith, long, whole, l1, l2, f)
 
--- the totals before the first module: all 0
+-- the totals before the first module are all 0
 pub none_before_first : (first : Object) (others : List Object) → before_of (first ∷ others) 0 ≡ nothing_before
 unfolding before_module
 none_before_first first others = refl
@@ -79,7 +79,7 @@ module _ (linkage : LinkMap) (first : Object) (others : List Object) (h : AreLin
   abbrev cs : List Change
   cs = map (change_of (first ∷ others)) (links linkage)
 
-  -- what is known of a module
+  -- each of the modules satisfies `IsModule`
   is_module : (m : ℕ) (o : Object) → slice_get modules m ≡ Some o → IsModule first.cells o
   is_module m o e = all_there (IsModule first.cells) modules m o h.modules e
 
@@ -87,28 +87,28 @@ module _ (linkage : LinkMap) (first : Object) (others : List Object) (h : AreLin
   spelled_module : (m : ℕ) (o : Object) → slice_get modules m ≡ Some o → IsSpellable o
   spelled_module m o e = (is_module m o e).spelled
 
-  -- where a module's parts are in the linked object
+  -- each module's parts are in the linked object
   place_of : (m : ℕ) (o : Object) → slice_get modules m ≡ Some o → Sits o x (before_of modules m) cs
   place_of m o e = sits linkage first others m o e spelled_module
 
-  -- the length of the table of nodes
+  -- the linked object has as many nodes as all modules together
   nodes_long : length x.nodes ≡ sum_by (λ (o : Object). length o.nodes) modules
   nodes_long = laid_length nodes_part _ (λ k o. length-map o.nodes (raised_node k.nodes)) nothing_before modules
 
-  -- that of code types
+  -- likewise for code types
   types_long : length x.types ≡ sum_by (λ (o : Object). length o.types) modules
   types_long = laid_length types_part _ (λ k o. length-map o.types (raised_type k.nodes)) nothing_before modules
 
-  -- that of blocks
+  -- likewise for blocks
   blocks_long : length x.blocks ≡ sum_by (λ (o : Object). length o.blocks) modules
   blocks_long = laid_length blocks_part _ (λ k o. length-map o.blocks (raised_block k)) nothing_before modules
 
-  -- that of instructions
+  -- likewise for instructions
   instrs_long : length x.instrs ≡ sum_by (λ (o : Object). length o.instrs) modules
   instrs_long = length-map (laid instrs_part nothing_before modules) (changed_instr cs)
       ∙ laid_length instrs_part _ (λ k o. length-map o.instrs (raised_instr k)) nothing_before modules
 
-  -- that of substitution rows
+  -- likewise for substitution rows
   substs_long : length x.substs ≡ sum_by (λ (o : Object). length o.substs) modules
   substs_long = laid_length substs_part _ (λ k o. length-map o.substs (λ n. k.nodes + n)) nothing_before modules
 

@@ -63,7 +63,7 @@ zip_map : {X : Type 0} (R : X → X → Type 0) (f : X → X) (xs : List X) →
 zip_map R f [] h = tt
 zip_map R f (y ∷ xs) h = (h 0 y refl, zip_map R f xs (λ n z e. h (suc n) z e))
 
--- an element of a list's beginning
+-- an element of a list's first n elements is at the same place in the list
 get-take : {X : Type 0} (xs : List X) (n k : ℕ) (y : X) → slice_get (take n xs) k ≡ Some y → slice_get xs k ≡ Some y
 get-take [] zero k y e = cc
 get-take [] (suc n) k y e = cc
@@ -71,14 +71,14 @@ get-take (z ∷ xs) zero k y e = cc
 get-take (z ∷ xs) (suc n) zero y e = e
 get-take (z ∷ xs) (suc n) (suc k) y e = get-take xs n k y e
 
--- an element of a list's rest
+-- an element of the list without its first a elements is a places further in the list
 pub get-drop : {X : Type 0} (xs : List X) (a k : ℕ) → slice_get (drop a xs) k ≡ slice_get xs (a + k)
 get-drop xs zero k = ap (slice_get xs) (omega arith)
 get-drop [] (suc a) k = refl
 get-drop (y ∷ xs) (suc a) k = get-drop xs a k ∙ (let e : suc (a + k) ≡ suc a + k = omega arith in
     ap (slice_get (y ∷ xs)) e)
 
--- an element of a slice
+-- an element of a slice that begins at a is a places further in the list
 pub range_get : {X : Type 0} (xs : List X) (a b j : ℕ) (y : X) → slice_get (slice_range xs a b) j ≡ Some y →
     slice_get xs (a + j) ≡ Some y
 range_get xs a b j y e = sym (get-drop xs a j) ∙ get-take (drop a xs) (b - a) j y e
@@ -104,7 +104,7 @@ module _ (o x : Object) (k : Before) (cs : List Change) (spelled : IsSpellable o
   same_scope scope b bound n h = ap (λ (y : Option Node). unwrap_or (option_map scope_of_node y) 0) h.found
       ∙ ap (λ (y : Option Node). unwrap_or (option_map scope_of_node y) 0) (sym (s.nodes n h.node h.found))
 
-  -- a code type agrees with the raised one
+  -- a code type agrees with its raised version
   pub like_raised : (t : ℕ) (y : CodeType) → slice_get o.types t ≡ Some y → LikeTypes o t x (k.types + t)
   like_raised t y e =
       let f = s.types t y e in

@@ -1,5 +1,5 @@
--- What the run needs of modules and their linked object, and when a state of a module corresponds to one of the linked
--- object.
+-- What the run requires of modules and their linked object, and when a state of a module corresponds to a state of the
+-- linked object.
 use Rattle.std.proofs.Common.{◌≡◌, inl, ℕ, zero, suc, ◌+◌, ◌-◌, Bool, true, false, cond, ◌==◌, List, [], ◌∷◌, drop}
 use Rattle.std.proofs.Common.{slice_get, Option, Some, None, refl, sym, ap, ◌∙◌, subst, arith}
 use Rattle.std.specs.Prelude.{All}
@@ -49,8 +49,8 @@ before_of modules m = before_module nothing_before modules m
 abbrev pub at_address : ℕ → State → State
 at_address a s = record s { pc_green = a; pc_blue = a }
 
--- where a machine that arrives at block y of module m continues: at a block of some module, whose code type agrees with
--- that of y, and which is at address a in the linked object
+-- where a machine that arrives at block y of module m continues: at a block of some module, at address a in the linked
+-- object, whose code type agrees with that of y
 pub record Lands (modules : List Object) (joins : List Link) (x : Object) (m : ℕ) (o : Object) (a w : ℕ) (y : Block) :
     Type 0 where
   pub number : ℕ
@@ -67,13 +67,13 @@ pub record Lands (modules : List Object) (joins : List Link) (x : Object) (m : �
         state = at_address (code_address block.start) s;
       })
 
--- block y, which is block n of a module, in the linked object
+-- what holds in the linked object of block y, which is block n of a module
 pub record BlockOf (o x : Object) (k : Before) (to : ℕ → ℕ × ℕ) (n : ℕ) (y : Block) : Type 0 where
   pub there : slice_get x.blocks (k.blocks + n) ≡ Some (raised_block k y)
   pub alike : LikeTypes o y.code_type x (k.types + y.code_type)
   pub code : AllZip (IsInstrOf o x to) (block_instrs o n) (block_instrs x (k.blocks + n))
 
--- object o, which is module m, in the linked object
+-- what holds in the linked object of object o, which is module m
 pub record InWorld (modules : List Object) (joins : List Link) (x : Object) (m : ℕ) (o : Object) : Type 0 where
   pub spelled : IsSpellable o
   pub accepted : IsAccepted o
@@ -90,7 +90,7 @@ pub record InWorld (modules : List Object) (joins : List Link) (x : Object) (m :
       ≡ code_address (instr_number p) → s.pc_blue ≡ code_address (instr_number p) →
       ◌≡◌ {A = InModule} (sent modules joins (record { number = m; state = s })) (record { number = m; state = s })
 
--- all modules in the linked object
+-- each module satisfies `InWorld`
 abbrev pub World : List Object → List Link → Object → Type 0
 World modules joins x = (m : ℕ) (o : Object) → slice_get modules m ≡ Some o → InWorld modules joins x m o
 
@@ -229,7 +229,7 @@ plain_memory o z v m cells e p h = λ a b at.
     let f = h a b at' in
     record { word = f.word; typed = plain_type o z _ b e (plain_cell o a b p at') f.typed }
 
--- a state that fits a starting context fits that of a code type that agrees, in an object with the same cells
+-- a state that fits a starting context also fits that of a code type that agrees, in an object with the same cells
 pub start_fits_like : (o z : Object) (v : Valuation) (t u : ℕ) (s : State) (a : ℕ) → z.cells ≡ o.cells →
     All HasPlainCell o.cells → All HasPlainRows o.types → LikeTypes o t z u → FitsContext o v (start_context o t) s →
     FitsContext z v (start_context z u) (at_address a s)
@@ -250,7 +250,7 @@ start_fits_like o z v t u s a e p r l f = subst (λ (c : Context). FitsContext z
       cells = plain_memory o z v _ s.cells e p f.cells;
     })
 
--- the start of a block is a place
+-- the place at the start of a block
 abbrev pub block_place : Object → Block → Valuation → Place
 block_place o y v = record { block = y; index = 0; context = start_context o y.code_type; valuation = v }
 

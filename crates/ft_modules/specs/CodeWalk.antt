@@ -20,7 +20,7 @@ use Rattle.ft_types.specs.Objects.{reg_rows}
 abbrev pub Entered : Type 0
 Entered = FinMap nat_cmp ℕ
 
--- the code type T of a basic type `code T`
+-- the code type T of a basic type with this many `ref`s and this base, if that is `code T`
 abbrev pub code_over : ℕ → Base → Option ℕ
 code_over zero Int = None
 code_over zero (Code t) = Some t

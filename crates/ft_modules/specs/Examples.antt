@@ -23,7 +23,7 @@ no_rows = record { first = 0; past = 0; memory = 0 }
 abbrev pub jumps_to_stub : List Instr
 jumps_to_stub = Mov r1 (green 5) (code 0) ∷ Mov r33 (blue 5) (code 0) ∷ JmpG r1 ∷ JmpB r33 no_rows ∷ Halt ∷ []
 
--- its object: block 0 jumps, and block 1 is the stub
+-- the object of this module: block 0 jumps, and block 1 is the stub
 abbrev pub caller : Object
 caller = record (one_block 0 jumps_to_stub) { blocks = record { start = 0; code_type = 0 } ∷ record { start = 4; code_type = 0 } ∷ [] }
 
@@ -43,7 +43,7 @@ go m b l = record { «module» = m; block = b; name = codes "go"; line = l }
 abbrev pub importing : ℕ → LinkMap
 importing b = record { files = codes "m" ∷ codes "a" ∷ []; exports = go 1 0 4 ∷ []; imports = go 0 b 2 ∷ [] }
 
--- a module that passes its own code address on as a number: its word is substituted for the target's variable
+-- a module that passes its own code address on as a number: the address is substituted for the target's variable
 abbrev pub hands_address_over : Object
 hands_address_over = record {
   cells = int_cell (codes "out") 0 ∷ [];
@@ -71,7 +71,7 @@ names_cell = record (one_block 0 (takes_address 0 1)) {
   nodes = record { scope = 0; shape = shape.Memory } ∷ record { scope = 1; shape = shape.Var 0 } ∷ record { scope = 1; shape = shape.Rem 1 1 } ∷ [];
 }
 
--- a code address is used as the number of a cell
+-- instructions that use a code address as the index of a cell
 abbrev pub indexes_by_address : List Instr
 indexes_by_address = Mov r1 (green 1) (code 0) ∷ Idx r2 r1 0 1 ∷ Halt ∷ []
 
@@ -87,6 +87,6 @@ holds_address = record storer { cells = record { name = codes "out"; basic = cod
 abbrev pub machine_at : ℕ → ℕ → ℕ → Option Instr → InModule
 machine_at m g b f = record { number = m; state = record (start caller) { pc_green = g; pc_blue = b; fetched = f } }
 
--- where a machine is sent before a step, in the modules' run of the caller and the storer
+-- where a machine is sent before a step, in the run of the modules `caller` and `storer`
 abbrev pub sent_from : InModule → InModule
 sent_from x = sent (caller ∷ storer ∷ []) (links (importing 1)) x

@@ -21,7 +21,8 @@ use Rattle.ft_modules.specs.CodeWalk.{code_walk}
 use Rattle.ft_modules.specs.Links.{same_name, export_of, type_in}
 use Rattle.ft_modules.specs.SameTrees.{like_types}
 
--- refusals 3 to 10: of a module, by its number (refusal 5 with a block and an index in it), or of a line of the map
+-- refusals 3 to 10: 3 to 6 carry the number of a module (5 also a block and an index in it), the others a line of the
+-- map
 pub data LinkRefusal : Type 0 where
   Cells : ℕ → LinkRefusal
   Rows : ℕ → LinkRefusal
@@ -62,7 +63,7 @@ is_plain_row r = is_int r.basic.base
 abbrev pub has_plain_rows : CodeType → Bool
 has_plain_rows t = list_all is_plain_row t.regs
 
--- the first of these blocks, counted from b, at which the walk fails, and the index in it
+-- the first of these blocks in which the walk fails, counted from b, and the index in it
 abbrev pub first_walk_fault : Object → ℕ → List Block → Option (ℕ × ℕ)
 first_walk_fault o b [] = None
 first_walk_fault o b (y ∷ ys) = option_or (option_map (λ i. (b, i)) (code_walk o finite.empty 0 (block_instrs o b))) (first_walk_fault o (suc b) ys)
@@ -78,7 +79,7 @@ are_few modules =
     && nat_le (sum_by (λ (o : Object). length o.instrs) modules) 65536
     && nat_le (sum_by (λ (o : Object). length o.substs) modules) 1048576
 
--- a refusal if a test fails
+-- the refusal, if the test fails
 abbrev pub unless : Bool → LinkRefusal → Option LinkRefusal
 unless b r = if b then None else Some r
 

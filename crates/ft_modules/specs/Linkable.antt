@@ -17,11 +17,11 @@ use Rattle.ft_modules.specs.CodeWalk.{code_walk}
 use Rattle.ft_modules.specs.LikeTypes.{LikeTypes}
 use Rattle.ft_modules.specs.Links.{Link, links, export_of, type_in}
 
--- not refusal 3: the cell's base is `int`
+-- the cell's base is `int`; otherwise refusal 3 applies
 abbrev pub HasPlainCell : Cell → Type 0
 HasPlainCell c = c.basic.base ≡ Int
 
--- not refusal 4: the register row's base is `int`
+-- the register row's base is `int`; otherwise refusal 4 applies
 abbrev pub HasPlainRow : RegType → Type 0
 HasPlainRow r = r.basic.base ≡ Int
 
@@ -29,7 +29,8 @@ HasPlainRow r = r.basic.base ≡ Int
 abbrev pub HasPlainRows : CodeType → Type 0
 HasPlainRows t = All HasPlainRow t.regs
 
--- a module that can be added to modules with these cells: refusals 3, 4 and 5 do not apply
+-- a module that can be added to modules with these cells: it is spellable and accepted, and refusals 3, 4 and 5 do not
+-- apply
 pub record IsModule (cells : List Cell) (o : Object) : Type 0 where
   pub spelled : IsSpellable o
   pub accepted : IsAccepted o
@@ -38,7 +39,7 @@ pub record IsModule (cells : List Cell) (o : Object) : Type 0 where
   pub plain_rows : All HasPlainRows o.types
   pub walked : (b : ℕ) → b < length o.blocks → code_walk o finite.empty 0 (block_instrs o b) ≡ None
 
--- not refusal 6: the totals are within their limits
+-- the totals are within their limits; otherwise refusal 6 applies
 pub record AreFew (modules : List Object) : Type 0 where
   pub nodes : sum_by (λ (o : Object). length o.nodes) modules ≤ 1048576
   pub types : sum_by (λ (o : Object). length o.types) modules ≤ 4096
@@ -48,21 +49,21 @@ pub record AreFew (modules : List Object) : Type 0 where
   pub instrs : sum_by (λ (o : Object). length o.instrs) modules ≤ 65536
   pub substs : sum_by (λ (o : Object). length o.substs) modules ≤ 1048576
 
--- not refusal 7: the module has the block
+-- the module has the block; otherwise refusal 7 applies
 pub record HasBlock (modules : List Object) (m b : ℕ) : Type 0 where
   pub object : Object
   pub there : slice_get modules m ≡ Some object
   pub below : b < length object.blocks
 
--- none of refusals 7, 8 and 10 for an import and the export of its name: both blocks exist, the imported one is a stub,
--- and their code types agree
+-- both blocks of a link exist, the imported one is a stub, and their code types agree; otherwise refusal 7, 8 or 10
+-- applies
 pub record IsJoined (modules : List Object) (l : Link) : Type 0 where
   pub from : HasBlock modules l.module_of l.block
   pub to : HasBlock modules l.to_module l.to_block
   pub stub : block_instrs from.object l.block ≡ Halt ∷ []
   pub types : LikeTypes from.object (type_in modules l.module_of l.block) to.object (type_in modules l.to_module l.to_block)
 
--- not refusal 9: the import's name is exported
+-- the import's name is exported; otherwise refusal 9 applies
 abbrev pub IsExported : List Ask → Ask → Type 0
 IsExported exports i = (e : Ask) × (export_of exports i.name ≡ Some e)
 

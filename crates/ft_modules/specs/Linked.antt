@@ -43,11 +43,11 @@ before_module k [] m = k
 before_module k (o ∷ os) zero = k
 before_module k (o ∷ os) (suc m) = before_module (after_module k o) os m
 
--- a shape whose parts are raised by this many nodes
+-- a shape whose parts' numbers are raised by this many nodes
 abbrev pub raised_shape : ℕ → Shape → Shape
 raised_shape n x = renamed (λ k. n + k) x
 
--- a node, raised; its scope stays
+-- a node, raised; its scope stays the same
 abbrev pub raised_node : ℕ → Node → Node
 raised_node n x = record { scope = x.scope; shape = raised_shape n x.shape }
 
@@ -59,7 +59,7 @@ raised_row n r = record { reg = r.reg; colour = r.colour; basic = r.basic; expr 
 abbrev pub raised_pair : ℕ → ℕ × ℕ → ℕ × ℕ
 raised_pair n q = (n + q.0, n + q.1)
 
--- a code type, raised; its number of variables stays
+-- a code type, raised; its number of variables stays the same
 abbrev pub raised_type : ℕ → CodeType → CodeType
 raised_type n t = record { ints = t.ints; regs = map (raised_row n) t.regs; queue = map (raised_pair n) t.queue; memory = n + t.memory }
 

@@ -22,7 +22,7 @@ pub record InModule : Type 0 where
 abbrev pub link_at : List Object → List Link → ℕ → ℕ → Option Link
 link_at modules joins m a = find (λ (l : Link). (l.module_of == m) && (a == code_address (start_in modules l.module_of l.block))) joins
 
--- where a link sends a machine: both counters become the exported block's address
+-- where a machine is sent by its link, if it has one: both counters become the exported block's address
 abbrev pub sent_by : List Object → InModule → Option Link → InModule
 sent_by modules x None = x
 sent_by modules x (Some l) =

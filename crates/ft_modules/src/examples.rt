@@ -18,7 +18,7 @@ ghost use Rattle.ft_modules.specs.LinkRefusals.{Cells, CodeOf, Missing, NoBlock,
 
 /// Two modules, linked: the jump to the stub goes to the exported block and claims its code type; if the entry block is
 /// imported, the exported block is the entry. The numbers of the second module's nodes, code types, blocks and
-/// substitution rows are raised; those of cells are not.
+/// substitution rows are raised; the numbers of cells are not.
 pub fn examples_of_linking()
     ensures instrs { (linked (importing 1) caller (storer ∷ [])).instrs ≡ Mov r1 (green 6) (code 1) ∷ Mov r33 (blue 6) (code 1) ∷ JmpG r1 ∷ JmpB r33 no_rows ∷ Halt ∷ stores_five }
     ensures accepted { refusal (linked (importing 1) caller (storer ∷ [])) ≡ None }
@@ -41,8 +41,8 @@ pub fn examples_of_walks()
     ensures unknown { code_walk caller finite.empty 0 (JmpG r1 ∷ Halt ∷ []) ≡ Some 0 }
 {}
 
-/// Where a machine is sent before a step: from the stub at address 5 to the storer's block. It stays where it is at
-/// another address, if something is fetched, if the counters differ, or in the storer.
+/// Where a machine is sent before a step: from the stub at address 5 to the storer's block. It stays where it is if it
+/// is at another address, if something is fetched, if the counters differ, or if it is in the storer.
 pub fn examples_of_sending()
     ensures stub { sent_from (machine_at 0 5 5 None) ≡ machine_at 1 1 1 None }
     ensures elsewhere { sent_from (machine_at 0 4 4 None) ≡ machine_at 0 4 4 None }
@@ -62,7 +62,7 @@ pub fn examples_of_addresses_as_numbers()
     ensures stored_behind { refusal (linked no_links storer (one_block 0 stores_address ∷ [])) ≡ None }
 {}
 
-/// Refusals, by cause, and none for modules that can be linked.
+/// One refusal for each cause, and no refusal for modules that can be linked.
 pub fn examples_of_link_refusals()
     ensures linked { link_refusal (importing 1) caller (storer ∷ []) ≡ None }
     ensures entry { link_refusal (importing 0) only_stub (storer ∷ []) ≡ None }

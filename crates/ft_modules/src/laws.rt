@@ -13,7 +13,7 @@ ghost use Rattle.ft_modules.specs.Linkable.{AreLinkable};
 ghost use Rattle.ft_modules.specs.LinkRefusals.{link_refusal, module_refusal, modules_refusal};
 ghost use Rattle.ft_modules.specs.TreeKeys.{AreTreeNumbers, key_of};
 
-/// Modules that are spellable and accepted can be linked exactly if no refusal applies to them or to the map.
+/// Modules that are spellable and accepted can be linked exactly when no refusal applies to them or to the map.
 pub fn linkable_modules_are_not_refused()
     ensures { (linkage : LinkMap) (first : Object) (others : List Object) → ((m : ℕ) (o : Object) → slice_get (first ∷ others) m ≡ Some o → IsSpellable o × IsAccepted o) → AreLinkable linkage first others ↔ link_refusal linkage first others ≡ None }
 {}
@@ -25,7 +25,7 @@ pub fn modules_are_refused_in_turn()
 {}
 
 /// Trees are compared without walking them: if the nodes below node n are numbered by their trees, two nodes up to node
-/// n have the same tree exactly if their shapes, with the numbers of their parts, are equal.
+/// n have the same tree exactly when their shapes, with the numbers of their parts, are equal.
 pub fn equal_keys_are_of_equal_trees()
     ensures { (nodes : List Node) (cs : List ℕ) (n : ℕ) → AreNodes nodes → AreTreeNumbers nodes cs n → (i j : ℕ) (y z : Node) → i ≤ n → j ≤ n → slice_get nodes i ≡ Some y → slice_get nodes j ≡ Some z → key_of cs y.shape ≡ key_of cs z.shape ↔ tree_at nodes i ≡ tree_at nodes j }
 {}

@@ -1,12 +1,12 @@
 //! Modules, and the objects that they are linked into, as definitions and laws.
 //!
-//! A module is an accepted object. `specs/Linked.antt` defines the object that a map makes of modules,
-//! `specs/LinkRefusals.antt` why it makes none, and `specs/ModulesRun.antt` the run that goes from module
-//! to module. The crate promises in `laws` that modules can be linked exactly if nothing is refused, that they
-//! are tested in turn, and that trees of expressions are compared by numbers (`specs/TreeKeys.antt`). It
-//! promises in `module_laws` that a module is refused only because of totals, and that permitted exchanges
-//! leave it a module. It promises in `linking_laws` that the linked object is spellable and accepted, that
-//! it runs as its modules do, and that one fault in it is masked or detected.
+//! A module is an accepted object. `specs/Linked.antt` defines the object into which a map links modules,
+//! `specs/LinkRefusals.antt` why it cannot link them, and `specs/ModulesRun.antt` the run that goes from module to
+//! module. The crate promises in `laws` that modules can be linked exactly when nothing is refused, that they are
+//! tested in turn, and that trees of expressions can be compared by their numbers (`specs/TreeKeys.antt`). It promises
+//! in `module_laws` that a module is refused only because of totals, and that permitted exchanges leave it a module. It
+//! promises in `linking_laws` that the linked object is spellable and accepted, that it runs as its modules do, and
+//! that one fault in it is masked or detected.
 #![tactic(auto)]
 
 mod before;

@@ -34,7 +34,8 @@ cond_or false s x y o h = h
 abbrev last : ℕ → ℕ → Declared → List ℕ → Option Slot
 last c v d text = cond (bytes_eq (declared_name d).text text) (Some (slot_at c v d)) None
 
--- what a name refers to after one more declaration
+-- after one more declaration, a name refers to what it referred to before, or otherwise to the slot of the new
+-- declaration
 found_push : (c v : ℕ) (ds : List Declared) (d : Declared) (text : List ℕ) → found_after c v (ds ++ d ∷ []) text
     ≡ or_else (found_after c v ds text) (last (c + cell_count ds) (v + variable_count ds) d text)
 found_push c v [] (cell n w) text =

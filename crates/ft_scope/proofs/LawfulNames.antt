@@ -157,7 +157,7 @@ array_based q t k (suc l) e h = All-cons (λ x. q (base x)) (cell_name t (Some k
 
 -- DISTINCT NAMES
 
--- texts differ if the test says so
+-- two texts differ if the test for equality fails
 not_equal : (x y : List ℕ) → bytes_eq x y ≡ false → x ≢ y
 not_equal x y e f = true≢false (sym ((bytes_eq-Decides x y).1 f) ∙ e)
 
@@ -196,7 +196,7 @@ abbrev is_seen : List Declared → List ℕ → Bool
 is_seen [] t = false
 is_seen (d ∷ ds) t = bytes_eq (declared_name d).text t || is_seen ds t
 
--- a text is found if it is found here or later
+-- a text is found exactly when it is found here or later
 seen_or : (b : Bool) (s : Slot) (o : Option Slot) (c : Bool) → is_some o ≡ c → is_some (cond b (Some s) o) ≡ (b || c)
 seen_or true s o c e = refl
 seen_or false s o c e = e
@@ -225,7 +225,7 @@ record AreNew (before ds : List Declared) : Type 0 where
   unseen : All (λ x. is_seen before (base x) ≡ false) (cell_names ds)
   differ : AllPairs (λ x y. x ≢ y) (cell_names ds)
 
--- if the choice gives nothing, the test fails and the other branch gives nothing
+-- if the choice is `None`, the test fails and the other branch is `None`
 unrepeated : (b : Bool) (at : ℕ) (o : Option ℕ) → cond b (Some at) o ≡ None → (b ≡ false) × (o ≡ None)
 unrepeated true at o e = cc
 unrepeated false at o e = (refl, e)

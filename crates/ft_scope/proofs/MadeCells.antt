@@ -148,7 +148,7 @@ names_joined (var n ∷ ds) = names_joined ds
 names_joined (array n l at w ∷ ds) = array_joined n.text 0 l (cell_texts ds) (cell_places ds)
     ∙ ap (λ v. array_names n.text 0 l ++ v) (names_joined ds)
 
--- so does joining those of the cells that were made
+-- likewise for the declared names and the places of the cells that were made
 pub made_names : (c : Cells) (ds : List Declared) → Made c ds →
     joined_names (map (λ r. r.now) c.names.items) c.places.items ≡ cell_names ds
 made_names c ds m = ap (λ v. joined_names v c.places.items) m.names ∙ ap (joined_names (cell_texts ds)) m.places
@@ -193,7 +193,7 @@ made_none c ds n at w m = record {
   inits = m.inits ∙ sym (words_push ds (array n 0 at w) ∙ append-nil (cell_words ds));
 }
 
--- one more cell of an array is made
+-- making one more cell of an array makes the cells of an array that is one longer
 pub made_more : (c e : Cells) (ds : List Declared) (n : Named) (name : Bor (List ℕ)) (l at w : ℕ) → n.text ≡ name.now →
     e.names.items ≡ c.names.items ++ name ∷ [] → e.places.items ≡ c.places.items ++ Some l ∷ [] → e.inits.items
     ≡ c.inits.items ++ w ∷ [] → Made c (ds ++ array n l at w ∷ []) → Made e (ds ++ array n (l + 1) at w ∷ [])
@@ -204,7 +204,7 @@ made_more c e ds n name l at w is names places inits m = record {
   inits = inits ∙ ap (λ v. v ++ w ∷ []) m.inits ∙ sym (words_grow ds n l at w);
 }
 
--- a plain cell is made
+-- making a plain cell makes the cell of its declaration
 pub made_cell : (c e : Cells) (ds : List Declared) (n : Named) (name : Bor (List ℕ)) (w : ℕ) → n.text ≡ name.now →
     e.names.items ≡ c.names.items ++ name ∷ [] → e.places.items ≡ c.places.items ++ None ∷ [] → e.inits.items
     ≡ c.inits.items ++ w ∷ [] → Made c ds → Made e (ds ++ cell n w ∷ [])
@@ -223,7 +223,7 @@ made_var c ds n m = record {
   inits = m.inits ∙ sym (words_push ds (var n) ∙ append-nil (cell_words ds));
 }
 
--- a fact that follows from three facts about a success
+-- what follows from three facts about a success holds of the success
 pub ok_from : {A E P Q R S : Type 0} (r : Result A E) → OnOk r P → OnOk r Q → OnOk r R → (P → Q → R → S) → OnOk r S
 ok_from (Ok x) p q r f = f p q r
 ok_from (Err e) p q r f = tt

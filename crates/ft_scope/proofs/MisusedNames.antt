@@ -19,12 +19,12 @@ pub first_three : (a b c : Option ℕ) → first_of (first_of a b) c ≡ first_o
 first_three (Some at) b c = refl
 first_three None b c = refl
 
--- `first_of` with nothing as its second argument gives its first
+-- `first_of` with `None` as its second argument is its first argument
 pub first_end : (a : Option ℕ) → first_of a None ≡ a
 first_end (Some at) = refl
 first_end None = refl
 
--- if `first_of` gives nothing, neither of its arguments is a place
+-- if `first_of` is `None`, both of its arguments are `None`
 pub first_left : (a b : Option ℕ) → first_of a b ≡ None → a ≡ None
 first_left (Some at) b h = h
 first_left None b h = refl
@@ -61,7 +61,7 @@ pub misuse_none : (look : List ℕ → Option Slot) (first : Option ℕ) → fir
     ≡ first_of first (misused look (plain_list named []))
 misuse_none look first = sym (ap (λ v. first_of first (misused look v)) (list_empty named) ∙ first_end first)
 
--- what is noted after one more statement
+-- after one more statement, the first misused name of all statements is noted
 pub misuse_more : (look : List ℕ → Option Slot) (first now new : Option ℕ) (xs : List (Stmt Spot)) (s : Stmt Spot) → now
     ≡ first_of first (misused look (plain_list named xs)) → new
     ≡ first_of now (misused look (plain_statement named s none)) → new
@@ -98,7 +98,7 @@ both_fit c v a b x y h f g = (f (first_left a b h), g (first_right a b h))
 
 module _ (table : List ℕ → Option Slot) (c v : ℕ) (s : Stmt Spot) (h : misused table (plain_statement named s none)
     ≡ None) where
-  -- an assignment to a name without an index fits
+  -- an assignment to a name without an index fits if it has no misused name
   pub assign_fits : (to : Spot) (e : Expr Spot) (x : Slot) (y : Expr Slot) → s ≡ Assign to e →
       found to.at (table to.text.now) ≡ Ok x → AnyFits c v x →
       (misused_expression table (plain_expression named e) ≡ None → ExpressionFits c v (plain_expression same_slot y)) →
@@ -112,7 +112,7 @@ module _ (table : List ℕ → Option Slot) (c v : ℕ) (s : Stmt Spot) (h : mis
       subst (StatementsFit c v) (sym (assign_form same_slot x y none))
       (bare_fits c v to.at (table to.text.now) x there fit (first_left p q parts), value (first_right p q parts), tt)
 
-  -- an assignment to a name with an index fits
+  -- an assignment to a name with an index fits if it has no misused name
   pub assign_at_fits : (to : Spot) (i e : Expr Spot) (x : Slot) (j y : Expr Slot) → s ≡ AssignAt to i e →
       found to.at (table to.text.now) ≡ Ok x → AnyFits c v x →
       (misused_expression table (plain_expression named i) ≡ None → ExpressionFits c v (plain_expression same_slot j)) →
@@ -135,7 +135,7 @@ module _ (table : List ℕ → Option Slot) (c v : ℕ) (s : Stmt Spot) (h : mis
         tt,
       )
 
-  -- a choice fits
+  -- a choice fits if it has no misused name
   pub choose_fits : (e : Expr Spot) (one other : Vec (Stmt Spot) Global) (y : Expr Slot)
       (if_so if_not : Vec (Stmt Slot) Global) → s ≡ If e one other →
       (misused_expression table (plain_expression named e) ≡ None → ExpressionFits c v (plain_expression same_slot y)) →
@@ -159,12 +159,12 @@ module _ (table : List ℕ → Option Slot) (c v : ℕ) (s : Stmt Spot) (h : mis
       )
 
 module _ (table : List ℕ → Option Slot) (s : Stmt Spot) (old : Option ℕ) where
-  -- what is noted for a statement, in terms of its plain form
+  -- the first misused name of a statement is noted if that of its plain form is
   noted : (m : StatementList Named) (new x : Option ℕ) → plain_statement named s none ≡ m → new ≡ first_of old x →
       misused table m ≡ first_of x None → new ≡ first_of old (misused table (plain_statement named s none))
   noted m new x is by same = by ∙ ap (first_of old) (sym (ap (misused table) is ∙ same ∙ first_end x))
 
-  -- what is noted for an assignment to a name without an index
+  -- the first misused name of an assignment to a name without an index is noted
   pub assign_noted : (to : Spot) (e : Expr Spot) (one new : Option ℕ) → s ≡ Assign to e → one
       ≡ first_of old (bare_misuse to.at (table to.text.now)) → new
       ≡ first_of one (misused_expression table (plain_expression named e)) → new
@@ -175,7 +175,7 @@ module _ (table : List ℕ → Option Slot) (s : Stmt Spot) (old : Option ℕ) w
       noted (assign (named to) (plain_expression named e) none) new (first_of p q)
       (ap (λ w. plain_statement named w none) is ∙ assign_form named to e none) (two_notes old one new p q a b) refl
 
-  -- what is noted for an assignment to a name with an index
+  -- the first misused name of an assignment to a name with an index is noted
   pub assign_at_noted : (to : Spot) (i e : Expr Spot) (one two new : Option ℕ) → s ≡ AssignAt to i e → one
       ≡ first_of old (index_misuse to.at (table to.text.now)) → two
       ≡ first_of one (misused_expression table (plain_expression named i)) → new
@@ -189,7 +189,7 @@ module _ (table : List ℕ → Option Slot) (s : Stmt Spot) (old : Option ℕ) w
       (first_of p (first_of q r)) (ap (λ w. plain_statement named w none) is ∙ assign_at_form named to i e none)
       (two_notes old one new p (first_of q r) a (two_notes one two new q r b c)) refl
 
-  -- what is noted for a loop
+  -- the first misused name of a loop is noted
   pub loop_noted : (e : Expr Spot) (body : Vec (Stmt Spot) Global) (one new : Option ℕ) → s ≡ While e body → one
       ≡ first_of old (misused_expression table (plain_expression named e)) → new
       ≡ first_of one (misused table (plain_list named body.items)) → new
@@ -200,7 +200,7 @@ module _ (table : List ℕ → Option Slot) (s : Stmt Spot) (old : Option ℕ) w
       noted (loop (plain_expression named e) (plain_list named body.items) none) new (first_of p q)
       (ap (λ w. plain_statement named w none) is ∙ while_form named e body none) (two_notes old one new p q a b) refl
 
-  -- what is noted for a choice
+  -- the first misused name of a choice is noted
   pub choose_noted : (e : Expr Spot) (if_so if_not : Vec (Stmt Spot) Global) (one two new : Option ℕ) → s
       ≡ If e if_so if_not → one ≡ first_of old (misused_expression table (plain_expression named e)) → two
       ≡ first_of one (misused table (plain_list named if_so.items)) → new

@@ -201,7 +201,7 @@ statements_narrowed (choose e if_so if_not rest) = omega (
   statements_narrowed rest,
 )
 
--- the table is determined by what it gives for each text
+-- the table is determined by the slot that it returns for each text
 same_table : (ds : List Declared) (table : List ℕ → Option Slot) →
     ((t : List ℕ) → table t ≡ option_map narrow (find ds t)) → table ≡ (λ t. option_map narrow (find ds t))
 same_table ds table h = λ i t. h t i
@@ -216,7 +216,7 @@ fails_exactly ds table b at h e = by (renamed (find ds) b) (sym (ap (λ f. renam
     by (Ok x) g = cc
     by (Err p) g = g
 
--- if renaming by the table gives statements, the definition gives some with the same need and weight
+-- if renaming by the table succeeds, so does renaming by the definition, with statements of the same need and weight
 pub record Exact (ds : List Declared) (b : StatementList Named) (by_table : StatementList Slot) : Type 0 where
   pub body : StatementList Slot
   pub is : renamed (find ds) b ≡ Ok body
@@ -263,7 +263,7 @@ slots_within ds t ok few h = by (find ds t) refl
     by (Some s) w = ap Some (narrow_within (0 + cell_count ds) (0 + variable_count ds) s (omega arith) (omega arith)
         (found_fits 0 0 ds t s ok w))
 
--- with few cells and variables, renaming by the table gives what the definition gives
+-- if there are few cells and variables, renaming by the table and by the definition has the same result
 pub gives_the_same : (ds : List Declared) (table : List ℕ → Option Slot) (b : StatementList Named)
     (out : StatementList Slot) → ((t : List ℕ) → table t ≡ option_map narrow (find ds t)) → wrong_length ds ≡ None →
     cell_count ds ≤ 1024 → variable_count ds ≤ 255 → renamed table b ≡ Ok out → renamed (find ds) b ≡ Ok out
@@ -275,7 +275,7 @@ fits_narrow c v (Cell k) h = omega arith
 fits_narrow c v (Run f l) h = (omega (arith, h.0), omega (arith, h.1), omega (arith, h.2))
 fits_narrow c v (Var x) h = omega arith
 
--- a slot that the table gives exists
+-- a slot that the table returns exists
 pub table_fits : (ds : List Declared) (table : List ℕ → Option Slot) (t : List ℕ) (s : Slot) → wrong_length ds ≡ None →
     ((t : List ℕ) → table t ≡ option_map narrow (find ds t)) → table t ≡ Some s →
     AnyFits (cell_count ds) (variable_count ds) s

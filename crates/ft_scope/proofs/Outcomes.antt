@@ -25,7 +25,7 @@ one_outcome text one r s h g =
     let b = answer_of text s g in
     a.2 ∙ ap judged (one a.0 b.0 a.1 b.1) ∙ sym b.2
 
--- the grammar's answer gives an outcome
+-- what follows from the grammar's answer is an outcome of the text
 pub outcome_from : (text : List ℕ) (a : Result SyntaxTree SourceError) → IsAnswer text a → IsOutcome text (judged a)
 outcome_from text (Err e) h = inl h
 outcome_from text (Ok t) h = by (resolved t) refl

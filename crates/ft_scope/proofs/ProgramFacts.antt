@@ -221,7 +221,7 @@ resolved_program t p e =
           limits = subst IsWithinLimits l.0 l.1;
         }
 
--- what a name refers to exists; there is one cell for each initial word
+-- what a name refers to exists, counting one cell for each initial word
 found_there : (ds : List Declared) → wrong_length ds ≡ None → (t : List ℕ) (s : Slot) → find ds t ≡ Some s →
     AnyFits (length (cell_words ds)) (variable_count ds) s
 found_there ds ok t s e =

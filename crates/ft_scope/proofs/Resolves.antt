@@ -1,4 +1,4 @@
--- What a tree resolves to, from what the code knows of it.
+-- What a tree resolves to, given what the code knows about it.
 use Rattle.std.proofs.Common.{◌≡◌, ◌≢◌, ℕ, ◌+◌, ◌<◌, ◌≤◌, Bool, true, false, List, [], length, map, Some, None, Result}
 use Rattle.std.proofs.Common.{Ok, Err, nat_lt, if◌then◌else◌, refl, sym, ap, ◌∙◌, subst, arith}
 use Rattle.std.proofs.lemmas.Bool.{lt-ltb, ltb-true}
@@ -41,13 +41,13 @@ within limit n e other h = by (nat_lt limit n) refl
     by true g = absurd (omega (arith, ltb-true limit n g))
     by false g = refl
 
--- a small tree has few declarations and statement nodes together
+-- a tree of at most 1,048,576 nodes has at most as many declarations and statement nodes together
 pub small_parts : (ds : List Decl) (ss : List (Stmt Spot)) → node_count ds ss ≤ 1048576 →
     length ds + statement_nodes (plain_list named ss) ≤ 1048576
 unfolding node_count
 small_parts ds ss h = h
 
--- a small tree has few variables
+-- a tree of at most 1,048,576 nodes has at most as many variables
 pub few_variables : (ds : List Decl) (ss : List (Stmt Spot)) (n : Names) → node_count ds ss ≤ 1048576 →
     Holds n (declared_list ds) → n.vars ≤ 1048576
 few_variables ds ss n tiny held = omega (
@@ -58,7 +58,7 @@ few_variables ds ss n tiny held = omega (
   small_parts ds ss tiny,
 )
 
--- the renamed statements of a small tree have few nodes
+-- the renamed statements of a tree of at most 1,048,576 nodes have at most as many nodes
 pub few_nodes : (ds : List Decl) (ss : List (Stmt Spot)) (b : StatementList Slot) → node_count ds ss ≤ 1048576 →
     statement_nodes b ≡ statement_nodes (plain_list named ss) → statement_nodes b ≤ 1048576
 few_nodes ds ss b tiny same = omega (arith, same, small_parts ds ss tiny)
@@ -76,7 +76,7 @@ unknown ds ss n (Unknown at) held fresh h ne =
 unknown ds ss n NoMemory held fresh h ne = absurd (ne refl)
 unknown ds ss n _ held fresh h ne = absurd h
 
--- what the code knows of a tree once its names are replaced
+-- what the code knows about a tree once its names are replaced
 pub record Renamed (t : SyntaxTree) (n : Names) (b : StatementList Slot) : Type 0 where
   pub held : Holds n t.decls
   pub fresh : repeated [] t.decls ≡ None
@@ -179,7 +179,7 @@ module _ (t : SyntaxTree) (n : Names) (b : StatementList Slot) (r : Renamed t n 
               body = b;
             })) (sym r.held.vars)
 
-        -- a slot that the table gives exists
+        -- a slot that the table returns exists
         pub all_fit : AllFit (look n) (length made.inits.items) n.vars
         all_fit text s h =
             let c : length made.inits.items ≡ cell_count t.decls = ap length is.inits ∙ count_words t.decls in

@@ -27,7 +27,7 @@ pub record IsWithinLimits (p : Program) : Type 0 where
   pub weight : program_weight p ≤ 65536
 
 -- the cells have lawful names, all different, and one initial word each; statements name existing cells and variables,
--- with an index exactly for arrays; literals are words; and the program is within the limits
+-- with an index exactly where an array is named; literals are words; and the program is within the limits
 pub record IsProper (p : Program) : Type 0 where
   pub names : All IsCellName p.names
   pub differ : AllPairs (λ x y. x ≢ y) p.names

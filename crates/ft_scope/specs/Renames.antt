@@ -17,6 +17,6 @@ abbrev pub AnyFits : ℕ → ℕ → Slot → Type 0
 AnyFits c v (Run f l) = RunFits c (Run f l)
 AnyFits c v s = SlotFits c v s
 
--- each slot that a look-up gives is one of c cells or v variables, or a run of existing cells
+-- each slot that a look-up returns is one of c cells or v variables, or a run of existing cells
 abbrev pub AllFit : (List ℕ → Option Slot) → ℕ → ℕ → Type 0
 AllFit look c v = (text : List ℕ) (s : Slot) → look text ≡ Some s → AnyFits c v s

@@ -24,7 +24,7 @@ program_need p = whole_need p.vars p.body
 abbrev pub program_weight : Program → ℕ
 program_weight p = whole_weight p.vars p.body
 
--- a refusal if a number is above its limit
+-- a refusal if a number is above its limit, otherwise the other result
 abbrev pub refused_above : ℕ → ℕ → SourceError → Result Program SourceError → Result Program SourceError
 refused_above limit n e other = if nat_lt limit n then Err e else other
 
@@ -35,13 +35,14 @@ limited p =
     (refused_above 32 (program_need p) (Registers (program_need p))
     (refused_above 65536 (program_weight p) (Weight (program_weight p)) (Ok p)))
 
--- a refusal at a place, if there is one
+-- a refusal at a place if there is one, otherwise the other result
 abbrev pub refused_at : (ℕ → SourceError) → Option ℕ → Result Program SourceError → Result Program SourceError
 refused_at e (Some at) other = Err (e at)
 refused_at e None other = other
 
--- the program with these declarations and with statements in which each name was replaced, or the place of the first
--- unknown name; it is refused for the first misused name, then for the first wrong length, and last for a limit
+-- the program with these declarations, given the place of the first misused name, and the renamed statements or the
+-- place of the first unknown name; it is refused for the first unknown name, then for the first misused one, then for
+-- the first wrong length, and last for a limit
 abbrev pub program_with : List Declared → Option ℕ → Result (StatementList Slot) ℕ → Result Program SourceError
 program_with ds misuse (Err at) = Err (Unknown at)
 program_with ds misuse (Ok body) =

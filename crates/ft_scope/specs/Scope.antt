@@ -52,8 +52,8 @@ variable_count (cell n w ∷ ds) = variable_count ds
 variable_count (var n ∷ ds) = variable_count ds + 1
 variable_count (array n l at w ∷ ds) = variable_count ds
 
--- what a name refers to: its first declaration, numbered among the cells or among the variables, of which c and v were
--- declared before
+-- what a name refers to: its first declaration among these, numbered among the cells or the variables, if c cells and v
+-- variables were declared before
 abbrev pub found_after : ℕ → ℕ → List Declared → List ℕ → Option Slot
 found_after c v [] text = None
 found_after c v (cell n w ∷ ds) text = cond (bytes_eq n.text text) (Some (Cell c)) (found_after (c + 1) v ds text)

@@ -65,14 +65,14 @@ abbrev pub RunFits : ℕ → Slot → Type 0
 RunFits c (Run f l) = (0 < l) × (l ≤ 1024) × (f + l ≤ c)
 RunFits c _ = ⊥
 
--- each name refers to an existing cell or variable, with an index exactly for a run, and each literal is a word
+-- each name refers to an existing cell or variable or, with an index, to a run; each literal is a word
 abbrev pub ExpressionFits : ℕ → ℕ → Expression Slot → Type 0
 ExpressionFits c v (literal w) = IsWord w
 ExpressionFits c v (name s) = SlotFits c v s
 ExpressionFits c v (indexed s i) = RunFits c s × ExpressionFits c v i
 ExpressionFits c v (operation o a b) = ExpressionFits c v a × ExpressionFits c v b
 
--- each name refers to an existing cell or variable, with an index exactly for a run, and each literal is a word
+-- likewise for statements
 abbrev pub StatementsFit : ℕ → ℕ → StatementList Slot → Type 0
 StatementsFit c v none = Unit {0}
 StatementsFit c v (assign to e rest) = SlotFits c v to × ExpressionFits c v e × StatementsFit c v rest

@@ -7,10 +7,10 @@ ghost use Rattle.ft_scope.specs.Props.{statements_fit_prop};
 use crate::slot::Slot;
 use ft_syntax::Stmt;
 
-/// A program: for each cell in order, its declared name, which is a slice of the source, its place in its array, from
-/// 0, or `None` for a plain cell, and its initial word; the number of variables; and the statements. Each slot exists;
-/// one with an index is a run of 1 to 1,024 cells, and one without an index is not a run. There are at most 1,024
-/// cells, the need is at most 32 register pairs, and the weight at most 65,536.
+/// A program: its cells in order, the number of variables, and the statements. A cell has its declared name, which is a
+/// slice of the source; its place in its array, counted from 0, or `None` for a plain cell; and its initial word. Each
+/// slot exists; one with an index is a run of 1 to 1,024 cells, and one without an index is not a run. There are at
+/// most 1,024 cells, the need is at most 32 register pairs, and the weight at most 65,536.
 #[derive(Debug, Drop)]
 pub struct Prog<'a> {
     pub names: Vec<&'a [u8]>,

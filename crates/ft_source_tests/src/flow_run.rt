@@ -4,7 +4,7 @@ use ft_lower::{Flow, Step3};
 use std::test::Fail;
 
 /// The state of a run: the words of the pairs and the cells, the block and the place of the next step, the outputs so
-/// far as cells and words, and whether the run is done.
+/// far, each as a cell and a word, and whether the run is done.
 #[derive(Drop)]
 pub struct FlowRun {
     pairs: Vec<u64>,
@@ -127,7 +127,7 @@ impl FlowRun {
         Ok(())
     }
 
-    /// Runs at most `limit` steps, until the run is done.
+    /// Runs until the run is done, but for at most `limit` steps.
     pub fn run(&mut self, flow: &Flow, limit: usize) -> Result<(), Fail> {
         for _ in 0..limit {
             if self.done {

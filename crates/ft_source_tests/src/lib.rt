@@ -1,8 +1,8 @@
 //! Tests of sources: texts that are parsed or refused, their names and limits, and what they are lowered
 //! to.
 //!
-//! The crate has only tests, since a crate with tests is proved twice. Outputs were worked out by hand, and a
-//! plain interpreter, independent of the definition that the contract of `lower` cites, runs the flows.
+//! These tests have a crate of their own, since a crate with tests is proved twice. Outputs were worked out by hand,
+//! and a plain interpreter, independent of the definition that the contract of `lower` cites, runs the flows.
 #![tactic(auto)]
 
 #[cfg(test)]

@@ -3,18 +3,18 @@ use Rattle.std.proofs.Common.{◌≡◌, List, [], ◌∷◌, ◌++◌, length, 
 use Rattle.ft_syntax.specs.declared.decl.Decl.{Decl}
 use Rattle.ft_syntax.specs.Syntax.{declared, declared_list}
 
--- an empty list
+-- an empty list of declarations is an empty plain list
 pub declared_empty : declared_list [] ≡ []
 unfolding declared_list
 declared_empty = refl
 
--- a list with a last declaration
+-- a last declaration of a list is also the last of the plain list
 pub declared_push : (ds : List Decl) (d : Decl) → declared_list (ds ++ d ∷ []) ≡ declared_list ds ++ declared d ∷ []
 unfolding declared_list
 declared_push [] d = refl
 declared_push (x ∷ ds) d = ap (λ v. declared x ∷ v) (declared_push ds d)
 
--- the list is as long as the code's
+-- the plain list is as long as the code's
 pub declared_length : (ds : List Decl) → length (declared_list ds) ≡ length ds
 unfolding declared_list
 declared_length [] = refl

@@ -6,7 +6,7 @@ use Rattle.ft_syntax.specs.Grammar.{Statement, Statements, assignment, looping, 
 use Rattle.ft_syntax.specs.Grammar.{statement_tree, statements_tree}
 use Rattle.ft_syntax.proofs.PlainForms.{follow_follow}
 
--- one statement
+-- the tree of a statement in front of others is its own tree, followed by the others
 pub statement_followed : (c : Statement) (after : StatementList Named) → statement_tree c after
     ≡ follow (statement_tree c none) after
 statement_followed (assignment n None l e r) after = refl
@@ -15,7 +15,7 @@ statement_followed (looping h body r) after = refl
 statement_followed (choosing h if_so r) after = refl
 statement_followed (choosing_else h if_so r w l if_not q) after = refl
 
--- a list of statements
+-- likewise for a list of statements
 pub statements_followed : (c : Statements) (after : StatementList Named) → statements_tree c after
     ≡ follow (statements_tree c none) after
 statements_followed nothing after = refl
@@ -26,7 +26,7 @@ statements_followed (more before s) after =
     ∙ sym (follow_follow (statements_tree before none) one after)
     ∙ ap (λ v. follow v after) (sym (statements_followed before one))
 
--- one more statement
+-- the tree of statements and a last one is their tree, followed by that of the last one
 pub more_followed : (before : Statements) (s : Statement) → statements_tree (more before s) none
     ≡ follow (statements_tree before none) (statement_tree s none)
 more_followed before s = statements_followed before (statement_tree s none)

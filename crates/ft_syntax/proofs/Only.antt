@@ -56,7 +56,7 @@ last_two s t s2 h = ⊎_elim
     (λ (s1, some). let e = ap (option_and_then (λ (v : State). Some v)) some in cc)
     (option_case (step s t))
 
--- the state before the last token
+-- if the machine gets through some tokens, it has a state before the last one
 before_one : (s : State) (ts : List Lexeme) (t : Lexeme) (s2 : State) → steps s (ts ++ t ∷ []) ≡ Some s2 → (s1 : State)
     × (steps s ts ≡ Some s1) × (step s1 t ≡ Some s2)
 before_one s [] t s2 h = (s, refl, last_two s t s2 h)

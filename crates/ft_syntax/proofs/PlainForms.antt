@@ -37,19 +37,19 @@ other_row_of (AssignAt to i e) = (_, end_of-Stmt)
 other_row_of (While' e shape body) = (_, body)
 other_row_of (If' e shape if_so shape2 if_not) = (_, if_not)
 
--- an assignment
+-- the plain form of an assignment is made from those of its name and its expression
 pub assign_form : {N M : Type 0} → (f : N → M) (to : N) (e : Expr N) (after : StatementList M) →
     plain_statement f (Assign to e) after ≡ assign (f to) (plain_expression f e) after
 unfolding plain_statement
 assign_form f to e after = refl
 
--- an assignment to a name with an index
+-- likewise for an assignment to a name with an index
 pub assign_at_form : {N M : Type 0} → (f : N → M) (to : N) (i e : Expr N) (after : StatementList M) →
     plain_statement f (AssignAt to i e) after ≡ assign_at (f to) (plain_expression f i) (plain_expression f e) after
 unfolding plain_statement
 assign_at_form f to i e after = refl
 
--- a loop
+-- the plain form of a loop is made from those of its test and its body
 pub while_form : {N M : Type 0} → (f : N → M) (e : Expr N) (body : Vec (Stmt N) Global) (after : StatementList M) →
     plain_statement f (While e body) after ≡ loop (plain_expression f e) (plain_list f body.items) after
 unfolding plain_statement
@@ -58,7 +58,7 @@ while_form {N} {M} f e body after =
     ap (λ b. loop (plain_expression f e) b after) (row_list f r.0 r.1
     ∙ ap (plain_list f) (items_hidden-the_row-Stmt-0 N body))
 
--- a choice
+-- the plain form of a choice is made from those of its test and its sides
 pub if_form : {N M : Type 0} → (f : N → M) (e : Expr N) (if_so if_not : Vec (Stmt N) Global) (after : StatementList M) →
     plain_statement f (If e if_so if_not) after ≡ choose (plain_expression f e) (plain_list f if_so.items)
     (plain_list f if_not.items) after
@@ -71,12 +71,12 @@ if_form {N} {M} f e if_so if_not after =
     ∙ ap (λ x. choose (plain_expression f e) (plain_list f if_so.items) x after) (row_list f q.0 q.1
     ∙ ap (plain_list f) (items_hidden-the_row-Stmt-0 N if_not))
 
--- an empty list
+-- the plain form of an empty list is empty
 pub list_empty : {N M : Type 0} → (f : N → M) → plain_list f [] ≡ none
 unfolding plain_list
 list_empty f = refl
 
--- a list with a first statement
+-- the plain form of a list is that of the first statement, followed by that of the rest
 pub list_first : {N M : Type 0} → (f : N → M) (s : Stmt N) (ss : List (Stmt N)) → plain_list f (s ∷ ss)
     ≡ plain_statement f s (plain_list f ss)
 unfolding plain_list
@@ -91,7 +91,7 @@ statement_first f (AssignAt to i e) after = refl
 statement_first f (While' e shape body) after = refl
 statement_first f (If' e shape if_so shape2 if_not) after = refl
 
--- a list with a last statement
+-- the plain form of a list with a last statement is that of the others, followed by that of the last statement
 pub list_push : {N M : Type 0} → (f : N → M) (ss : List (Stmt N)) (s : Stmt N) → plain_list f (ss ++ s ∷ [])
     ≡ follow (plain_list f ss) (plain_statement f s none)
 list_push f [] s = list_first f s [] ∙ ap (plain_statement f s) (list_empty f)
@@ -115,7 +115,7 @@ pub list_take : {N M : Type 0} → (f : N → M) (ss : List (Stmt N)) (i : ℕ) 
     plain_list f (take (i + 1) ss) ≡ follow (plain_list f (take i ss)) (plain_statement f (get_or ss i d) none)
 list_take f ss i d h = rw add-one (ap (plain_list f) (take-suc ss i d h) ∙ list_push f (take i ss) (get_or ss i d))
 
--- a statement that is known to be a loop, with its body as a list
+-- likewise for a statement that is known to be a loop, with its body as a list
 pub matched_while : {N M : Type 0} → (f : N → M) (s : Stmt N) (e : Expr N) (body : Vec (Stmt N) Global)
     (xs : List (Stmt N)) (after : StatementList M) → s ≡ While e body → xs ≡ body.items → plain_statement f s after
     ≡ loop (plain_expression f e) (plain_list f xs) after
@@ -123,7 +123,7 @@ matched_while f s e body xs after is items =
     ap (λ x. plain_statement f x after) is ∙ while_form f e body after
     ∙ ap (λ l. loop (plain_expression f e) (plain_list f l) after) (sym items)
 
--- a statement that is known to be a choice, with its sides as lists
+-- likewise for a statement that is known to be a choice, with its sides as lists
 pub matched_if : {N M : Type 0} → (f : N → M) (s : Stmt N) (e : Expr N) (if_so if_not : Vec (Stmt N) Global)
     (xs ys : List (Stmt N)) (after : StatementList M) → s ≡ If e if_so if_not → xs ≡ if_so.items → ys ≡ if_not.items →
     plain_statement f s after ≡ choose (plain_expression f e) (plain_list f xs) (plain_list f ys) after

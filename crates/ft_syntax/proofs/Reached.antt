@@ -59,7 +59,7 @@ derived (may_elseC d first r ss (topC ds)) p h = ended_block ds (more ss (choosi
     (ap (λ v. tree_at v (top (declarations_tree ds))) (more_followed ss (choosing d first r)) ∙ h)
 derived _ p h = absurd cc
 
--- tokens that complete a state
+-- tokens that the machine accepts from this state, and the program that it then reads
 pub record Completes (s : State) : Type 0 where
   pub tokens : List Lexeme
   pub program : SyntaxTree
@@ -234,7 +234,7 @@ completed (else_brace e first ss b) =
     let r = complete_block (in_no e first ss b) none in
     record { tokens = wanted LBrace ∷ r.tokens; program = r.program; accepted = r.accepted; no_else = tt }
 
--- a list is accepted if the machine gets through it to a state where the program may end
+-- the machine gets through a list that it accepts, to a state where the program may end
 pub accepted_steps : (s : State) (ts : List Lexeme) (p : SyntaxTree) → accepts s ts ≡ Some p → (s' : State)
     × (steps s ts ≡ Some s') × (final s' ≡ Some p)
 accepted_steps s [] p h = (s, refl, h)

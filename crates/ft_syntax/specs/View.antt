@@ -26,7 +26,7 @@ abbrev pub lexemes : List Token → List Lexeme
 lexemes [] = []
 lexemes (t ∷ ts) = lexeme t ∷ lexemes ts
 
--- the expression of a value of the code
+-- the expression that a value of the code represents
 abbrev pub expression : Expr Spot → NamedExpression
 expression e = plain_expression named e
 

@@ -56,7 +56,7 @@ impl<'a, 't> Parser<'a, 't> {
         })
     }
 
-    /// Takes the number of a cell.
+    /// Takes the number that is the initial word of a cell or array.
     fn number(&mut self) -> Result<u64, SourceError>
         ensures ok { IfOk result (λ v. (ds : List Declared) (n : Named) (o : Option (ℕ × ℕ)) → from self.old (cell_number ds n o) ≡ from self.new (cell_end ds n o v)) }
         ensures err { IfErr result (λ e. (ds : List Declared) (n : Named) (o : Option (ℕ × ℕ)) → Refuses e (from self.old (cell_number ds n o))) }

@@ -6,7 +6,7 @@ ghost use Rattle.ft_syntax.specs.Machine.{NamedExpression, NamedStatements, Bloc
 use crate::source_error::SourceError;
 use ft_lexer::{Kind, Token};
 
-/// How many brackets and braces may be open.
+/// How many brackets and braces may be open at once.
 pub const OPEN_LIMIT: usize = 100;
 /// How many operators one assignment, its index included, or one test may have.
 pub const OPERATOR_LIMIT: usize = 200;

@@ -23,7 +23,7 @@ pub struct Pending<'a> {
 }
 
 impl<'a> Pending<'a> {
-    /// Nothing waits.
+    /// The start of an expression, where nothing waits.
     pub fn new() -> Pending<'a>
         ensures { waiting result ≡ empty }
     {

@@ -1,4 +1,4 @@
--- The computed starts are as defined, so the targets' places are too; a lemma gives the runs.
+-- The computed starts are as defined, so the targets' places are too; a lemma proves what the runs do.
 use Rattle.std.proofs.Common.{◌≡◌, map, sym, ap, ◌∙◌, subst, length, slice_index}
 use Rattle.std.specs.List.{All}
 use Rattle.ft_lower.specs.Flow.{blocks_of}
