@@ -36,9 +36,9 @@ pub(crate) enum Ending {
     Detected,
     /// The words are not a command.
     Usage,
-    /// A file could not be read.
+    /// A file or the script could not be read.
     LoadFailed,
-    /// A line could not be written.
+    /// The output could not be written.
     WriteFailed,
     /// Memory ran out.
     NoMemory,
@@ -50,7 +50,7 @@ pub(crate) enum Ending {
     NotAccepted,
     /// The machine is still running after the last step.
     OutOfSteps,
-    /// Some verdict is corrupt.
+    /// At least one verdict is corrupt.
     Corrupt,
     /// The fault list, the campaign over it, or the script is refused.
     ListRefused,
