@@ -102,7 +102,7 @@ split_two f (x ∷ y ∷ xs) a b n m two first second p q =
     ap (λ v. v ∷ f y ∷ map f xs) (ap f (sym first) ∙ sym p) ∙ ap (λ v. n ∷ v ∷ map f xs) (ap f (sym second) ∙ sym q)
     ∙ ap (λ v. n ∷ m ∷ map f v) (sym rest)
 
--- what words give is what their rest gives after their first option
+-- words give what their rest gives after their first option
 pub gives_on : (allowed : Allowed) (words more : List Word) (name value : Word) (old new g : Given) → words
     ≡ name ∷ value ∷ more → ((mid : Given) → Gives allowed name value old mid → mid ≡ new) →
     GivesAll allowed words old g → GivesAll allowed more new g

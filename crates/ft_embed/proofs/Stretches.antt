@@ -30,7 +30,7 @@ goes_to_cell Detected s cells has commits = tt
 none_below : (j : ℕ) → j < 0 → ⊥
 none_below j less = omega (arith, less)
 
--- `Fills` holds for no steps
+-- `Fills` holds when no steps were taken
 pub fills_none : (o : Object) (s : State) (w : List Wild) (from : ℕ) (out : List CellOutput) →
     Fills o s w 0 s w from from out out
 fills_none o s w from out = record {
@@ -58,7 +58,7 @@ module _ (o : Object) (s s1 : State) (w w1 : List Wild) (n from c1 : ℕ) (old m
   whole : (k : ℕ) → span o (n + k) s w ≡ joined (span o n s w).outputs (span o k s1 w1)
   whole k = span_then o n k s s1 w w1 a.state_is a.wild_is
 
-  -- the earlier outputs and those of n + k steps are as many as those in the array and those of k steps
+  -- the number of earlier outputs and those of n + k steps is the number of those in the array and those of k steps
   counted : (k : ℕ) → from + length (span o (n + k) s w).outputs ≡ c1 + length (span o k s1 w1).outputs
   counted k =
       let more = ap (λ (r : Ran). length r.outputs) (whole k)

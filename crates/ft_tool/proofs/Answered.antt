@@ -129,7 +129,7 @@ breaks_off r o w old new is broken = record {
   broken = subst (λ ws. LinesBreakOff (output_lines o (outputs_after o r.strike ws r.steps)) old new) is broken;
 }
 
--- how a run ended, and which of its lines were written, determines how `trial` ends
+-- how a run ended and which of its lines were written determine how `trial` ends
 pub trial_ends : (e : RunEnd) (r : Run) (o : objects.Object) (w : List Wild) (old new : SinkLog) → w ≡ r.wild
     → EndsAs e (status_after o r.strike w r.steps)
     → Puts (put_end e) (output_lines o (outputs_after o r.strike w r.steps)) old new
@@ -139,7 +139,7 @@ trial_ends runs.Detected r o w old new is status put = concludes r o w machine.D
 trial_ends runs.OutOfSteps r o w old new is status put = concludes r o w machine.Running old new is status put
 trial_ends runs.WriteFault r o w old new is status put = breaks_off r o w old new is put
 
--- an answer of one piece was written if that piece was, and broken off if the put of that piece failed
+-- an answer of one piece was written if its piece was, and breaks off if the put of its piece failed
 pub piece_concludes : (Is : Answer → Type 0) (line piece : List ℕ) (status : ℕ) (old new : SinkLog)
     → Is (one_piece line status) → piece ≡ line → new ≡ with_lines (piece ∷ []) old → Concludes Is status old new
 piece_concludes Is line piece status old new is e put =
@@ -176,7 +176,7 @@ run_accepted r o spellable h a is = subst (λ x. RunsUnless x r o a) (sym h) (
   withstands o r.strike r.wild spellable h,
 )
 
--- how a run of an accepted object ended, and which of its lines were written, determines how `run` ends
+-- how a run of an accepted object ended and which of its lines were written determine how `run` ends
 pub run_ends : (e : RunEnd) (r : Run) (o x : objects.Object) (w : List Wild) (old new : SinkLog) → IsSpellable o
     → refusal o ≡ None → x ≡ o → w ≡ r.wild → EndsAs e (status_after x r.strike w r.steps)
     → Puts (put_end e) (output_lines x (outputs_after x r.strike w r.steps)) old new

@@ -32,7 +32,7 @@ pub record GaveSome (takes takes' : Option (List ℕ)) (total : ℕ) : Type 0 wh
   pub together : sum sizes ≡ total
   pub some : All (λ count. 0 < count) sizes
 
--- after one more take that returned bytes, this holds for the new total
+-- after one more take that returned bytes, `GaveSome` holds for the new total
 pub gave_more : (takes takes' takes'' : Option (List ℕ)) (total total' n : ℕ) → GaveSome takes takes' total → takes''
     ≡ append_told takes' (n ∷ []) → 0 < n → total' ≡ total + n → GaveSome takes takes'' total'
 gave_more takes takes' takes'' total total' n h is some more = record {
@@ -42,8 +42,7 @@ gave_more takes takes' takes'' total total' n h is some more = record {
   some = All-push (λ count. 0 < count) h.sizes n h.some some;
 }
 
--- if one more take succeeds, with or without bytes, and none follows, the takes return at most `most` bytes and all but
--- the last return some
+-- after one more take, with or without bytes, at most `most` bytes were read and all takes but the last returned some
 pub takes_last : (most : ℕ) (old mid new : SourceLog) (bytes more : List ℕ) (n : ℕ) →
     GaveSome old.takes mid.takes (length bytes) → Consumes old.left mid.left bytes
     → new.takes ≡ append_told mid.takes (n ∷ []) → Consumes mid.left new.left more → length more ≡ n →

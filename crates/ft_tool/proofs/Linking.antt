@@ -185,12 +185,12 @@ links_refused linkage modules e h a is =
 
 -- THE MAP
 
--- if the lines of a short text are read as a map, the text is this map
+-- a text within the size limit is a map if its lines are read as that map
 pub is_map : (text : List ℕ) (linkage : LinkMap) → length text ≤ 65536 → (said : List MapLine) → AreSaid text said →
     answer_of said ≡ Is linkage → IsMap text linkage
 is_map text linkage short said lines is = record { short = short; lines = said; are_said = lines; is = is }
 
--- if a line of a short text is refused, the text ends the link with that refusal
+-- a text within the size limit ends the link if one of its lines is refused
 pub map_refused : (text : List ℕ) → length text ≤ 65536 → (said : List MapLine) → AreSaid text said → (e : MapError) →
     IsRefusal e (answer_of said) → (a : Answer) → IsMapRefused e a → EndsAtMap text a
 map_refused text short said lines (maps.Line line) h a is =
@@ -199,7 +199,7 @@ map_refused text short said lines (maps.Twice line) h a is =
     line_twice line (record { short = short; lines = said; are_said = lines; is = h }) is
 map_refused text short said lines maps.NoMemory h a is = absurd is
 
--- if the text ends the link, or the call ends early, it is right that no module was loaded
+-- no module need be loaded if the text ends the link or the call ends early
 pub makes_no_module : (told : Option Files) (text : List ℕ) (early : Bool) (asked : Option LoadList) →
     ((a : Answer) × EndsAtMap text a) ⊎ IsTrue early → MakesOfText told text early asked asked
 makes_no_module told text early asked h = inl (h, refl)

@@ -45,7 +45,7 @@ HasBytes files = (name bytes : List ℕ) → get files name ≡ Some bytes → A
 none_bytes : HasBytes empty
 none_bytes name bytes e = absurd (none-some bytes (sym (get-empty (slice_cmp nat_cmp) name) ∙ e))
 
--- this is still so after a file is inserted whose content consists of bytes
+-- this stays true when a file whose content consists of bytes is inserted
 chosen : (t : Bool) (old : Option (List ℕ)) (more bytes : List ℕ) → AreBytes more →
     (old ≡ Some bytes → AreBytes bytes) → cond t (Some more) old ≡ Some bytes → AreBytes bytes
 chosen true old more bytes is rest e = subst AreBytes (ap (λ o. unwrap_or o []) e) is

@@ -22,7 +22,7 @@ use Rattle.ft_tool.proofs.Statuses.{usage_alone}
 
 -- REQUESTS
 
--- if an answer fits any script, it answers the request
+-- if an answer is right for every script, it answers the request
 any_script : (r : Request) (told : Option Files) (left : Option (List ℕ)) (a : Answer) →
     OfFiles told (λ files. (script : List ℕ) → Answers r told files script a) → AnswersTo r told left a
 any_script r told left a h = let s = some_script left in (h.0, (h.1.0, (s.0, (s.1.0, h.1.1 s.0))))

@@ -124,7 +124,7 @@ module _ (one_object : (bytes : List ℕ) (o : Object) → IsSpelling bytes o �
   added_same linkage (first ∷ others) a b h g = unless_same (link_refusal linkage first others) linkage first others a b
       h g
 
-  -- two answers for the files of further modules are equal; for one of them, given the bytes of the first file
+  -- two answers for the files of further modules are equal, by induction over the files
   next_same : (files : Files) (linkage : LinkMap) (modules : List Object) (names : List Word) (bytes : List ℕ)
       (a b : Answer)
       → ((o : Object) (x y : Answer) → LinksFiles (Some files) linkage (modules ++ o ∷ []) names x →

@@ -135,7 +135,7 @@ over_struck c told bytes h a is =
     let m = with_strikes (refusal (object_of bytes)) c told bytes (object_of bytes) a h.0 is in
     (m.0, (m.1.0, (bytes, (m.1.1.0, inl (object_of bytes, ((version_at bytes, h.1), m.1.1.1))))))
 
--- likewise if the answer is for the shelf after the load, and for the bytes as the object's view borrows them
+-- likewise for an answer to the borrowed bytes, with the shelf as it is after the load
 pub own_bytes : (told between : Option Files) (name : Word) (bytes lent : List ℕ) → between ≡ told → lent ≡ bytes →
     LoadsObject told name (Ok bytes) → IsToldFile between name lent
 own_bytes told between name bytes lent e f h = subst (λ t. IsToldFile t name lent) (sym e)
@@ -282,7 +282,7 @@ surveys_loaded c told bytes Early asked between asked' h first more =
     list_loaded c told (λ files. SpellsFile files c.object) Early asked between asked'
     (spells_file told c.object bytes h) first more
 
--- likewise for a campaign on an accepted object; on any other object, it may load the object alone
+-- likewise for a campaign on an accepted object; otherwise, or if it ends early, it may load the object alone
 pub campaigns_loaded : (c : Campaign) (told : Option Files) (bytes : List ℕ) (Early : Type 0)
     (asked between asked' : Option LoadList) → LoadsObject told c.object (Ok bytes) →
     HasMade (object_load c.object ∷ []) asked between

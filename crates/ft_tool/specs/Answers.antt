@@ -149,8 +149,8 @@ CampaignsObject c files o a = CampaignsUnless (refusal o) (CampaignsAccepted c f
 abbrev pub OverSource : (Program → Answer → Type 0) → Word → Files → Answer → Type 0
 OverSource Over name files a = (text : List ℕ) × (IsFile files name text × OverText Over text a)
 
--- the answer of a command for files and a script. A link has only the revealed files: if a shelf reveals none, a link
--- may get different bytes each time it loads the same name
+-- the answer of a command for files and a script. The answer of a link depends only on the revealed files: if a shelf
+-- reveals none, a link may get different bytes each time it loads the same name
 abbrev pub Answers : Request → Option Files → Files → List ℕ → Answer → Type 0
 Answers Usage told files script a = a ≡ usage
 Answers (Checks name) told files script a = OverFile ChecksObject name files a

@@ -53,7 +53,7 @@ pub record LoadsList (c : Campaign) (Comes : Type 0) (asked asked' : Option Load
   pub other : c.faults ≢ c.object
   pub made : HasMade (object_load c.object ∷ list_load c.faults ∷ []) asked asked'
 
--- no fault list was loaded: the call ended early, or the list has the object's name if the campaign got to it
+-- no fault list was loaded: the call ended early or, if the campaign got to its list, the list has the object's name
 pub record LoadsNoList (c : Campaign) (Comes Early : Type 0) (asked asked' : Option LoadList) : Type 0 where
   pub none : (Comes → c.faults ≡ c.object) ⊎ Early
   pub made : HasMade (object_load c.object ∷ []) asked asked'
