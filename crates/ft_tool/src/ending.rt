@@ -115,7 +115,7 @@ pub(crate) fn refuse_bytes<K: Sink>(error: ObjectError, out: &mut K) -> Ending
     }
 }
 
-/// Ends a command that has no object: writes the line of the refusal if its bytes are refused.
+/// Ends a command whose object was not read: writes the line of the refusal if the object's bytes are refused.
 pub(crate) fn refuse_object<K: Sink>(fault: ObjectFault, out: &mut K) -> Ending
     ensures ends { Ends result (IsRefusedBy fault)
         (K.log out.old) (K.log out.new) (fault ≡ ObjectFault.Failed) }
@@ -155,7 +155,7 @@ pub(crate) fn put_list_line<K: Sink>(number: u64, told: u64, out: &mut K) -> End
     }
 }
 
-/// Ends a command that has no fault list: writes the line of the refusal if its text is refused.
+/// Ends a command whose fault list was not read: writes the line of the refusal if the list is refused.
 pub(crate) fn refuse_list<K: Sink>(fault: ListFault, out: &mut K) -> Ending
     ensures ends { Ends result (IsListRefusedBy fault)
         (K.log out.old) (K.log out.new) (fault ≡ ListFault.Failed) }
@@ -169,7 +169,7 @@ pub(crate) fn refuse_list<K: Sink>(fault: ListFault, out: &mut K) -> Ending
     }
 }
 
-/// Ends a command that has no script: writes the line of the refusal if it is too long.
+/// Ends a command whose script was not read: writes the line of the refusal if the script is too long.
 pub(crate) fn refuse_script<K: Sink>(fault: ScriptFault, out: &mut K) -> Ending
     ensures ends { Ends result (IsScriptRefusedBy fault)
         (K.log out.old) (K.log out.new) (fault ≡ ScriptFault.Failed) }
