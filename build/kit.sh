@@ -3,7 +3,7 @@
 # The kit that the proofs were made with, as `rt version` names it.
 kit_of_proofs() { sed -n 's/.*`rt version`: \([^)]*\)).*/\1/p' "$top/docs/PROMISES.md"; }
 
-# Whether the kit keeps, by checksum, what `rt ci` proved. Its `rt ci` then takes names of crates, and --anew. A kit
+# Whether the kit keeps, by checksum, what `rt ci` proved. If so, `rt ci` accepts names of crates, and --anew. A kit
 # that keeps nothing proves every crate from scratch.
 keeps_proofs() { rt help 2>&1 | grep -q -e --anew; }
 

@@ -43,7 +43,7 @@ def promising():
 
 
 def exports(crate):
-    """The names that a crate gives to others."""
+    """The names that a crate exports to others."""
     root = f"crates/{crate}/src/lib.rt"
     if not os.path.exists(os.path.join(TOP, root)):
         return set()

@@ -171,7 +171,7 @@ def code(words):
 
 
 def clause_words(one):
-    """The clauses of a requirement in short: one of the same function as the last is only `.PART`."""
+    """The clauses of a requirement in short: a clause of the same function as the one before it is only `.PART`."""
     words, last = [], None
     for _, names in one.named:
         for name in names:

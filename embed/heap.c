@@ -6,7 +6,7 @@
 /* Its address stands in for a block when malloc fails. Nothing reads or writes it. */
 static char nothing[16];
 
-/* What an allocation that gave p returns. A request for 0 bytes gets a block, too. */
+/* The result of an allocation for which malloc or realloc returned p. A request for 0 bytes gets a block, too. */
 static struct tried told(void *p)
 {
     struct tried tried = {p != NULL, p != NULL ? p : nothing};

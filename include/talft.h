@@ -118,7 +118,7 @@ uint32_t talft_run(const uint8_t *bytes, size_t len, const uint8_t *fault, size_
 
 /*
  * Like talft_run; but if the fault is detected, the object is run again without the fault, and its outputs replace the
- * first ones. So the outputs and the end are those of the run without the fault, and the result is never DETECTED.
+ * first ones. So the outputs and the result are those of the run without the fault; the result is never DETECTED.
  * The first run also ends when the array is full: what it would have detected later causes no restart.
  */
 uint32_t talft_recover(const uint8_t *bytes, size_t len, const uint8_t *fault, size_t fault_len, const uint8_t *wild,
@@ -171,7 +171,7 @@ typedef struct talft_module {
 /*
  * Links 1 to 64 modules as a link map says, and writes the object, in version 2 of the format. For each line `module FILE`
  * of the map, it takes the first module named FILE in the array. The object is accepted; it runs as the modules do,
- * and one fault is masked or detected. OK or NO_ROOM: *made is the number of its bytes.
+ * and a single fault is masked or detected. OK or NO_ROOM: *made is the number of its bytes.
  *
  * NOT_LINKED, part 7: the number of the refusal is that of the command `talft link`. MALFORMED or REFUSED: talft_check
  * would return this for a module. NO_MODULE: no module has the name. In these cases *module is the module's number in
@@ -234,10 +234,10 @@ uint32_t talft_open(const uint8_t *bytes, size_t len, talft_machine *machine, ta
 
 /*
  * Takes at most `steps` further steps, and writes the outputs of these steps, in order. OK if the run is done, DETECTED,
- * CUT if all steps were taken (or 2^64 - 1 in all), FULL if the array is full and steps are left, or NOT_NOW if the
- * machine is not open; then *ran and the array are unchanged. ran->steps is how many steps this call took: none after
- * the end of the run, and none if there is no room for outputs. DETECTED comes only after a strike: then the outputs so
- * far are a prefix of those of the run without it. A wild load stops the machine.
+ * CUT if all steps were taken or the run has taken 2^64 - 1 in all, FULL if the array is full and steps are left, or
+ * NOT_NOW if the machine is not open; then *ran and the array are unchanged. ran->steps is how many steps this call
+ * took: none after the end of the run, and none if there is no room for outputs. DETECTED comes only after a strike:
+ * then the outputs so far are a prefix of those of the run without it. A wild load stops the machine.
  */
 uint32_t talft_advance(talft_machine *machine, uint64_t steps, talft_output *outputs, size_t room, talft_ran *ran);
 

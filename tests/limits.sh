@@ -3,7 +3,7 @@
 # half of it, with a native stack of 1 MB. Writes one row for each, as in tests/limits.tsv:
 #     bash tests/limits.sh >tests/limits.tsv
 # Arguments are patterns for the names of rows (limits.py list). A row fails if the status or the last line is wrong, if
-# there is a crash message, if the program takes more than 1.5 GB, or if time or memory grow faster than the work. Time
+# there is a crash message, if the program takes more than 1.5 GB, or if time or memory grows faster than the work. Time
 # and memory are measured without explanations; each full row is then run once more with them. It takes ten minutes,
 # needs Python 3 and GNU time, and is not part of the gate.
 set -u

@@ -137,7 +137,7 @@ def sliding(n, count=4096):
 
 
 def updates(n):
-    """Each node is the memory before it with a new word at an address. The addresses take turns: none is replaced."""
+    """Each node updates the memory before it. Two addresses take turns, so no update replaces the one before it."""
     nodes = variables(2) + upd(0, 1, 2, 2) + b"".join(upd(k - 1, 1 + k % 2, 1, 2) for k in range(4, n))
     return own(nodes + sel(n - 1, 1, 2), n, 2)
 

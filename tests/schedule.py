@@ -18,7 +18,7 @@ def registers(words):
 
 
 def leads(words):
-    """Returns whether an instruction is leading; of operations on two registers, and `idx`, the first one read decides."""
+    """Returns whether an instruction is leading. With two registers, and for `idx`, the first register read decides."""
     name = words[0]
     if name[:3] in ("ld_", "st_"):
         return name[3] == "G"

@@ -47,7 +47,7 @@ def defined(lines, module):
 
 
 def after(lines, at):
-    """Where the lines end that belong to the line before `at`."""
+    """The end of the lines that belong to the line before `at`."""
     while at < len(lines) and lines[at].startswith(" "):
         at += 1
     return at

@@ -31,7 +31,7 @@ class Symbols:
         return self(op, a, b)
 
     def is_turned(self, cond, tested):
-        """Whether a word is 0 exactly if the condition is not."""
+        """Whether a word is 0 exactly when the condition is not."""
         cond, tested = self.rows[cond], self.rows[tested]
         return cond[1:] == tested[1:] and (cond[0] == "eq") != (tested[0] == "eq") and \
             {cond[0], tested[0]} <= {"eq", "xor", "sub"}
@@ -76,7 +76,7 @@ class Follower:
             self.wanted.append((self.return_cell(home), self.symbol("back", home)))
 
     def stack(self, i, by=0):
-        """Word i about the stack of frames, plus `by`."""
+        """Word i of those that describe the stack of frames, plus `by`."""
         return self.symbol.operation("add", self.symbol("stack", i), self.symbol("word", by))
 
     def return_cell(self, function):

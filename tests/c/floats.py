@@ -12,7 +12,7 @@ BITS = {F32: (0xBC, 0xBE, I32, 0x5B), F64: (0xBD, 0xBF, I64, 0x61)}
 
 
 def instructions():
-    """Each instruction, with the types that it takes and gives."""
+    """Each instruction, with the types of its operands and of its result."""
     for kind, test, one, two in ((F32, 0x5B, 0x8B, 0x92), (F64, 0x61, 0x99, 0xA0)):
         yield from ((test + n, [kind, kind], I32) for n in range(6))
         yield from ((one + n, [kind], kind) for n in range(7))
@@ -26,7 +26,7 @@ def instructions():
 
 
 def word(draw, kind):
-    """The bits of a number: an edge case, a magnitude near 1, an integer, or any."""
+    """The bits of a number: an edge case, a magnitude near 1, an integer, or any bits."""
     width, exponent = {I32: (32, 0), I64: (64, 0), F32: (32, 8), F64: (64, 11)}[kind]
     if not exponent:
         return draw.getrandbits(draw.choice((8, width)))

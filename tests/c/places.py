@@ -26,7 +26,7 @@ WITHOUT_RESULT = "st", "ref"
 
 
 def mentions(name, values):
-    """Whether a name is that of one of these values, or of an address by one."""
+    """Whether a name is that of one of these values, or of an address indexed by one."""
     return (name[1] if isinstance(name, tuple) and name[0] == "index" else name) in values
 
 

@@ -1,4 +1,4 @@
-# Damaged objects: each prefix of an object's bytes, and each byte, with its lowest bit flipped.
+# Damaged objects: each prefix of an object's bytes, and the object with the lowest bit of each byte flipped in turn.
 
 object=$top/tests/objects/jump.obj
 size=$(wc -c <"$object")

@@ -150,7 +150,7 @@ says 'an empty line of a script' 'print r1\n' 'r1 G 0'
 program=$top/examples/sieve.src
 says 'a variable is watched in both colours' 'watch j\ninfo breaks' '  1  watch r1 r33'
 says 'a watched variable' 'watch j' 'watch 1: j: r1 G 0, r33 G 0'
-# By sieve.src, the first word of j is 2 * 2. Before that, r33 turns blue.
+# In sieve.src, the first word that j gets is 2 * 2. Before that, r33 turns blue.
 says 'its green register' 'watch j\ncontinue\ncontinue' 'watch 1: r1 G 0 -> r1 G 4'
 says 'its blue register' 'watch j\ncontinue\ncontinue\ncontinue' 'watch 1: r33 B 0 -> r33 B 4'
 array='`composite` is an array of 30 cells: use composite[0] to composite[29], or `x/30 composite`'

@@ -1,4 +1,4 @@
-# Files, pipes, folders and devices: each gives its status, and no crash message.
+# Files, pipes, folders and devices: each leads to the expected status, without a crash message.
 
 expect 'a missing file' 3 '' trial "$work/missing"
 expect 'a folder' 3 '' trial "$work"

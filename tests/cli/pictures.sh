@@ -129,8 +129,8 @@ if command -v gnuplot >/dev/null; then
     "$(cd reader && find . -size +4k \( -name '*.??g' -o -name '*.html' \) | sed 's/..//' | sort | paste -sd ' ')"
 fi
 
-# `choose SITE VERDICT` writes the script that chooses these, and gives the number of rows and the page's note about
-# them.
+# `choose SITE VERDICT` writes the script that chooses these on the page, and returns the number of rows and the page's
+# note about them.
 choose() {
   printf '(() => { for (const [id, value] of [["site", "%s"], ["verdict", "%s"]]) {' "$1" "$2"
   printf 'const select = document.getElementById(id); select.value = value; '

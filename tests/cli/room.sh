@@ -35,7 +35,8 @@ mv out scheduled
 cmp upgraded scheduled
 report 'the schedule of 65,536 blocks' 0 $?
 
-# Plans, fault lists and scripts: 4,096 wild answers, 65,536 faults, 1,048,576 bytes of a script, 64 breakpoints.
+# Plans, fault lists and scripts: 4,096 answers to wild loads, 65,536 faults, 1,048,576 bytes of a script, and 64
+# breakpoints.
 for room_name in wild-trial wild-survey wild-debug idle-campaign detected-survey script-step script-where; do
   at_limit "$room_name"
 done

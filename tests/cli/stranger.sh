@@ -1,4 +1,5 @@
-# What a newcomer meets besides the program's answers: objects built in place, campaigns that are cut, one notation.
+# What a newcomer meets besides the program's answers: objects built in place, campaigns that are cut, and one
+# notation for strikes.
 
 cp "$top/examples/five.asm" built.asm
 tool 'an object is built' 0 '' build built.asm

@@ -55,7 +55,7 @@ class Facts:
         self.check(session, "only a commit changes a cell", set(), changed - stored)
 
     def reads(self, session, chance):
-        """Checks that a strike of a register that the next step does not read changes no other word."""
+        """Checks that a strike on a register that the next step does not read changes no other word."""
         position, fetched = session.position, session.fetched(session.position)
         if not fetched:
             return

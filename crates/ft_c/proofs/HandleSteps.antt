@@ -69,7 +69,7 @@ module _ {M : Type 1} {𝓤 : Ura M} {𝓛 : Logic 𝓤} {K : Type 0} {Γ : List
       fpack t (Valss (u64 ∷ RawPtr ∷ [])) (within (shape handle.the_type) (1, (block_ptr b o, tt)) (v ∷ []))
       (vint w64 1 ∷ [], (vptr b o ∷ [], tt)) $ fjoin t $ s)
 
-  -- an empty handle
+  -- the machine value of an empty handle
   pub handle_none : K → Step K 𝓛 (‵ (handle.the_row.own_val (record { there = 0; at = null_ptr; task = None })
       (word 0 (vint w64 0) ∷ [])) ∷ Γ) G Γ G
   handle_none t = step (λ s. let v : Val = word 0 (vint w64 0) in
@@ -88,7 +88,7 @@ module _ {M : Type 1} {𝓤 : Ura M} {𝓛 : Logic 𝓤} {K : Type 0} {Γ : List
   held_out t (suc m) p None f g = feq_l t (λ e. absurd (one_is_not_zero e))
   held_out t (suc m) p (Some x) f g = g m x refl refl
 
-  -- a handle, taken apart
+  -- taking a handle apart: either it is empty, or it owns the box of its run
   pub handle_out : K → (d : handle.the_row.Denot) (vs : List Val)
       → ((w : Val) → T (has_ty ty_ptr w) × WT w → d.task ≡ None → vs ≡ word 0 w ∷ [] → Seq K 𝓛 Γ G)
       → ((b o m : ℕ) (a : Global) (x : task.the_row.Denot) → suc m < 2 ^ 64 → d.task ≡ Some x → vs

@@ -25,7 +25,7 @@ impl Model for Handle {
 }
 
 impl Handle {
-    /// No run.
+    /// A handle without a run.
     fn empty() -> Handle
         ensures { result.task ≡ None }
     {
@@ -35,7 +35,7 @@ impl Handle {
         }
     }
 
-    /// A run.
+    /// The handle of this run.
     fn seal(loose: Loose<Task, Global>) -> Handle
         ensures { result.task ≡ Some loose.value }
     {

@@ -70,7 +70,7 @@ pub extern "C" fn talft_open(
 
 /// Takes at most `steps` steps of the run that a handle holds, and fewer if the run is done or detected, or the array
 /// is full. The outputs of these steps go into the array. Returns 0 for a run that is done; 1 for one that is detected;
-/// 9 if all steps were taken (or 2^64 - 1 in all); 14 if the array is full; or 17 for an empty handle.
+/// 9 if all steps were taken or the run has taken 2^64 - 1 in all; 14 if the array is full; or 17 for an empty handle.
 #[unsafe(no_mangle)]
 pub extern "C" fn talft_advance(
     alloc: Global,
@@ -96,7 +96,7 @@ pub extern "C" fn talft_advance(
 
 /// Strikes a site of the run that a handle holds before its next step, for tests: the text names the site, such as
 /// `r1`, `d`, `pcg` or `qv0`, and the word there becomes `value`. Returns 0 on success; 2 for a text that names no
-/// site; 18 if the run was struck before, has stopped, or has no such place in its queue; or 17 for an empty handle.
+/// site; 18 if the run was struck before or has stopped, or if the site does not exist; or 17 for an empty handle.
 /// Unless it returns 0, the handle is unchanged.
 #[unsafe(no_mangle)]
 pub extern "C" fn talft_strike(alloc: Global, machine: &mut Handle, site: &[u8], value: u64) -> u32

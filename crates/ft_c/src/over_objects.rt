@@ -59,8 +59,8 @@ pub extern "C" fn talft_run(
 }
 
 /// Checks the object that bytes spell, and runs it as `talft_run` does. If a fault is detected, it runs the object
-/// again without the fault, and the new outputs replace the first ones. So the outputs and the end are those of the run
-/// without a fault. Returns 0, 9, 14, 2, 7, 8 or 5, as `talft_run` does.
+/// again without the fault, and the new outputs replace the first ones. So the outputs and the status are those of the
+/// run without a fault. Returns 0, 9, 14, 2, 7, 8 or 5, as `talft_run` does.
 #[unsafe(no_mangle)]
 pub extern "C" fn talft_recover(
     alloc: Global,

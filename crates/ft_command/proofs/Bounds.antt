@@ -1,4 +1,4 @@
--- The number that `--steps` gives is within what the command allows.
+-- The numbers that options and operands give are within what the command allows.
 use Rattle.std.proofs.Common.{ℕ, ◌≤◌, List, [], ◌∷◌, Option, Some, None, sym, subst, arith}
 use Rattle.std.specs.Option.{option_map, unwrap_or}
 use Rattle.std.specs.Prelude.{IfSome}
@@ -82,7 +82,7 @@ few_of verb.Link operand given h = tt
 none_up_to : (v : Verb) → IsUpTo (allowed_of v).steps none_given.steps
 none_up_to v = tt
 
--- if the words are a command for a campaign, each of its runs takes few steps
+-- if the words ask for a campaign, each of its runs takes at most 1,000,000 steps
 pub few_steps : (words : List Word) (request : Request) → AreCommand words request → HasFewSteps request
 few_steps words request h = subst HasFewStepsIfSome h.request_is
     (few_of h.verb h.operand h.given (after_options (allowed_of h.verb) h.options none_given h.given (none_up_to h.verb)

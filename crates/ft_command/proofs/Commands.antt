@@ -61,7 +61,7 @@ seconds a b x y xs ys e = ap (λ ws. slice_index_or ws 1 []) e
 rests : (a b x y : Word) (xs ys : List Word) → a ∷ x ∷ xs ≡ b ∷ y ∷ ys → xs ≡ ys
 rests a b x y xs ys e = ap (λ ws. drop 2 ws) e
 
--- what the words ask for as a command, once their verb and what their options give are known
+-- what words ask for as a command is what their verb asks for, given the operand and what the options give
 asked_for : (words options : List Word) (v : Verb) (operand : Word) (given : Given) (other : Request) → words
     ≡ name_of v ∷ operand ∷ options
     → ((g : Given) → GivesAll (allowed_of v) options none_given g → g ≡ given) → AreCommand words other →
@@ -106,7 +106,7 @@ no_usage verb.Disassemble operand given e = absurd (cc)
 no_usage verb.Schedule operand given e = absurd (cc)
 no_usage verb.Link operand given e = absurd (cc)
 
--- the words ask for what their command asks for
+-- words that are a command ask for what the command asks for
 pub asks : (words : List Word) (request : Request) → AreCommand words request → Asks words request
 asks words Usage h = absurd (no_usage h.verb h.operand h.given h.request_is)
 asks words (Checks object) h = h

@@ -8,7 +8,7 @@ use Rattle.ft_command.specs.declared.options.OptionError.{OptionError}
 use Rattle.ft_command.specs.Options.{Word, Given, GivesSteps, GivesTurns, GivesStrike, GivesWild, GivesFaults, Gives}
 use Rattle.ft_command.specs.Options.{by_steps, by_turns, by_strike, by_wild, by_faults, GivesAll}
 
--- a word does not equal two names that differ in a letter
+-- a word cannot equal both of two names that differ in a letter
 differ : (name a b : Word) (i x : ℕ) → name ≡ a → name ≡ b → nat_eq (slice_index a i) x ≡ true →
     nat_eq (slice_index b i) x ≡ false → ⊥
 differ name a b i x e f p q = true≢false (sym p ∙ ap (λ n. nat_eq (slice_index n i) x) (sym e ∙ f) ∙ q)
@@ -87,12 +87,12 @@ faults_only allowed name value old new is only g (by_wild h) =
 faults_only allowed name value old new is only g (by_faults h) =
     only g (subst (λ n. GivesFaults allowed n value old g) is h)
 
--- a weaker fact about a successful call
+-- what is known after a successful call may be weakened
 pub on_ok : {A P Q : Type 0} (r : Result A OptionError) → (P → Q) → OnOk r P → OnOk r Q
 on_ok (Ok x) f h = f h
 on_ok (Err e) f h = tt
 
--- the first two words of a list, and the rest
+-- a list of at least two words is the first two followed by the rest
 pub split_two : {A B : Type 0} (f : A → B) (xs : List A) (a b : A) (n m : B) → 2 ≤ length xs → a ≡ get_or xs 0 a → b
     ≡ get_or xs 1 b → n ≡ f a → m ≡ f b → map f xs ≡ n ∷ m ∷ map f (take (length xs - 2) (drop 2 xs))
 split_two f [] a b n m two first second p q = absurd (omega arith)
@@ -102,7 +102,7 @@ split_two f (x ∷ y ∷ xs) a b n m two first second p q =
     ap (λ v. v ∷ f y ∷ map f xs) (ap f (sym first) ∙ sym p) ∙ ap (λ v. n ∷ v ∷ map f xs) (ap f (sym second) ∙ sym q)
     ∙ ap (λ v. n ∷ m ∷ map f v) (sym rest)
 
--- what words give after their first option
+-- words give what their rest gives after their first option
 pub gives_on : (allowed : Allowed) (words more : List Word) (name value : Word) (old new g : Given) → words
     ≡ name ∷ value ∷ more → ((mid : Given) → Gives allowed name value old mid → mid ≡ new) →
     GivesAll allowed words old g → GivesAll allowed more new g
@@ -134,7 +134,7 @@ pub gives_only : {A : Type 0} (f : A → Word) (allowed : Allowed) (xs : List A)
 gives_only f allowed [] old g e h = h
 gives_only f allowed (x ∷ xs) old g e h = absurd (omega arith)
 
--- a single word that is left gives nothing
+-- a single word left over is not a valid option
 pub one_left : {A : Type 0} (f : A → Word) (allowed : Allowed) (xs : List A) (old g : Given) → length xs < 2 →
     (length xs ≡ 0 → ⊥) → GivesAll allowed (map f xs) old g → ⊥
 one_left f allowed [] old g short some h = some refl

@@ -21,7 +21,7 @@ use Rattle.ft_command.proofs.Commands.{asks_only, usage_only}
 
 -- VALUES
 
--- the maximum, if there is one, is a word
+-- the maximum, if there is one, fits in 64 bits
 abbrev IsAWordIfSome : Option ℕ → Type 0
 IsAWordIfSome None = Unit {0}
 IsAWordIfSome (Some most) = most < 2 ^ 64

@@ -114,7 +114,7 @@ pub record Campaign : Type 0 where
   pub steps : ℕ
   pub wild : List Wild
 
--- a campaign over the faults of a file; an option that is not given has its default: 1,000,000 steps, no answers
+-- a campaign with the faults of a file; an option that is not given has its default: 1,000,000 steps, no answers
 abbrev pub campaign_of : Word → Given → Word → Campaign
 campaign_of object given faults = record {
   object = object;
@@ -141,7 +141,7 @@ pub record Execution : Type 0 where
 abbrev pub execution_of : Word → Given → Execution
 execution_of source given = record { source = source; steps = unwrap_or given.steps 1000000 }
 
--- a debugger session over an object, with answers to wild loads
+-- a debugger session on an object, with answers to wild loads
 pub record Debugging : Type 0 where
   pub object : Word
   pub wild : List Wild
@@ -177,7 +177,7 @@ pub data Request : Type 0 where
   Executes : Execution → Request
   -- the meaning of a source
   Means : Meaning → Request
-  -- a debugger session over an unchecked object
+  -- a debugger session on an unchecked object
   Debugs : Debugging → Request
   -- the run of an object of this many turns, and a campaign on it
   Demonstrates : ℕ → Request

@@ -51,7 +51,7 @@ pub record GivesStrike (allowed : Allowed) (name value : Word) (old new : Given)
   pub form : IsStrikeText value strike
   pub given : new ≡ record old { strike = Some strike }
 
--- `--wild` with the text of wild answers, if it is allowed and was not given before
+-- `--wild` with the text of answers to wild loads, if it is allowed and was not given before
 pub record GivesWild (allowed : Allowed) (name value : Word) (old new : Given) : Type 0 where
   pub name_is : name ≡ codes "--wild"
   pub allowed_is : allowed.wild ≡ true

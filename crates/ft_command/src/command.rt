@@ -22,7 +22,7 @@ const TURNS: u64 = 1_000_000;
 pub enum Command<'w> {
     /// The words are not a command.
     Usage,
-    /// Checks the object of this file.
+    /// Checks the object in this file.
     Check(&'w str),
     /// Checks an object and runs it.
     Run(Run<'w>),
@@ -34,25 +34,25 @@ pub enum Command<'w> {
     Campaign(Campaign<'w>),
     /// Tries a list of faults on an object without checking it.
     Survey(Campaign<'w>),
-    /// Compiles the source of this file.
+    /// Compiles the source in this file.
     Compile(&'w str),
     /// Compiles a source and runs its object.
     Exec(Execution<'w>),
     /// Writes the meaning of a source.
     Mean(Meaning<'w>),
-    /// Runs a debugger session over an object without checking it.
+    /// Runs a debugger session on an object without checking it.
     Debug(Debugging<'w>),
     /// Makes an object of this many turns, runs it and tries faults on it.
     Demo(u32),
-    /// Writes the object of this file in version 2 of the format.
+    /// Writes the object in this file in version 2 of the format.
     Upgrade(&'w str),
-    /// Reads the assembly text of this file and writes its object.
+    /// Reads the assembly text in this file and writes its object.
     Assemble(&'w str),
-    /// Writes the assembly text of the object of this file.
+    /// Writes the assembly text of the object in this file.
     Disassemble(&'w str),
-    /// Checks the object of this file and writes its schedule.
+    /// Checks the object in this file and writes its schedule.
     Schedule(&'w str),
-    /// Reads the link map of this file, and writes the object linked from its modules.
+    /// Reads the link map in this file, and writes the object linked from its modules.
     Link(&'w str),
 }
 
@@ -89,7 +89,7 @@ pub struct Execution<'w> {
     pub steps: u64,
 }
 
-/// A debugger session over an object: the file's name, and the answers to wild loads.
+/// A debugger session on an object: the file's name, and the answers to wild loads.
 #[derive(Drop)]
 pub struct Debugging<'w> {
     pub object: &'w str,
@@ -155,7 +155,7 @@ fn debugging_of<'w>(alloc: Global, object: &'w str, options: Options<'w>) -> Deb
     }
 }
 
-/// The number of turns of a demonstration, from 1 to 10,921; `None` exactly if the word is not such a number.
+/// The number of turns of a demonstration, from 1 to 10,921; `None` for any other word.
 fn turns_of(operand: &str) -> Option<u32>
     ensures { result ≡ turns_up_to 10921 operand.now }
 {

@@ -43,7 +43,7 @@ pub enum Verb {
     Exec,
     /// `mean`: writes the meaning of a source.
     Mean,
-    /// `debug`: runs a debugger session over an object without checking it.
+    /// `debug`: runs a debugger session on an object without checking it.
     Debug,
     /// `demo`: makes an object of this many turns, runs it and tries faults on it.
     Demo,

@@ -1,4 +1,4 @@
--- The bytes of an object, split at the initial word of a cell, and of the object with another word there.
+-- The bytes of an object, split around a cell's initial word, and the bytes of the object with another word there.
 use Rattle.std.proofs.Common.{◌≡◌, ℕ, zero, suc, ◌+◌, ◌*◌, ◌≤◌, List, [], ◌∷◌, ◌++◌, length, take, drop, map, Some}
 use Rattle.std.proofs.Common.{slice_get, refl, sym, ap, subst, ◌∙◌, append_assoc, arith}
 use Rattle.std.specs.List.{flat_map}
@@ -27,7 +27,7 @@ use Rattle.ft_embed.specs.Cells.{begun_with, with_word, object_with_word}
 
 -- LISTS
 
--- replacing the middle part of a list
+-- replacing the eight bytes in the middle of a list by position leaves the parts before and after them
 replaced : (before middle after new : List ℕ) (at : ℕ) → length before ≡ at → length middle ≡ 8 →
     take at (before ++ (middle ++ after)) ++ (new ++ drop (at + 8) (before ++ (middle ++ after))) ≡ before
     ++ (new ++ after)
@@ -61,7 +61,7 @@ length_head : (past : ℕ) (c : Cell) → length (head_bytes past c) ≡ 8
 unfolding bytes_of
 length_head past c = refl
 
--- the two halves of a cell's record
+-- a cell's record is its first half and then the initial word
 halves : (past : ℕ) (c : Cell) (rest : List ℕ) → written cell_layout (cell_row past c) ++ rest ≡ head_bytes past c
     ++ (bytes_of w64 c.init ++ rest)
 unfolding bytes_of written

@@ -53,7 +53,7 @@ all_of o strike w steps status taken count room le (cut is s all) other =
     record { outputs = ap (outputs_after o strike w) all; status = ap (status_after o strike w) all }
 all_of o strike w steps status taken count room le (full is s all left) other = absurd (other is)
 
--- the run of an accepted object, as far as it went
+-- `RunsInto` holds for a run of an accepted object that took these steps
 pub runs_into : (o : Object) (strike : Option Strike) (w : List Wild) (steps status taken count : ℕ) (s : Status)
     (new : List CellOutput) → IsSpellable o → IsAccepted o → Takes o strike w steps taken s count new
     → ((count room : ℕ) → count ≤ room → taken ≤ steps → (s ≡ Running → count < room → taken ≡ steps) →
@@ -71,7 +71,7 @@ runs_into o strike w steps status taken count s new spellable accepted a ends =
       before = a.before;
     }
 
--- the object that bytes spell was run
+-- `RunsFile` holds if the object that bytes spell was run under the plan that the texts spell
 pub runs_file : (bytes view fault wild : List ℕ) (strike : Option Strike) (w : List Wild) (steps status taken count : ℕ)
     (new : List CellOutput) → view ≡ bytes → Spells bytes (version_at bytes) (object_of view) →
     IsAccepted (object_of view) → IsFault fault strike → AreAnswers wild w
@@ -91,7 +91,7 @@ runs_file bytes view fault wild strike w steps status taken count new same spell
       sound = never_detected (object_of bytes) w spelled'.spellable accepted';
     }
 
--- a refusal has no other status
+-- a status that is 5 or 8 cannot differ from both
 pub only : (n : ℕ) → (n ≡ 5) ⊎ (n ≡ 8) → n ≢ 5 → n ≢ 8 → ⊥
 only n (inl five) a b = a five
 only n (inr eight) a b = b eight

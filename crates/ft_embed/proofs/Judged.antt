@@ -24,18 +24,18 @@ use Rattle.ft_embed.specs.Verdicts.{Tells, IsAcceptedFile, judged, told_refusal,
 use Rattle.ft_embed.specs.Texts.{IsCompiled, IsSourceRefused, told_source, IsMalformed, IsAsmRefused, IsAsmBroken}
 use Rattle.ft_embed.specs.Texts.{none_of_the_forms, out_of_order, too_long, told_asm, HandsOver, fits, too_many}
 
--- the verdict on an object with this refusal
+-- the verdict on an object that is refused is status 8 and its refusal
 pub tells_refused : (x : Option Refusal) (r : Refusal) → x ≡ Some r → Tells 8 (told_refusal r) (judged x)
 tells_refused x r is = subst (λ y. Tells 8 (told_refusal r) (judged y)) (sym is) (record {
   status_is = refl;
   why_is = refl;
 })
 
--- bytes that break this rule
+-- bytes that break a rule are malformed, and the first rule that they break is reported
 pub malformed : (bytes : List ℕ) (e : ObjectError) → broken bytes ≡ Some e → IsMalformed bytes (told_error e)
 malformed bytes e is = record { error = e; is = is; told_is = refl }
 
--- an assembly text that is refused
+-- an assembly text that is refused is reported with the number of its refusal
 pub asm_text : (text : List ℕ) (error : AsmError) (line : ℕ) → error ≡ errors.Text line → IsRefusal text error →
     IsAsmRefused text (told_asm 1 line)
 asm_text text error line is h = none_of_the_forms line (subst (IsRefusal text) is h) refl
@@ -50,7 +50,7 @@ asm_long text h = too_long h refl
 pub asm_broken : (text : List ℕ) (e : ObjectError) → Applies text (Broken e) → IsAsmBroken text (told_error e)
 asm_broken text e h = record { error = e; applies = h; told_is = refl }
 
--- bytes that fit, and bytes that do not
+-- what was handed over if the bytes fit, and if they do not
 pub handed : (bytes old new : List ℕ) (made : ℕ) → made ≡ length bytes → take made new ≡ bytes → length new
     ≡ length old → HandsOver bytes old new made 0
 handed bytes old new made is written same = fits refl is written same
@@ -73,7 +73,7 @@ accepted_so o status told h zero =
     let t = h (λ five. not_five status zero five) in
     (accepted_is_unrefused o).1 (unrefused (refusal o) (sym zero ∙ t.status_is))
 
--- bytes that spell an accepted object
+-- if the object that bytes spell was checked with status 0, the bytes spell an accepted object
 pub accepted_file : (bytes view : List ℕ) (status : ℕ) (told : Refused) → view ≡ bytes →
     Spells bytes (version_at bytes) (object_of view) →
     (status ≢ 5 → Tells status told (judged (refusal (object_of view)))) → status ≡ 0 → IsAcceptedFile bytes
@@ -82,7 +82,7 @@ accepted_file bytes view status told same spelled h zero = record {
   accepted = subst (λ v. IsAccepted (object_of v)) same (accepted_so (object_of view) status told h zero);
 }
 
--- a source that is refused
+-- a source that is refused is reported with its refusal
 pub source_refused : (text : List ℕ) (e : SourceError) (told : Refused) → (e ≢ sources.NoMemory → IsRefusalOf text e) →
     e ≢ sources.NoMemory → told ≡ told_source e → IsSourceRefused text told
 source_refused text e told h named is = record { error = e; refused = h named; named = named; told_is = is }

@@ -74,7 +74,7 @@ module _ (given : List Module) (modules : List Object) (name bytes view : List �
       (subst (λ v. Spells bytes (version_at bytes) (object_of v)) same spelled)
       (subst (λ v. EndsAtObject modules (object_of v) u) same h))
 
--- a module whose bytes spell no object
+-- a module whose bytes spell no object ends the link, with status 7
 pub bad_module : (given : List Module) (modules : List Object) (name bytes : List ℕ) (number : ℕ) (e : ObjectError)
     (why : Refused) → bytes_of given name ≡ Some bytes → broken bytes ≡ Some e → number ≡ length modules → why
     ≡ told_error e
@@ -98,7 +98,7 @@ pub longer : (given : List Module) (modules modules' : List Object) (name : List
     IsAddedTo given modules name modules' → length modules' ≡ length modules + 1
 longer given modules modules' name a = ap length a.added ∙ length-append modules (a.object ∷ [])
 
--- the files from a place on
+-- the files from number i on are the one with that number and those after it
 turn : (files : List (List ℕ)) (i : ℕ) (x : List ℕ) → i < length files → x ≡ get_or files i x → drop i files
     ≡ x ∷ drop (i + 1) files
 turn files i x lt is = drop-cons files i x lt ∙ ap (λ y. y ∷ drop (suc i) files) (sym is)

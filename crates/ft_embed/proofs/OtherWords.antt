@@ -47,7 +47,7 @@ types_kept [] k w = refl
 types_kept (c ∷ cs) zero w = refl
 types_kept (c ∷ cs) (suc k) w = ap (λ bs. c.basic ∷ bs) (types_kept cs k w)
 
--- cell k, and the other cells
+-- cell k keeps its type, and the other cells are unchanged
 pub word_at : (cs : List Cell) (k w : ℕ) (c x : Cell) → slice_get cs k ≡ Some c → slice_get (with_word cs k w) k
     ≡ Some x → x.basic ≡ c.basic
 word_at [] k w c x e f = cc

@@ -121,7 +121,7 @@ module _ (o : Object) (strike : Option Strike) (w : List Wild) (steps : ℕ) (sp
         };
       }
 
--- the object that bytes spell was recovered
+-- `RecoversFile` holds if the object that bytes spell was recovered under the plan that the texts spell
 pub recovers_file : (bytes view fault wild : List ℕ) (strike : Option Strike) (w : List Wild)
     (steps status taken count restarts again : ℕ) (new : List CellOutput) → view ≡ bytes →
     Spells bytes (version_at bytes) (object_of view) → IsAccepted (object_of view) → IsFault fault strike →

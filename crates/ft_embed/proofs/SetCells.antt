@@ -10,7 +10,7 @@ use Rattle.ft_embed.specs.Cells.{object_with_word, HasIntCell, IsSet}
 use Rattle.ft_embed.proofs.CellBytes.{word_there, spells_set}
 use Rattle.ft_embed.proofs.OtherWords.{accepted_set, accepted_before}
 
--- the initial word of a cell was replaced
+-- `IsSet` holds if the initial word of a cell of type `int` was replaced in the bytes
 pub is_set : (old new : List ℕ) (k w : ℕ) → IsWord w → HasIntCell old k → new ≡ take (56 + 16 * k) old
     ++ (bytes_of w64 w ++ drop (56 + 16 * k + 8) old) → IsSet old new k w
 is_set old new k w word h is =

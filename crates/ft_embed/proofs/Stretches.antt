@@ -18,7 +18,7 @@ use Rattle.ft_machine.proofs.Spanned.{joined, span_then, span_has_cells, cell_bo
 use Rattle.ft_embed.specs.declared.filling.CellOutput.{CellOutput}
 use Rattle.ft_embed.specs.Outputs.{Fills, GoesToCell, MayGoOn, cell_output}
 
--- the outputs that steps commit go to cells
+-- an output that a step commits goes to a cell
 pub goes_to_cell : (last : Stepped) (s : State) (cells : ℕ) → HasCells cells s →
     ((output : Output) → last ≡ Commit output → is_cell s.cells output.addr ≡ true) → GoesToCell last
 goes_to_cell Quiet s cells has commits = tt
@@ -30,7 +30,7 @@ goes_to_cell Detected s cells has commits = tt
 none_below : (j : ℕ) → j < 0 → ⊥
 none_below j less = omega (arith, less)
 
--- no steps
+-- `Fills` holds when no steps were taken
 pub fills_none : (o : Object) (s : State) (w : List Wild) (from : ℕ) (out : List CellOutput) →
     Fills o s w 0 s w from from out out
 fills_none o s w from out = record {
@@ -48,7 +48,7 @@ pub fills_cells : (o : Object) (s s' : State) (w w' : List Wild) (n from count :
 fills_cells o s s' w w' n from count old new a cells has =
     subst (HasCells cells) (sym a.state_is) (span_has_cells o cells n s w has)
 
--- a step after the first n of n + m
+-- a step after the first n of n + m is one of the last m
 pub rest_below : (n m j : ℕ) → j < n + m → n ≤ j → j - n < m
 rest_below n m j below le = omega (arith, below, le)
 
@@ -58,7 +58,7 @@ module _ (o : Object) (s s1 : State) (w w1 : List Wild) (n from c1 : ℕ) (old m
   whole : (k : ℕ) → span o (n + k) s w ≡ joined (span o n s w).outputs (span o k s1 w1)
   whole k = span_then o n k s s1 w w1 a.state_is a.wild_is
 
-  -- how many outputs are in the array: the earlier ones, and those of these steps
+  -- the number of earlier outputs and those of n + k steps is the number of those in the array and those of k steps
   counted : (k : ℕ) → from + length (span o (n + k) s w).outputs ≡ c1 + length (span o k s1 w1).outputs
   counted k =
       let more = ap (λ (r : Ran). length r.outputs) (whole k)
@@ -140,13 +140,13 @@ enough_few Detected n most h = h.1
 rest_less : (number left n : ℕ) → left ≤ number → n ≤ left → (number - left) + n ≡ number - (left - n)
 rest_less number left n le few = omega arith
 
--- before the first iteration of the loop
+-- the loop's invariant holds before the first iteration
 pub fills_first : (o : Object) (s : State) (w : List Wild) (most from : ℕ) (out : List CellOutput) →
     Fills o s w (most - most) s w from from out out
 fills_first o s w most from out = let none : 0 ≡ most - most = omega arith in
     subst (λ n. Fills o s w n s w from from out out) none (fills_none o s w from out)
 
--- one iteration of the loop
+-- one iteration keeps the loop's invariant
 pub fills_on : (o : Object) (s s1 s2 : State) (w w1 w2 : List Wild) (most left n from count after : ℕ) (last : Stepped)
     (old mid new : List CellOutput) → left ≤ most → length mid ≡ length old → count < length mid → after ≤ length new
     → Fills o s w (most - left) s1 w1 from count old mid → Advances o s1 w1 s2 w2 left n last

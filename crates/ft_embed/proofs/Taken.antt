@@ -1,4 +1,4 @@
--- Runs under a plan whose outputs are in an array.
+-- Runs under a plan, with their outputs in an array.
 use Rattle.std.proofs.Common.{◌≡◌, ℕ, zero, suc, ◌+◌, ◌-◌, ◌<◌, ◌≤◌, List, ◌++◌, length, Option, ap, sym, subst, ◌∙◌}
 use Rattle.std.proofs.Common.{⊎_elim, arith, add-zero}
 use Rattle.std.specs.Prelude.{map}
@@ -81,7 +81,7 @@ module _ (o : Object) (strike : Option Strike) (w : List Wild) (before : ℕ) (s
       let room = h.free in
       record { running = sym (status_on k) ∙ h.running; free = omega (arith, outs, room, same, is) }
 
--- a run in two parts
+-- the steps before a strike and those after it make up one run under the plan
 pub takes_second : (o : Object) (strike : Option Strike) (w : List Wild) (s0 s1 s2 s3 : State) (w0 w1 w3 : List Wild)
     (steps n before m c1 c2 : ℕ) (old mid new : List CellOutput) → s0 ≡ start o → w0 ≡ w →
     ((j : ℕ) → j < before → Spares strike j) → ((j : ℕ) → before < j → Spares strike j)

@@ -40,7 +40,7 @@ by_then : (strike : Option Strike) (k m : ℕ) → IfSome strike (IsBy k) → If
 by_then None k m by = tt
 by_then (Some x) k m by = grows x k m by
 
--- before the first step
+-- the machine's start state is the state of an accepted object's run before its first step
 pub begins : (o : Object) (s : State) → IsSpellable o → IsAccepted o → s ≡ start o → IsTask (begun o) s
 begins o s spellable accepted first = record {
   spellable = spellable;
@@ -75,7 +75,7 @@ module _ (r : TaskRun) (s1 s2 : State) (w1 w2 : List Wild) (m count : ℕ) (old 
       ap (λ (x : Ran). x.state) (sym on)
       ∙ sym (later (r.taken + suc n) (above n) (state_after r.object r.strike no_words (r.taken + suc n)))
 
-  -- after these steps
+  -- the machine's state after these steps is the state of the run
   pub task_next : IsTask (record { object = r.object; strike = r.strike; taken = r.taken + m }) s2
   task_next = record {
     spellable = h.spellable;

@@ -23,12 +23,12 @@ use Rattle.ft_embed.specs.Verdicts.{IsAcceptedFile}
 use Rattle.ft_embed.specs.Trials.{fault_verdict, fault_totals, Tries, TriesFile, TriesList, IsListRefused, bad_line}
 use Rattle.ft_embed.specs.Trials.{too_much, told_list}
 
--- a line that is not a fault
+-- a list with a line that is not a fault is refused, with the number of the line
 pub list_line : (list : List ℕ) (steps : ℕ) (error : ListError) (line : ℕ) → error ≡ lists.Line line →
     IsListError list error → IsListRefused list steps (told_list 1 line)
 list_line list steps error line is h = bad_line line (subst (IsListError list) is h) refl
 
--- too many steps in all
+-- a list is refused if its faults would take too many steps in all
 pub list_much : (list : List ℕ) (faults : List Strike) (steps count : ℕ) → IsFaultList list faults → count
     ≡ length faults → 1000000000 < count * steps → IsListRefused list steps (told_list 3 (count * steps))
 list_much list faults steps count h is above = too_much faults h (subst (λ n. 1000000000 < n * steps) is above)
@@ -39,7 +39,7 @@ pub as_many : (o : Object) (faults : List Strike) (w : List Wild) (steps : ℕ) 
     AreVerdicts o faults w steps found → length found ≡ length faults
 as_many o faults w steps found h = AllZip-long _ faults found h
 
--- the verdicts of an accepted object's faults are in an array
+-- `Tries` holds if the verdicts on faults of an accepted object are in the array
 pub tried : (o : Object) (faults : List Strike) (w : List Wild) (steps : ℕ) (found : List Verdict)
     (old new : List FaultVerdict) → IsSpellable o → IsAccepted o → AreVerdicts o faults w steps found
     → length faults ≤ length old → length new ≡ length old → take (length found) new ≡ map fault_verdict found →
@@ -53,7 +53,7 @@ tried o faults w steps found old new spellable accepted verdicts room same stand
   totals_are = refl;
 }
 
--- bytes that spell an accepted object
+-- the bytes that a view borrows spell an accepted object if the view's object is accepted
 pub accepted_file : (bytes view : List ℕ) → view ≡ bytes → Spells bytes (version_at bytes) (object_of view) →
     IsAccepted (object_of view) → IsAcceptedFile bytes
 accepted_file bytes view same spelled accepted = record {
@@ -61,7 +61,7 @@ accepted_file bytes view same spelled accepted = record {
   accepted = subst (λ v. IsAccepted (object_of v)) same accepted;
 }
 
--- the faults in a text were tried on the object that bytes spell
+-- `TriesFile` holds if the faults in a text were tried on the object that bytes spell
 pub tries_file : (bytes view list wild : List ℕ) (w : List Wild) (steps : ℕ) (totals : FaultTotals)
     (new : List FaultVerdict) → view ≡ bytes → Spells bytes (version_at bytes) (object_of view) →
     IsAccepted (object_of view)

@@ -44,7 +44,7 @@ pub record HasNoCell (bytes : List ℕ) (k : ℕ) : Type 0 where
   pub none : length (object_of bytes).cells ≤ k
 
 -- the old bytes spell an object whose cell k is of type `int`, and the new ones spell, in the same version, that object
--- with this initial word in cell k; it is accepted exactly if the old object is
+-- with this initial word in cell k; the new object is accepted exactly when the old one is
 pub record IsSet (old new : List ℕ) (k w : ℕ) : Type 0 where
   pub cell : HasIntCell old k
   pub spelled : Spells new (version_at old) (object_with_word (object_of old) k w)

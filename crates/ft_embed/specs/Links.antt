@@ -128,8 +128,8 @@ pub data IsUnlinked (given : List Module) (text : List ℕ) (u : Unlinked) : Typ
   ends_at_end : (linkage : LinkMap) → IsMap text linkage → (modules : List Object) → AddsAll given [] linkage.files modules
       → (r : LinkRefusal) → refusal_of linkage modules ≡ Some r → u ≡ unlinked r → IsUnlinked given text u
 
--- these bytes are the object that a map makes of the added modules, in version 2 of the format. It is accepted; it runs
--- as the modules do; with a fault, it still does or is detected
+-- these bytes are the object that a map makes of the added modules, in version 2 of the format. It is accepted and runs
+-- as the modules do; with a fault, it still does so or is detected
 pub record IsLinkedAll (linkage : LinkMap) (modules : List Object) (bytes : List ℕ) : Type 0 where
   pub unrefused : refusal_of linkage modules ≡ None
   pub object : Object

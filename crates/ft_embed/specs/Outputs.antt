@@ -68,13 +68,13 @@ pub data Ends (status steps taken count room : ℕ) (s : Status) : Type 0 where
   cut : status ≡ 9 → s ≡ Running → taken ≡ steps → Ends status steps taken count room s
   full : status ≡ 14 → s ≡ Running → count ≡ room → taken < steps → Ends status steps taken count room s
 
--- two numbers of steps after which the outputs and the status of a run under a plan are the same
+-- after n steps and after m steps, a run under a plan has the same outputs and the same status
 pub record SameAfter (o : Object) (strike : Option Strike) (w : List Wild) (n m : ℕ) : Type 0 where
   pub outputs : outputs_after o strike w n ≡ outputs_after o strike w m
   pub status : status_after o strike w n ≡ status_after o strike w m
 
--- a run under a plan took `taken` of at most `steps` steps, none beyond its end: its outputs are in the array, and one
--- fault is masked or detected. Unless the array was full, its outputs and its status are those after all steps
+-- a run under a plan took `taken` of at most `steps` steps, none beyond its end. Its outputs are in the array, and a
+-- single fault is masked or detected. Unless the array was full, its outputs and its status are those after all steps
 pub record RunsInto (o : Object) (strike : Option Strike) (w : List Wild) (steps status taken count : ℕ) (new : List CellOutput) : Type 0 where
   pub few : taken ≤ steps
   pub within : count ≤ length new

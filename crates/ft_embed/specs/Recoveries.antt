@@ -13,13 +13,13 @@ use Rattle.ft_embed.specs.Outputs.{cell_output, Ends, GoesUntil, SameAfter}
 use Rattle.ft_embed.specs.Plans.{IsFault, AreAnswers}
 use Rattle.ft_embed.specs.Verdicts.{IsAcceptedFile}
 
--- no restart is reported as 0 and 0, and one after n outputs as 1 and n
+-- no restart is reported as 0 and 0, and a restart after n outputs as 1 and n
 abbrev pub IsRestart : Option ℕ → ℕ → ℕ → Type 0
 IsRestart None restarts again = (restarts ≡ 0) × (again ≡ 0)
 IsRestart (Some n) restarts again = (restarts ≡ 1) × (again ≡ n)
 
--- a run under a plan took all steps, or as many as it could before it stopped or its outputs filled the room, and no
--- more; if it was detected, it was restarted
+-- a run under a plan took all steps, or as many as it could before it stopped or ran out of room for outputs, and no
+-- more. It was restarted if it was detected, and the restart is reported
 pub record FirstRun (o : Object) (strike : Option Strike) (w : List Wild) (steps room restarts again : ℕ) : Type 0 where
   pub taken : ℕ
   pub few : taken ≤ steps
@@ -28,8 +28,8 @@ pub record FirstRun (o : Object) (strike : Option Strike) (w : List Wild) (steps
   pub before : GoesUntil o strike w taken room
   pub told : IsRestart (restart_output o strike w taken) restarts again
 
--- a program was run under a plan, and restarted without the strike if the run was detected: the outputs in the array
--- and the end are those of the run without the strike
+-- a program was run under a plan, and restarted without the strike if the run was detected. The outputs in the array
+-- and the way the run ended are those of the run without the strike
 pub record RecoversInto (o : Object) (strike : Option Strike) (w : List Wild) (steps status taken count restarts again : ℕ) (new : List CellOutput) : Type 0 where
   pub few : taken ≤ steps
   pub within : count ≤ length new

@@ -47,7 +47,7 @@ pub record IsOpened (bytes : List ℕ) (held : Option TaskRun) : Type 0 where
   pub file : IsAcceptedFile bytes
   pub holds : held ≡ Some (begun (object_of bytes))
 
--- a call may take all of `steps` steps, or as many as can still be counted: 2^64 - 1 in all
+-- a call may take all `steps` steps, or as many as can still be counted: the run takes at most 2^64 - 1 in all
 pub data IsLimit (steps taken most : ℕ) : Type 0 where
   all_steps : most ≡ steps → IsLimit steps taken most
   last_steps : taken + most ≡ 18446744073709551615 → most < steps → IsLimit steps taken most
@@ -58,8 +58,8 @@ GoesOnUntil o strike k n room =
     (j : ℕ) → j < n → MayGoOn (status_after o strike [] (k + j)) (length (outputs_after o strike [] (k + j)))
     (length (outputs_after o strike [] k) + room)
 
--- a run continued: it took `taken` steps, none beyond its end, and their outputs are in an array; its status says why
--- it took no more; and one fault is masked or detected
+-- a run continued: it took `taken` steps, none beyond its end, and their outputs are in an array. Its status says why
+-- it took no more, and a single fault is masked or detected
 pub record WentOn (r new : TaskRun) (status steps taken count : ℕ) (out : List CellOutput) : Type 0 where
   pub goes : new ≡ record { object = r.object; strike = r.strike; taken = r.taken + taken }
   pub within : count ≤ length out

@@ -75,7 +75,8 @@ pub record IsUpgraded (bytes new : List ℕ) : Type 0 where
   pub from : Spells bytes (version_at bytes) object
   pub to : Spells new Second object
 
--- these bytes spell, in version 2 of the format, the schedule of an object; it is accepted and runs like the object
+-- these bytes spell, in version 2 of the format, the schedule of an object. The schedule is accepted and runs like the
+-- object
 pub record IsScheduleOf (o : Object) (new : List ℕ) : Type 0 where
   pub schedule : Object
   pub scheduled : IsScheduled o schedule

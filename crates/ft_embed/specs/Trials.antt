@@ -36,7 +36,8 @@ detected_at verdicts.Corrupt = 0
 abbrev pub fault_verdict : Verdict → FaultVerdict
 fault_verdict v = record { verdict = verdict_number v; at = detected_at v }
 
--- how many faults there are, and how many have each verdict, as C sees it; for an accepted object none is corrupt
+-- how many faults there are, and how many have each verdict, as C sees it. Corrupt verdicts are not counted, since an
+-- accepted object has none
 abbrev pub fault_totals : ℕ → Totals → FaultTotals
 fault_totals n t = record { count = n; masked = t.masked; detected = t.detected; idle = t.idle }
 

@@ -30,7 +30,7 @@ fn cell_output(output: Output) -> CellOutput
     }
 }
 
-/// Puts an output into an array at a place.
+/// Puts an output into an array at an index.
 fn put_at(out: &mut [CellOutput], at: usize, output: CellOutput)
     requires { at < length out.old }
     ensures written { take (at + 1) out.new ≡ take at out.old ++ output ∷ [] }
@@ -40,7 +40,7 @@ fn put_at(out: &mut [CellOutput], at: usize, output: CellOutput)
     out[at..at + 1].copy_from_slice(&one);
 }
 
-/// Puts a step's output, if it has one, into an array at a place, and returns the place after it.
+/// Puts a step's output, if it has one, into an array at an index, and returns the index for the next output.
 fn put_told(last: Stepped, out: &mut [CellOutput], at: usize) -> usize
     requires room { at < length out.old }
     requires cell { GoesToCell last }
@@ -68,7 +68,7 @@ pub struct Filled {
 }
 
 /// Takes at most `most` steps, and fewer if the machine stops or the array is full. Puts their outputs into the array,
-/// starting at place `from`.
+/// starting at index `from`.
 pub(crate) fn fill<P: Program>(
     machine: &mut Machine,
     program: &P,

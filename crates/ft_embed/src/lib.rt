@@ -1,9 +1,9 @@
 //! The checker, the machine and the compiler, on a caller's bytes, texts and arrays.
 //!
 //! The crate repeats the promises of lower crates in terms that C can use. A check is exact
-//! (`specs/Verdicts.antt`). The outputs of a run are those of the definition, and one fault is masked or
-//! detected (`specs/Outputs.antt`). Texts and objects are those of the definitions (`specs/Texts.antt`). A
-//! cell's initial word is changed in place (`specs/Cells.antt`). Links and campaigns return what
+//! (`specs/Verdicts.antt`). The outputs of a run are those of the definition, and a single fault is masked or
+//! detected (`specs/Outputs.antt`). The texts and objects that calls write are as defined (`specs/Texts.antt`).
+//! A cell's initial word is changed in place (`specs/Cells.antt`). Links and campaigns return what
 //! `ft_modules` and `ft_campaign` define (`specs/Links.antt`, `specs/Trials.antt`). A `Task` is a run that
 //! continues across calls (`specs/Tasks.antt`). The crate `ft_c` exports these calls.
 #![tactic(auto)]

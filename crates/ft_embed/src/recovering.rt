@@ -132,9 +132,9 @@ fn recover_bytes(
 
 /// Checks the object that bytes spell, and runs it from its start for at most `steps` steps, under the plan that two
 /// texts spell, as `run` does. If a fault is detected, it runs the object again without the fault, and the new outputs
-/// replace the first ones. So the outputs and the end are those of the run without a fault. The status is 0 for a run
-/// that is done; 9 for one that is still running after the steps; 14 if the array is full; 2 if a text is invalid; 7 or
-/// 8 for bytes that are refused; or 5 if memory runs out.
+/// replace the first ones. So the outputs and the status are those of the run without a fault. The status is 0 for a
+/// run that is done; 9 for one that is still running after the steps; 14 if the array is full; 2 if a text is invalid;
+/// 7 or 8 for bytes that are refused; or 5 if memory runs out.
 pub fn recover(
     alloc: Global,
     bytes: &[u8],

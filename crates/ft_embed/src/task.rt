@@ -99,8 +99,8 @@ impl Task {
     }
 
     /// Takes at most `steps` steps, and fewer if the run is done or detected, or the array is full. Puts their outputs
-    /// into the array. The status is 0 for a run that is done, 1 for one that is detected, 9 if all steps were taken
-    /// (or 2^64 - 1 in all), and 14 if the array is full.
+    /// into the array. The status is 0 for a run that is done, 1 for one that is detected, 9 if all steps were taken or
+    /// the run has taken 2^64 - 1 in all, and 14 if the array is full.
     pub fn advance(&mut self, steps: u64, out: &mut [CellOutput]) -> RunAnswer
         ensures went { WentOn self.old self.new result.status steps result.ran.steps result.ran.count out.new }
         ensures once { IsOnce result.ran }
@@ -114,7 +114,7 @@ impl Task {
     }
 
     /// Strikes a site before the next step: the word there becomes `value`. Returns `false`, and changes nothing, if
-    /// the run was struck before, has stopped, or the site does not exist.
+    /// the run was struck before or has stopped, or if the site does not exist.
     pub fn strike(&mut self, site: Site, value: u64) -> bool
         ensures struck { result ≡ true → self.new ≡ record { object = self.old.object; strike = Some (record { step = self.old.taken; site = site; value = value }); taken = self.old.taken } }
         ensures first { result ≡ true → self.old.strike ≡ None }

@@ -56,7 +56,7 @@ fn fault_verdict(verdict: Verdict) -> FaultVerdict
     }
 }
 
-/// Puts a verdict into an array at a place.
+/// Puts a verdict into an array at an index.
 fn put_verdict(out: &mut [FaultVerdict], at: usize, verdict: FaultVerdict)
     requires { at < length out.old }
     ensures written { take (at + 1) out.new ≡ take at out.old ++ verdict ∷ [] }

@@ -26,7 +26,7 @@ use std::sync::ledger::{Blank, Ledger};
 /// The maximum number of steps of each run.
 const MOST_STEPS: u64 = 1_000_000;
 
-/// The maximum of the number of faults times the number of steps.
+/// The maximum product of the number of faults and the number of steps.
 const PRODUCT_LIMIT: u64 = 1_000_000_000;
 
 /// What is tried on an object: the text of a fault list, the answers to wild loads, and the maximum number of steps.

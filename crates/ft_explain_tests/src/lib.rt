@@ -1,4 +1,4 @@
-//! Tests of explanations: a row for each number of each refusal, over files in memory.
+//! Tests of explanations: a row for every number of every kind of refusal, over files in memory.
 //!
 //! The crate has only tests. A row has words, the bytes of their files and the whole text. The refusal comes from the
 //! tool itself, through a sink that remembers its last line. The texts were written by hand from the rules of each

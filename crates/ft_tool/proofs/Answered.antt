@@ -42,7 +42,7 @@ use Rattle.ft_tool.specs.Endings.{PartEnd, Concluded, Unloaded, Unwritten, Unfin
 use Rattle.ft_tool.specs.Endings.{ends_early, EndsSo, Ends, ending_of_run}
 use Rattle.ft_tool.proofs.Mapped.{some_files, files_with}
 
--- an ending also holds for a weaker property of the answer
+-- what an ending says stays true if its claims about the answer and the failure are weakened
 EndsSo-map : (e : PartEnd) (P Q : Answer → Type 0) (old new : SinkLog) (L M : Type 0) → ((a : Answer) → P a → Q a)
     → (L → M) → EndsSo e P old new L → EndsSo e Q old new M
 EndsSo-map (Concluded status) P Q old new L M f g h =
@@ -108,7 +108,7 @@ unaccepted x (checks.Refused b i why) end old new L h ends = inl (λ none. none-
 unaccepted x checks.NoMemory end old new L h ends =
     inr (unanswered end (IsNotAccepted checks.NoMemory) old new L (λ a is. is) ends)
 
--- a run whose lines were written
+-- if all lines of a run were written, so was the answer of `trial`
 concludes : (r : Run) (o : objects.Object) (w : List Wild) (v : Status) (old new : SinkLog) → w ≡ r.wild
     → status_after o r.strike w r.steps ≡ v
     → new ≡ with_lines (output_lines o (outputs_after o r.strike w r.steps)) old
@@ -120,7 +120,7 @@ concludes r o w v old new is status put = record {
   status_is = ap status_of_run (sym (subst (λ ws. status_after o r.strike ws r.steps ≡ v) is status));
 }
 
--- a run with a line whose put failed
+-- if the put of one of a run's lines failed, the answer of `trial` was written up to that line
 breaks_off : (r : Run) (o : objects.Object) (w : List Wild) (old new : SinkLog) → w ≡ r.wild
     → LinesBreakOff (output_lines o (outputs_after o r.strike w r.steps)) old new → BreaksOff (TrialsObject r o) old new
 breaks_off r o w old new is broken = record {
@@ -129,7 +129,7 @@ breaks_off r o w old new is broken = record {
   broken = subst (λ ws. LinesBreakOff (output_lines o (outputs_after o r.strike ws r.steps)) old new) is broken;
 }
 
--- a run that ended this way, whose lines were written up to its end
+-- how a run ended and which of its lines were written determine how `trial` ends
 pub trial_ends : (e : RunEnd) (r : Run) (o : objects.Object) (w : List Wild) (old new : SinkLog) → w ≡ r.wild
     → EndsAs e (status_after o r.strike w r.steps)
     → Puts (put_end e) (output_lines o (outputs_after o r.strike w r.steps)) old new
@@ -139,7 +139,7 @@ trial_ends runs.Detected r o w old new is status put = concludes r o w machine.D
 trial_ends runs.OutOfSteps r o w old new is status put = concludes r o w machine.Running old new is status put
 trial_ends runs.WriteFault r o w old new is status put = breaks_off r o w old new is put
 
--- an answer of one piece that was written, or whose put failed
+-- an answer of one piece was written if its piece was, and breaks off if the put of its piece failed
 pub piece_concludes : (Is : Answer → Type 0) (line piece : List ℕ) (status : ℕ) (old new : SinkLog)
     → Is (one_piece line status) → piece ≡ line → new ≡ with_lines (piece ∷ []) old → Concludes Is status old new
 piece_concludes Is line piece status old new is e put =
@@ -168,7 +168,7 @@ withstands o strike w spellable h = record {
   undetected = undetected o w spellable h;
 }
 
--- the answer for an accepted object is its run
+-- for an accepted object, the answer of `trial` is also the answer of `run`
 pub run_accepted : (r : Run) (o : objects.Object) → IsSpellable o → refusal o ≡ None → (a : Answer) → a ≡ tried r o →
     RunsObject r o a
 run_accepted r o spellable h a is = subst (λ x. RunsUnless x r o a) (sym h) (
@@ -176,7 +176,7 @@ run_accepted r o spellable h a is = subst (λ x. RunsUnless x r o a) (sym h) (
   withstands o r.strike r.wild spellable h,
 )
 
--- a run of an accepted object
+-- how a run of an accepted object ended and which of its lines were written determine how `run` ends
 pub run_ends : (e : RunEnd) (r : Run) (o x : objects.Object) (w : List Wild) (old new : SinkLog) → IsSpellable o
     → refusal o ≡ None → x ≡ o → w ≡ r.wild → EndsAs e (status_after x r.strike w r.steps)
     → Puts (put_end e) (output_lines x (outputs_after x r.strike w r.steps)) old new
@@ -193,12 +193,12 @@ unfolding broken
 too_long bytes long = let beyond : nat_le (length bytes) 67108864 ≡ false = lt-leb (length bytes) 67108864 long in
     rw beyond refl
 
--- the load of an object failed
+-- if the fault is `Failed`, the load of the object failed
 pub object_failed : (name : Word) (e : ObjectFault) (old new : ShelfLog) → FaultCause name e old new → e ≡ Failed
     → LoadFails name old new
 object_failed name e old new h is = subst (λ f. FaultCause name f old new) is h
 
--- a request that gets as far as loading a file, whatever the files contain
+-- if a request loads a file whatever the files contain, and that load failed, then a load of the request failed
 pub failed_in : (request : Request) (old new : ShelfLog) (name : Word)
     → ((files : Files) → ComesTo request old.files files name) → LoadFails name old new
     → OfFiles old.files (λ files. FailsIn request files old new)

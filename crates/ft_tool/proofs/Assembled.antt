@@ -10,12 +10,12 @@ use Rattle.ft_tool.specs.Objects.{UpgradesObject}
 use Rattle.ft_tool.specs.Answers.{OverAssembly}
 use Rattle.ft_tool.specs.Files.{IsTextRefused}
 
--- the object of a text
+-- the bytes of the object that a text describes are an answer for the text
 pub object_assembled : (text : List ℕ) (o : objects.Object) → Applies text (Is o) → (a : Answer) → UpgradesObject o a →
     OverAssembly text a
 object_assembled text o h a is = (Is o, (h, is))
 
--- a text that is refused
+-- the answer to a refused text is an answer for it
 pub text_refused : (text : List ℕ) (e : AsmError) → IsRefusal text e → (a : Answer) → IsTextRefused e a →
     OverAssembly text a
 text_refused text (errors.Text line) h a is = (Text line, (h, is))

@@ -17,22 +17,22 @@ but_last sizes n =
     let e : length (sizes ++ n ∷ []) - 1 ≡ length sizes = omega (arith, length-append sizes (n ∷ [])) in
     ap (λ k. take k (sizes ++ n ∷ [])) e ∙ take-append_seam sizes (n ∷ [])
 
--- if each take returned some bytes, then after one more take all but the last did
+-- if each take returned at least one byte, then after one more take all but the last did
 frugal_more : (sizes : List ℕ) (n : ℕ) → All (λ count. 0 < count) sizes → IsFrugal (sizes ++ n ∷ [])
 frugal_more sizes n some = subst (All (λ count. 0 < count)) (sym (but_last sizes n)) some
 
--- the sum after one more
+-- appending a number to a list adds it to the sum
 sum_more : (sizes : List ℕ) (n : ℕ) → sum (sizes ++ n ∷ []) ≡ sum sizes + n
 sum_more sizes n = omega (arith, sum_by-append (λ count. count) sizes (n ∷ []))
 
--- takes were made that returned `total` bytes in all, and each returned some
+-- takes were made that returned `total` bytes in all, and each returned at least one
 pub record GaveSome (takes takes' : Option (List ℕ)) (total : ℕ) : Type 0 where
   pub sizes : List ℕ
   pub made : takes' ≡ append_told takes sizes
   pub together : sum sizes ≡ total
   pub some : All (λ count. 0 < count) sizes
 
--- one more take returned bytes
+-- after one more take that returned bytes, `GaveSome` holds for the new total
 pub gave_more : (takes takes' takes'' : Option (List ℕ)) (total total' n : ℕ) → GaveSome takes takes' total → takes''
     ≡ append_told takes' (n ∷ []) → 0 < n → total' ≡ total + n → GaveSome takes takes'' total'
 gave_more takes takes' takes'' total total' n h is some more = record {
@@ -42,7 +42,7 @@ gave_more takes takes' takes'' total total' n h is some more = record {
   some = All-push (λ count. 0 < count) h.sizes n h.some some;
 }
 
--- one more take, the last, returned bytes or none
+-- after one more take, with or without bytes, at most `most` bytes were read and all takes but the last returned some
 pub takes_last : (most : ℕ) (old mid new : SourceLog) (bytes more : List ℕ) (n : ℕ) →
     GaveSome old.takes mid.takes (length bytes) → Consumes old.left mid.left bytes
     → new.takes ≡ append_told mid.takes (n ∷ []) → Consumes mid.left new.left more → length more ≡ n →
@@ -63,7 +63,7 @@ kept_none None b h = tt
 kept_none (Some xs) None h = absurd h
 kept_none (Some xs) (Some ys) h = sym h
 
--- one more take, the last, failed
+-- likewise if the last take failed
 pub takes_failed : (most : ℕ) (old mid new : SourceLog) (bytes : List ℕ) → GaveSome old.takes mid.takes (length bytes) →
     Consumes old.left mid.left bytes
     → new.takes ≡ append_told mid.takes (0 ∷ []) → Keeps mid.left new.left → length bytes ≤ most →

@@ -49,21 +49,21 @@ use Rattle.ft_tool.proofs.Mapped.{some_files}
 
 -- ENDINGS
 
--- the ending of an error also holds for a weaker property of the answer
+-- if a call failed with an ending, what that ending says stays true if its claims are weakened
 pub err_ends : {T : Type 0} (r : Result T Ending) (P Q : Answer → Type 0) (old new : SinkLog) (L M : Type 0) →
     ((a : Answer) → P a → Q a) → (L → M)
     → IfErr r (λ e. Ends e P old new L) → IfErr r (λ e. Ends e Q old new M)
 err_ends (Ok v) P Q old new L M f g h = tt
 err_ends (Err e) P Q old new L M f g h = Ends-map e P Q old new L M f g h
 
--- a weaker property holds, or the call ends early
+-- if a fact holds unless the call ends early, then so does a weaker fact
 pub known_less : (P Q Early : Type 0) → (P → Q) → P ⊎ Early → Q ⊎ Early
 known_less P Q Early f (inl p) = inl (f p)
 known_less P Q Early f (inr early) = inr early
 
 -- OBJECTS
 
--- the refusal of modules that an error reports
+-- an error that has an answer reports a refusal of the modules, and its answer is the line of that refusal
 told_refusal : (x : Option LinkRefusal) (e : LinkError) → IsRefusalOf x e → (a : Answer) → IsUnlinkedBy e a →
     (r : LinkRefusal) × ((x ≡ Some r) × (a ≡ unlinked r))
 told_refusal x (links.Cells m) h a is = (Cells m, (h, is))
@@ -76,7 +76,7 @@ told_refusal x (links.Missing line) h a is = (Missing line, (h, is))
 told_refusal x (links.Types line) h a is = (Types line, (h, is))
 told_refusal x links.NoMemory h a is = absurd is
 
--- an object that is added
+-- an accepted object that the linker does not refuse is added
 pub adds_object : (modules modules' : List Object) (o : Object) → refusal o ≡ None → added_refusal modules o ≡ None →
     modules' ≡ modules ++ o ∷ [] → AddsObject modules o modules'
 adds_object modules modules' o accepted unrefused added = record {
@@ -85,14 +85,14 @@ adds_object modules modules' o accepted unrefused added = record {
   added = added;
 }
 
--- an object that is not added
+-- an accepted object that the linker refuses ends the link with that refusal
 pub ends_unadded : (modules : List Object) (o : Object) (e : LinkError) → refusal o ≡ None →
     IsRefusalOf (added_refusal modules o) e → (a : Answer) → IsUnlinkedBy e a → EndsAtObject modules o a
 ends_unadded modules o e accepted h a is =
     let r = told_refusal (added_refusal modules o) e h a is in
     not_added accepted r.0 r.1.0 r.1.1
 
--- an object that is not accepted
+-- an object that is not accepted ends the link with its refusal
 pub ends_unaccepted : (modules : List Object) (o : Object) (e : CheckError) → judges.IsRefusalOf (refusal o) e →
     (a : Answer) → IsNotAccepted e a → EndsAtObject modules o a
 ends_unaccepted modules o checks.EntryType h a is = not_accepted refusals.EntryType h is
@@ -102,20 +102,20 @@ ends_unaccepted modules o checks.NoMemory h a is = absurd is
 
 -- FILES
 
--- the file of a module ends the link because of the object that its bytes spell
+-- the file of a module ends the link if the object that its bytes spell does
 pub ends_with_object : (told : Option Files) (modules : List Object) (name : Word) (bytes : List ℕ) →
     LoadsObject told name (Ok bytes) → (a : Answer) → EndsAtObject modules (object_of bytes) a →
     EndsWithFile told modules name a
 ends_with_object told modules name bytes h a is = (bytes, (h.0, no_module (object_of bytes) (version_at bytes, h.1) is))
 
--- or because of the rule that its bytes break
+-- the file of a module ends the link if its bytes are refused
 pub ends_with_fault : (told : Option Files) (modules : List Object) (name : Word) (e : ObjectFault) →
     LoadsObject told name (Err e) → (a : Answer) → IsRefusedBy e a → EndsWithFile told modules name a
 ends_with_fault told modules name (Refused e) h a is = (h.0, (h.1.0, no_object e h.1.1 is))
 ends_with_fault told modules name Failed h a is = absurd is
 ends_with_fault told modules name no_memory h a is = absurd is
 
--- the file of a module that is added
+-- if the object that a file's bytes spell was added, then the object in the file was added
 pub adds_file : (told : Option Files) (modules modules' : List Object) (name : Word) (bytes : List ℕ) →
     LoadsObject told name (Ok bytes) → AddsObject modules (object_of bytes) modules' →
     AddsFile told name modules modules'
@@ -161,7 +161,7 @@ object_linked linkage first others o e accepted outputs status tolerates a writt
   written = subst (λ x. UpgradesObject x a) e written;
 }
 
--- the object that the linker makes
+-- if the linker refuses nothing, the bytes of the object that it makes are an answer for the added modules
 pub links_object : (linkage : LinkMap) (modules : List Object) (o : Object) → IsLinked linkage modules o →
     refusal_of linkage modules ≡ None → (a : Answer) → UpgradesObject o a → LinksAdded linkage modules a
 links_object linkage modules o h unrefused a written =
@@ -171,7 +171,7 @@ links_object linkage modules o h unrefused a written =
     (subst (λ x. LinksUnless x linkage h.first h.others a) (sym none)
     (object_linked linkage h.first h.others o h.linked_is h.accepted h.outputs h.status h.tolerates a written))
 
--- the refusals of the linker
+-- if the linker refuses the added modules, the line of its refusal is an answer for them
 refused_so : (linkage : LinkMap) (modules : List Object) (r : LinkRefusal) → refusal_of linkage modules ≡ Some r →
     (a : Answer) → a ≡ unlinked r → LinksAdded linkage modules a
 refused_so linkage [] r e a is = absurd (none-some r e)
@@ -185,12 +185,12 @@ links_refused linkage modules e h a is =
 
 -- THE MAP
 
--- a text that is a map
+-- a text within the size limit is a map if its lines are read as that map
 pub is_map : (text : List ℕ) (linkage : LinkMap) → length text ≤ 65536 → (said : List MapLine) → AreSaid text said →
     answer_of said ≡ Is linkage → IsMap text linkage
 is_map text linkage short said lines is = record { short = short; lines = said; are_said = lines; is = is }
 
--- a text that is refused
+-- a text within the size limit ends the link if one of its lines is refused
 pub map_refused : (text : List ℕ) → length text ≤ 65536 → (said : List MapLine) → AreSaid text said → (e : MapError) →
     IsRefusal e (answer_of said) → (a : Answer) → IsMapRefused e a → EndsAtMap text a
 map_refused text short said lines (maps.Line line) h a is =
@@ -199,12 +199,12 @@ map_refused text short said lines (maps.Twice line) h a is =
     line_twice line (record { short = short; lines = said; are_said = lines; is = h }) is
 map_refused text short said lines maps.NoMemory h a is = absurd is
 
--- no module was loaded
+-- no module need be loaded if the text ends the link or the call ends early
 pub makes_no_module : (told : Option Files) (text : List ℕ) (early : Bool) (asked : Option LoadList) →
     ((a : Answer) × EndsAtMap text a) ⊎ IsTrue early → MakesOfText told text early asked asked
 makes_no_module told text early asked h = inl (h, refl)
 
--- the load of a module failed
+-- if a module could not be loaded, a load of the request failed
 failed_module : (name : Word) (text : List ℕ) (shelf shelf' : ShelfLog) → IsToldFile shelf.files name text
     → (linkage : LinkMap) × (IsMap text linkage × FailsInTurn linkage shelf shelf')
     → OfFiles shelf.files (λ files. FailsIn (Links name) files shelf shelf')

@@ -23,7 +23,7 @@ ascii_file : (file : List ℕ) → is_file file ≡ true → IsAscii file
 ascii_file file h = ascii_bytes file (and_parts (nat_lt 0 (length file)
     && nat_le (length file) 255) (list_all is_file_byte file) h).1
 
--- adding a line, and adding lines
+-- if the file names in a map are ASCII, they still are after a line, or several, are added
 ascii_line : (m : LinkMap) (number : ℕ) (line : List ℕ) (l : MapLine) → Says line l → All IsAscii m.files →
     All IsAscii (with_line m number l).files
 ascii_line m number line (Module file) h all = All-push IsAscii m.files file all (ascii_file file h.0)
@@ -39,7 +39,7 @@ ascii_lines (x ∷ xs) [] m count h all = absurd h
 ascii_lines (x ∷ xs) (l ∷ ls) m count h all = ascii_lines xs ls (with_line m (suc count) l) (suc count) h.1
     (ascii_line m (suc count) x l h.0 all)
 
--- the map of an answer
+-- if reading ends with a map, it is the map that the lines made
 answered_map : (bad twice : Option ℕ) (m linkage : LinkMap) → answered bad twice m ≡ Is linkage → m ≡ linkage
 answered_map (Some n) twice m linkage e = absurd (cc)
 answered_map None (Some n) m linkage e = absurd (cc)
@@ -48,7 +48,7 @@ answered_map None None m linkage e = cc
 no_files : All IsAscii []
 no_files = λ k d lt. absurd (omega (arith, lt))
 
--- each name in a map is ASCII
+-- each file name in a map is ASCII
 pub ascii_names : (text : List ℕ) (linkage : LinkMap) → IsMap text linkage → All IsAscii linkage.files
 ascii_names text linkage h =
     subst (λ (m : LinkMap). All IsAscii m.files)

@@ -1,4 +1,4 @@
--- Files and scripts with the contents that were loaded and read.
+-- There are files and scripts with the contents that were loaded and read.
 use Rattle.std.proofs.Common.{◌≡◌, ℕ, zero, suc, ◌<◌, Bool, true, false, cond, List, [], ◌∷◌, length, get_or, Option}
 use Rattle.std.proofs.Common.{Some, None, Result, Ok, Err, refl, sym, ap, ◌∙◌, subst, arith}
 use Rattle.std.specs.Prelude.{IfSome}
@@ -27,13 +27,13 @@ zero_first : (bytes : List ℕ) → AreBytes bytes → AreBytes (0 ∷ bytes)
 zero_first bytes h zero = omega arith
 zero_first bytes h (suc i) = h i
 
--- a list in which each number is a byte
+-- a list consists of bytes if each of its numbers is below 256
 pub within_bytes : (bytes : List ℕ) → ((i : ℕ) → i < length bytes → get_or bytes i 0 < 256) → AreBytes bytes
 within_bytes [] h i = omega arith
 within_bytes (x ∷ xs) h zero = h 0 (omega arith)
 within_bytes (x ∷ xs) h (suc i) = within_bytes xs (λ j below. h (suc j) (omega (arith, below))) i
 
--- for each number there is a longer list of bytes
+-- for each number there is a list of more bytes than that
 pub longer_bytes : (n : ℕ) → (bytes : List ℕ) × (AreBytes bytes × (n < length bytes))
 longer_bytes zero = (0 ∷ [], (zero_first [] no_bytes, omega arith))
 longer_bytes (suc n) = let h = longer_bytes n in (0 ∷ h.0, (zero_first h.0 h.1.0, omega (arith, h.1.1)))
@@ -45,7 +45,7 @@ HasBytes files = (name bytes : List ℕ) → get files name ≡ Some bytes → A
 none_bytes : HasBytes empty
 none_bytes name bytes e = absurd (none-some bytes (sym (get-empty (slice_cmp nat_cmp) name) ∙ e))
 
--- inserting a file whose content consists of bytes
+-- this stays true when a file whose content consists of bytes is inserted
 chosen : (t : Bool) (old : Option (List ℕ)) (more bytes : List ℕ) → AreBytes more →
     (old ≡ Some bytes → AreBytes bytes) → cond t (Some more) old ≡ Some bytes → AreBytes bytes
 chosen true old more bytes is rest e = subst AreBytes (ap (λ o. unwrap_or o []) e) is
@@ -80,7 +80,7 @@ pub some_files : (told : Option Files) → OfFiles told (λ files. Unit {0})
 some_files (Some told) = (told, (refl, tt))
 some_files None = (empty, (none_bytes, tt))
 
--- there are such files in which a file has this content
+-- there are such files in which the file with this name has this content
 pub files_with : (told : Option Files) (name bytes : List ℕ) → IsToldFile told name bytes →
     OfFiles told (λ files. IsFile files name bytes)
 files_with (Some told) name bytes h = (told, (refl, h))
@@ -89,7 +89,7 @@ files_with None name bytes h = (
   (more_bytes empty name bytes none_bytes h, put_there empty name bytes),
 )
 
--- there are such files in which two files have these contents
+-- there are such files in which two files have these contents, if equal names have equal contents
 pub files_with_both : (told : Option Files) (name bytes other more : List ℕ) → IsToldFile told name bytes →
     IsToldFile told other more → (other ≡ name → more ≡ bytes)
     → OfFiles told (λ files. IsFile files name bytes × IsFile files other more)
@@ -108,7 +108,7 @@ pub some_script : (left : Option (List ℕ)) → OfScript left (λ script. Unit 
 some_script (Some told) = (told, (refl, tt))
 some_script None = ([], (no_bytes, tt))
 
--- the result of a load
+-- bytes that were loaded under a name are the content of the file with that name
 told_file : (told : Option Files) (name bytes : List ℕ) → IfSome told (λ fs. get fs name ≡ Some bytes) →
     AreBytes bytes → IsToldFile told name bytes
 told_file (Some told) name bytes h is = h

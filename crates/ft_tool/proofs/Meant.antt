@@ -16,13 +16,13 @@ use Rattle.ft_tool.specs.Replies.{Answer}
 use Rattle.ft_tool.specs.Sources.{IsSourceRefused, OverText, MeansProgram, meant}
 use Rattle.ft_tool.specs.Answers.{Concludes, BreaksOff}
 
--- the tree of a source is refused
+-- if the tree of a source is refused, that refusal is an answer for the text
 pub tree_refused : (turns : ℕ) (text : List ℕ) (t : SyntaxTree) (e : SourceError) → IsSource text t →
     (e ≢ NoMemory → resolved t ≡ Err e)
     → (a : Answer) → IsSourceRefused e a → OverText (MeansProgram turns) text a
 tree_refused turns text t e source err a is = inr (e, (inr (t, source, err is.named), is))
 
--- the lines of a meaning that ended were written
+-- if a meaning ended and its lines were written, its answer was written, with status 0
 pub meaning_ended : (turns : ℕ) (text : List ℕ) (p : Program) → IsProgramOf text p → (r : Outcome) → r
     ≡ meaning p turns → EndsAs ends.Ended r
     → (old new : SinkLog) → new ≡ with_lines (output_lines p.names (outputs r)) old
@@ -31,7 +31,7 @@ meaning_ended turns text p is (Ended s) e ended old new put =
     record { answer = meant p (Ended s); is = inl (p, (is, ap (meant p) e)); put = put; status_is = refl }
 meaning_ended turns text p is (Cut s) e ended old new put = absurd ended
 
--- the lines of a meaning that was cut were written
+-- if a meaning was cut and its lines were written, its answer was written, with status 9
 pub meaning_cut : (turns : ℕ) (text : List ℕ) (p : Program) → IsProgramOf text p → (r : Outcome) → r ≡ meaning p turns →
     EndsAs ends.Cut r
     → (old new : SinkLog) → new ≡ with_lines (output_lines p.names (outputs r)) old
@@ -40,7 +40,7 @@ meaning_cut turns text p is (Ended s) e ended old new put = absurd ended
 meaning_cut turns text p is (Cut s) e ended old new put =
     record { answer = meant p (Cut s); is = inl (p, (is, ap (meant p) e)); put = put; status_is = refl }
 
--- the put of a line of a meaning failed
+-- if the put of one of a meaning's lines failed, its answer was written up to that line
 pub meaning_broken : (turns : ℕ) (text : List ℕ) (p : Program) → IsProgramOf text p → (r : Outcome) → r
     ≡ meaning p turns
     → (old new : SinkLog) → LinesBreakOff (output_lines p.names (outputs r)) old new

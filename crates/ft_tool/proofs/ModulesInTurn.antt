@@ -23,7 +23,7 @@ asked_after-append : (loads more : LoadList) (asked : Option LoadList) → asked
 asked_after-append [] more asked = refl
 asked_after-append (load ∷ loads) more asked = asked_after-append loads more (append_told asked (load ∷ []))
 
--- loads followed by more loads
+-- if some loads were made and then more, all of them were made, in this order
 made_more : (loads more : LoadList) (asked between asked' : Option LoadList) → HasMade loads asked between →
     HasMade more between asked' → HasMade (loads ++ more) asked asked'
 made_more loads more asked between asked' h g = g ∙ ap (asked_after more) h ∙ sym (asked_after-append loads more asked)
@@ -40,7 +40,7 @@ makes_none told linkage asked = ([], (no_loads told [] linkage.files, refl))
 
 -- MODULES IN TURN
 
--- one more module was added
+-- after the file of the next module was added, `HasAdded` holds with one more module
 added_object : (told : Option Files) (linkage : LinkMap) (modules : List Object) (name : Word) (names : List Word)
     (asked between asked' : Option LoadList) → HasAdded told linkage modules (name ∷ names) asked between
     → (modules' : List Object) → (g : AddsFile told name modules modules') →
@@ -67,20 +67,20 @@ added_more told linkage modules modules' name names asked between asked' h g mad
     subst (λ ms. HasAdded told linkage ms names asked asked') (sym g.1.1.1.1)
     (added_object told linkage modules name names asked between asked' h modules' g made)
 
--- the file of the next module ends the link
+-- if the file of the next module ends the link, its answer is the answer of the link
 pub ends_in_turn : (told : Option Files) (linkage : LinkMap) (modules : List Object) (name : Word) (names : List Word)
     (asked between : Option LoadList) → HasAdded told linkage modules (name ∷ names) asked between
     → (a : Answer) → EndsWithFile told modules name a → LinksFiles told linkage [] linkage.files a
 ends_in_turn told linkage modules name names asked between h a g = h.answers a (g.0, (g.1.0, inl g.1.1))
 
--- the load of that file failed
+-- if the load of that file failed, a load of the link failed
 fails_in_turn : (linkage : LinkMap) (modules : List Object) (name : Word) (names : List Word)
     (shelf between shelf' : ShelfLog)
     → HasAdded shelf.files linkage modules (name ∷ names) shelf.asked between.asked → LoadFails name shelf shelf'
     → FailsInTurn linkage shelf shelf'
 fails_in_turn linkage modules name names shelf between shelf' h g = (name, (h.comes name (inl refl), g))
 
--- the loads of a link that ended at that file
+-- if the link ended at that file, or the call ended early, the loads of the link end with that file
 pub makes_to_end : (told : Option Files) (linkage : LinkMap) (modules : List Object) (name : Word) (names : List Word)
     (asked between asked' : Option LoadList) (early : Bool) → HasAdded told linkage modules (name ∷ names) asked between
     → ((a : Answer) × EndsWithFile told modules name a) ⊎ IsTrue early →
@@ -114,7 +114,7 @@ at_file told linkage modules files i file asked between within is h =
     subst (λ rest. HasAdded told linkage modules rest asked between) (drop_more files i file within
     ∙ ap (λ f. f ∷ drop (i + 1) files) (sym is)) h
 
--- the object of the next file was added
+-- after the object in the next file was added, `HasAdded` holds with one more module
 pub added_next : (told again : Option Files) (linkage : LinkMap) (modules modules' : List Object) (files : List Word)
     (i : ℕ) (file name : Word) (asked between asked' : Option LoadList) → again ≡ told → name ≡ file
     → i < length files → file ≡ get_or files i file → HasAdded told linkage modules (drop i files) asked between →
@@ -126,7 +126,7 @@ added_next told again linkage modules modules' files i file name asked between a
     (subst (λ t. AddsFile t file modules modules') e (subst (λ n. AddsFile again n modules modules') f adds))
     (subst (λ n. HasMade (object_load n ∷ []) between asked') f made)
 
--- the next file ends the link
+-- if the next file ends the link, its answer is the answer of the link
 same_end : (told again : Option Files) (modules : List Object) (file name : Word) → again ≡ told → name ≡ file →
     (a : Answer) → EndsWithFile again modules name a → EndsWithFile told modules file a
 same_end told again modules file name e f a h = subst (λ t. EndsWithFile t modules file a) e
@@ -141,7 +141,7 @@ ends_next told again linkage modules files i file name asked between e f within 
     (at_file told linkage modules files i file asked between within is h) a
     (same_end told again modules file name e f a g)
 
--- the load of the next file failed
+-- if the load of the next file failed, a load of the link failed
 pub fails_next : (linkage : LinkMap) (modules : List Object) (files : List Word) (i : ℕ) (file name : Word)
     (shelf between shelf' : ShelfLog) → name ≡ file
     → i < length files → file ≡ get_or files i file
@@ -152,7 +152,7 @@ fails_next linkage modules files i file name shelf between shelf' f within is h 
     (at_file shelf.files linkage modules files i file shelf.asked between.asked within is h)
     (subst (λ b. Rose b shelf'.failures) e g.0, g.1 ∙ ap Some f)
 
--- the loads up to the next file
+-- if the link ended at the next file, or the call ended early, the loads of the link end with that file
 pub makes_next : (told again : Option Files) (linkage : LinkMap) (modules : List Object) (files : List Word) (i : ℕ)
     (file name : Word) (asked between asked' : Option LoadList) (early : Bool) → again ≡ told → name ≡ file
     → i < length files → file ≡ get_or files i file → HasAdded told linkage modules (drop i files) asked between →
@@ -165,7 +165,7 @@ makes_next told again linkage modules files i file name asked between asked' ear
     (IsTrue early) (λ x. (x.0, same_end told again modules file name e f x.0 x.1)) g)
     (subst (λ n. HasMade (object_load n ∷ []) between asked') f made)
 
--- all modules were added
+-- if all modules were added, the loads made so far are all loads of the link
 pub makes_all : (told : Option Files) (linkage : LinkMap) (modules : List Object) (asked asked' : Option LoadList)
     (early : Bool) → HasAdded told linkage modules [] asked asked' → MakesInTurn told linkage early asked asked'
 makes_all told linkage modules asked asked' early h = (

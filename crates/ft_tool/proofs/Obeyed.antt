@@ -22,12 +22,12 @@ use Rattle.ft_tool.proofs.Statuses.{usage_alone}
 
 -- REQUESTS
 
--- an answer that needs no script
+-- if an answer is right for every script, it answers the request
 any_script : (r : Request) (told : Option Files) (left : Option (List ℕ)) (a : Answer) →
     OfFiles told (λ files. (script : List ℕ) → Answers r told files script a) → AnswersTo r told left a
 any_script r told left a h = let s = some_script left in (h.0, (h.1.0, (s.0, (s.1.0, h.1.1 s.0))))
 
--- a request that needs no script: its answer and its loads
+-- what a call does for a request that needs no script, given its answer and its loads
 pub does_files : (r : Request) (e : Ending) {left : Option (List ℕ)} {old new : SinkLog} {shelf shelf' : ShelfLog}
     {Takes : Type 0} (Load : Type 0) (Is : Answer → Type 0) → Ends e Is old new Load
     → ((a : Answer) → Is a → OfFiles shelf.files (λ files. (script : List ℕ) → Answers r shelf.files files script a))
@@ -41,7 +41,7 @@ does_files r e {left} {old} {new} {shelf} {shelf'} {Takes} Load Is ends is fails
   made = made;
 }
 
--- a request that needs no file
+-- what a call does for a request that needs neither a file nor a script
 pub does_alone : (r : Request) (e : Ending) {left : Option (List ℕ)} {old new : SinkLog} (shelf : ShelfLog)
     {Takes : Type 0} (Is : Answer → Type 0) → Ends e Is old new ⊥
     → ((files : Files) (script : List ℕ) (a : Answer) → Is a → Answers r shelf.files files script a)
@@ -58,7 +58,7 @@ loading : (r : Request) (shelf shelf' : ShelfLog) (Takes : Type 0) → FailsLoad
 loading r shelf shelf' Takes (inl h) = inl h
 loading r shelf shelf' Takes (inr none) = absurd none
 
--- a request that reads no script, given as an equal request
+-- what a call does for a request that reads no script, it does for an equal request
 pub does_untaken : {r q : Request} {e : Ending} {left : Option (List ℕ)} {old new : SinkLog}
     {shelf shelf' : ShelfLog} {Takes : Type 0} → r ≡ q → Does q e left old new shelf shelf' ⊥
     → Does r e left old new shelf shelf' Takes
@@ -71,7 +71,7 @@ does_untaken {r} {q} {e} {left} {old} {new} {shelf} {shelf'} {Takes} same h =
       made = h.made;
     })
 
--- the answer to a session, and how a session fails
+-- the answer to a session, and the failures of a session's load and takes
 abbrev SessionAnswers : Debugging → ShelfLog → SourceLog → Answer → Type 0
 SessionAnswers d shelf script a =
     OfFiles shelf.files (λ files. OfScript script.left (λ text. OverFile (DebugsObject d text) d.object files a))
@@ -105,7 +105,7 @@ does_session d e {old} {new} shelf shelf' script script' same ends load_failures
       made = (m.0, (m.1.0, made));
     })
 
--- what a session reads of its script
+-- what is known about the takes of a session holds for a request that equals the session
 pub takes_session : (d : Debugging) {r : Request} (told : Option Files) (script script' : SourceLog) {Same : Type 0}
     → r ≡ Debugs d
     → (OfFiles told (λ files. SpellsFile files d.object)
@@ -163,7 +163,7 @@ module _ (words : List Word) {r : Request} (asks : Asks words r) {e : Ending} {o
   asked_loads =
       record { request = r; asks = asks; files = does.made.0; are_files = does.made.1.0; made = does.made.1.1 }
 
--- what a call reads of its script
+-- what is known about the takes of a request holds for the words that ask for it
 pub asked_takes : (words : List Word) {r : Request} {told : Option Files} {script script' : SourceLog} {Same : Type 0}
     → Asks words r → TakesFor r told script script' ⊎ Same → TakesFrom words told script script' ⊎ Same
 asked_takes words asks (inl h) =

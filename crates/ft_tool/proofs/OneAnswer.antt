@@ -105,7 +105,7 @@ same_answers l (Schedules name) files script a b h g = over_file l.one_object l.
 same_answers l (Links name) files script a b h g = link_same l.one_object l.unbroken (says_same l.one_map) name files a
     b h g
 
--- the answer for known files and a known script
+-- if the files and the script are known, an answer to the words is an answer to their request
 answers_told : HasLaws → (words : List Word) (r : Request) (files : Files) (script : List ℕ) (a : Answer) →
     Asks words r → IsAnswer words (Some files) (Some script) a → Answers r (Some files) files script a
 answers_told l words r files script a asks h =

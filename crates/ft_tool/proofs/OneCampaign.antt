@@ -25,7 +25,7 @@ use Rattle.ft_tool.specs.Demonstrations.{ShowsSample}
 use Rattle.ft_tool.specs.Answers.{OverListFile, CampaignsUnless}
 use Rattle.ft_tool.proofs.OneObject.{not_both}
 
--- verdicts, and the answer for faults
+-- two lists of verdicts on the same faults are equal, and so are two answers for the same faults
 zipped_same : {A B : Type 0} (P : A → B → Type 0) → ((x : A) (u v : B) → P x u → P x v → u ≡ v) →
     (xs : List A) (us vs : List B) → AllZip P xs us → AllZip P xs vs → us ≡ vs
 zipped_same P one [] [] [] h g = refl
@@ -48,7 +48,7 @@ over_faults one Promised c o faults a b (tried few us is keeps e) (tried fewer v
     (zipped_same (λ x v. IsVerdict o x c.wild c.steps v) (λ x u v. one o x c.wild c.steps u v) faults us vs is are)
     ∙ sym f
 
--- the answer to a refused list
+-- a list error that has an answer is not `NoMemory`, and it has only one answer
 named : (e : ListError) (a : Answer) → IsListAnswer e a → e ≢ NoMemory
 named (Line number) a h e = cc
 named TooMany a h e = cc
@@ -59,7 +59,7 @@ list_answer_same (Line number) a b h g = h ∙ sym g
 list_answer_same TooMany a b h g = h ∙ sym g
 list_answer_same NoMemory a b h g = absurd h
 
--- the answer for the text of a list, and for its file
+-- two answers for the text of a list are equal, and so are two answers for its file
 over_list : ((o : Object) (x : Strike) (w : List Wild) (n : ℕ) (u v : Verdict) → IsVerdict o x w n u →
     IsVerdict o x w n v → u ≡ v)
     → ((text : List ℕ) (xs ys : List Strike) → IsFaultList text xs → IsFaultList text ys → xs ≡ ys)
@@ -92,14 +92,14 @@ over_list_file one one_list one_refusal either Promised c files o a b x y =
     over_list one one_list one_refusal either Promised c o x.0 a b x.1.1
     (subst (λ list. OverList Promised c o list b) (same_Some y.0 x.0 (sym y.1.0 ∙ x.1.0)) y.1.1)
 
--- the answer of `campaign`, given the refusal of the object, if any
+-- two answers of `campaign` for the same refusal of the object, or for none, are equal
 pub strikes_same : (x : Option Refusal) (Accepted : Answer → Type 0) →
     ((a b : Answer) → Accepted a → Accepted b → a ≡ b) →
     (a b : Answer) → CampaignsUnless x Accepted a → CampaignsUnless x Accepted b → a ≡ b
 strikes_same None Accepted same a b h g = same a b h g
 strikes_same (Some r) Accepted same a b h g = h ∙ sym g
 
--- the answer of `debug`
+-- two answers of `debug` are equal
 pub session_same : ((script : List ℕ) (commands others : List Command) → AreCommands script commands →
     AreCommands script others → commands ≡ others)
     → (d : Debugging) (script : List ℕ) (o : Object) (a b : Answer) → DebugsObject d script o a →
@@ -110,7 +110,7 @@ session_same one d script o a b (debugged within cs are f) (too_long above e) = 
 session_same one d script o a b (debugged within cs are e) (debugged short ds is f) =
     e ∙ ap (λ xs. record { pieces = session_lines o d.wild xs; status = 0 }) (one script cs ds are is) ∙ sym f
 
--- the answer of `demo`
+-- two answers of `demo` are equal
 pub shown_same : ((o : Object) (x : Strike) (w : List Wild) (n : ℕ) (u v : Verdict) → IsVerdict o x w n u →
     IsVerdict o x w n v → u ≡ v)
     → (turns : ℕ) (a b : Answer) → ShowsSample turns a → ShowsSample turns b → a ≡ b

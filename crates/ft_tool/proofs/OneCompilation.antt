@@ -67,7 +67,7 @@ over_source one Over Agree same refusals name files a b x y =
     over_text one Over Agree same refusals x.0 a b x.1.1
     (subst (λ text. OverText Over text b) (same_Some y.0 x.0 (sym y.1.0 ∙ x.1.0)) y.1.1)
 
--- two objects for the same program
+-- two answers of `compile` for the same program agree
 pub two_objects : (p : Program) (a b : Answer) → CompilesProgram p a → CompilesProgram p b → AreCompilations a b
 two_objects p a b x y = one.compiled_both (ap (λ (r : Answer). r.status) x.answer)
     (ap (λ (r : Answer). r.status) y.answer)
@@ -89,7 +89,7 @@ begins_either (x ∷ xs) (y ∷ ys) zs h g =
       tail_same x y (xs ++ h.0) (ys ++ g.0) same,
     ) (g.0, refl))
 
--- the runs of two objects that stand for the same program
+-- the answers for the runs of two objects that stand for the same program agree
 abbrev execution : Object → ℕ → Answer
 execution o n = ran o (run o None [] n)
 

@@ -112,7 +112,7 @@ module _ (one_object : (bytes : List ℕ) (o : Object) → IsSpelling bytes o �
       object_goes_on modules o a h.accepted h.unrefused
       (subst (λ x. EndsAtObject modules x a) (spelled_same bytes o u h.spelled g) e)
 
-  -- the answer for modules that were all added
+  -- two answers for modules that were all added are equal
   unless_same : (x : Option LinkRefusal) (linkage : LinkMap) (first : Object) (others : List Object) (a b : Answer) →
       LinksUnless x linkage first others a → LinksUnless x linkage first others b → a ≡ b
   unless_same None linkage first others a b h g = upgraded_same (linked linkage first others) a b h.written g.written
@@ -124,7 +124,7 @@ module _ (one_object : (bytes : List ℕ) (o : Object) → IsSpelling bytes o �
   added_same linkage (first ∷ others) a b h g = unless_same (link_refusal linkage first others) linkage first others a b
       h g
 
-  -- the answer for the files of further modules, given the bytes of the first
+  -- two answers for the files of further modules are equal, by induction over the files
   next_same : (files : Files) (linkage : LinkMap) (modules : List Object) (names : List Word) (bytes : List ℕ)
       (a b : Answer)
       → ((o : Object) (x y : Answer) → LinksFiles (Some files) linkage (modules ++ o ∷ []) names x →
@@ -150,7 +150,7 @@ module _ (one_object : (bytes : List ℕ) (o : Object) → IsSpelling bytes o �
       × (IsAdded modules bytes o × LinksFiles (Some files) linkage (modules ++ o ∷ []) names b)))
       (same_Some g.0 h.0 (sym g.1.0 ∙ h.1.0)) g.1.1)
 
-  -- the answer for the text of a map, and for its file
+  -- two answers for the text of a map are equal, and so are two answers for its file
   map_text_same : ((text : List ℕ) (x y : MapSaid) → SaysOf text x → SaysOf text y → x ≡ y) →
       (files : Files) (text : List ℕ) (a b : Answer) → LinksText (Some files) text a → LinksText (Some files) text b → a
       ≡ b

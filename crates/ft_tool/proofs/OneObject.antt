@@ -32,7 +32,7 @@ over_bytes one_object unbroken Over same bytes a b (inr x) (inl y) =
 over_bytes one_object unbroken Over same bytes a b (inr x) (inr y) = x.1.1
     ∙ ap object_refused (same_Some x.0 y.0 (sym x.1.0 ∙ y.1.0)) ∙ sym y.1.1
 
--- so is the answer for the file with a given name
+-- so is the answer for the file with this name
 pub over_file : ((bytes : List ℕ) (o : Object) → IsSpelling bytes o → object_of bytes ≡ o) →
     ((bytes : List ℕ) (o : Object) → IsSpelling bytes o → broken bytes ≡ None)
     → (Over : Object → Answer → Type 0) → ((o : Object) (a b : Answer) → Over o a → Over o b → a ≡ b) →
@@ -41,12 +41,12 @@ over_file one_object unbroken Over same name files a b x y =
     over_bytes one_object unbroken Over same x.0 a b x.1.1
     (subst (λ bytes. OverBytes Over bytes b) (same_Some y.0 x.0 (sym y.1.0 ∙ x.1.0)) y.1.1)
 
--- the answer of `upgrade`
+-- two answers of `upgrade` are equal
 pub upgraded_same : (o : Object) (a b : Answer) → UpgradesObject o a → UpgradesObject o b → a ≡ b
 upgraded_same o a b x y = x.answer ∙ ap (λ bytes. one_piece bytes 0) (x.spelled.spelled ∙ sym y.spelled.spelled)
     ∙ sym y.answer
 
--- the answer of `asm`
+-- two answers of `asm` are equal
 assembled_same : (x : Said) (a b : Answer) → AssemblesAs x a → AssemblesAs x b → a ≡ b
 assembled_same (Is o) a b h g = upgraded_same o a b h g
 assembled_same TooLong a b h g = h ∙ sym g
@@ -62,7 +62,7 @@ over_assembly one name files a b x y =
     x.1.1.1.0 in
     assembled_same x.1.1.0 a b x.1.1.1.1 (subst (λ (s : Said). AssemblesAs s b) saids y.1.1.1.1)
 
--- the answer of `schedule`
+-- two answers of `schedule` are equal
 pub scheduled_same : ((o s t : Object) → IsSpellable o → IsScheduled o s → IsScheduled o t → s ≡ t) →
     (x : Option Refusal) (o : Object) (a b : Answer) → SchedulesUnless x o a → SchedulesUnless x o b → a ≡ b
 scheduled_same one None o a b x y =
@@ -70,7 +70,7 @@ scheduled_same one None o a b x y =
     upgraded_same x.schedule a b x.written (subst (λ s. UpgradesObject s b) same y.written)
 scheduled_same one (Some r) o a b x y = x ∙ sym y
 
--- the answers of `run` and `recover`
+-- two answers of `run` are equal, and so are two answers of `recover`
 pub run_same : (x : Option Refusal) (r : Run) (o : Object) (a b : Answer) → RunsUnless x r o a → RunsUnless x r o b → a
     ≡ b
 run_same None r o a b h g = h.0 ∙ sym g.0

@@ -27,7 +27,7 @@ module _ (r : Request) (file : Word) (limit : ℕ) (Over : List ℕ → Answer �
       let s = some_script left in
       (m.0, (m.1.0, (s.0, (s.1.0, one.answers shelf.files m.0 s.0 bytes a m.1.1 is))))
 
-  -- only the file was loaded
+  -- if only that file was loaded, the loads are those of the request
   loads_alone : (early : Bool) → HasMade ((name, bound) ∷ []) shelf.asked shelf'.asked
       → OfFiles shelf.files (λ files. LoadsFor r shelf.files files (IsTrue early) shelf.asked shelf'.asked)
   loads_alone early made =
@@ -41,7 +41,7 @@ module _ (r : Request) (file : Word) (limit : ℕ) (Over : List ℕ → Answer �
         ),
       )
 
-  -- the whole file was loaded
+  -- what the call does if the whole file was loaded
   pub does_over : (e : Ending) (bytes lent : List ℕ) → Gives shelf.files name bound bytes (Ok Whole) → lent ≡ bytes
       → NoLoadFails shelf shelf' → HasMade ((name, bound) ∷ []) shelf.asked shelf'.asked
       → Ends e (Over lent) old new ⊥ → Does r e left old new shelf shelf' ⊥
@@ -52,7 +52,7 @@ module _ (r : Request) (file : Word) (limit : ℕ) (Over : List ℕ → Answer �
     made = loads_alone (ends_early e) made;
   }
 
-  -- the file is too long
+  -- what the call does if the file is too long
   pub does_long : (e : Ending) (into : List ℕ) → Gives shelf.files name bound into (Ok TooLong)
       → NoLoadFails shelf shelf' → HasMade ((name, bound) ∷ []) shelf.asked shelf'.asked
       → Ends e (λ a. (bytes : List ℕ) → limit < length bytes → Over bytes a) old new ⊥
@@ -66,7 +66,7 @@ module _ (r : Request) (file : Word) (limit : ℕ) (Over : List ℕ → Answer �
     made = loads_alone (ends_early e) made;
   }
 
-  -- the load failed
+  -- what the call does if the load failed
   pub does_fail : LoadFails name shelf shelf' → HasMade ((name, bound) ∷ []) shelf.asked shelf'.asked → new ≡ old
       → Does r LoadFailed left old new shelf shelf' ⊥
   does_fail h made none = record {
@@ -79,7 +79,7 @@ module _ (r : Request) (file : Word) (limit : ℕ) (Over : List ℕ → Answer �
     made = loads_alone (ends_early LoadFailed) made;
   }
 
-  -- there was no memory for the file
+  -- what the call does if there was no memory for the file
   pub does_nothing : NoLoadFails shelf shelf' → HasMade ((name, bound) ∷ []) shelf.asked shelf'.asked → new ≡ old
       → Does r NoMemory left old new shelf shelf' ⊥
   does_nothing same made none =

@@ -35,7 +35,7 @@ module _ (r : Run) (o : Object) (w : List Wild) (old mid new : SinkLog) (spelled
     undetected o r.wild spelled unrefused,
   )
 
-  -- the put of one of its lines failed
+  -- if the put of one of the output lines failed, the answer was written up to that line
   recovery_breaks : LinesBreakOff (whole_output o w r.steps) old mid → BreaksOff (RecoversObject r o) old mid
   recovery_breaks h = record {
     answer = recovered r o;
@@ -52,7 +52,7 @@ module _ (r : Run) (o : Object) (w : List Wild) (old mid new : SinkLog) (spelled
     put_there : mid ≡ with_lines (whole_output o r.wild r.steps) old
     put_there = put ∙ ap (λ v. with_lines (whole_output o v r.steps) old) is
 
-    -- its lines and the line of the restart were written
+    -- if the output lines and the restart's line, if any, were written, so was the answer
     recovery_concludes : (s : Status) → status_after o None w r.steps ≡ s → new ≡ with_lines (again_lines again) mid
         → Concludes (RecoversObject r o) (status_of_run s) old new
     recovery_concludes s status h = record {
@@ -63,7 +63,7 @@ module _ (r : Run) (o : Object) (w : List Wild) (old mid new : SinkLog) (spelled
       status_is = ap status_of_run (sym (subst (λ v. status_after o None v r.steps ≡ s) is status));
     }
 
-    -- the put of the restart's line failed
+    -- if the put of the restart's line failed, the answer was written up to that line
     restart_breaks : LinesBreakOff (again_lines again) mid new → BreaksOff (RecoversObject r o) old new
     restart_breaks h = record {
       answer = recovered r o;
@@ -72,7 +72,7 @@ module _ (r : Run) (o : Object) (w : List Wild) (old mid new : SinkLog) (spelled
           mid new put_there (subst (λ n. LinesBreakOff (again_lines n) mid new) restart_there h);
     }
 
-  -- a recovery that ended this way: after its lines, the line of the restart was written
+  -- how `recover` ends, given how the recovery ended, if the put of the restart's line did not fail
   pub recovery_ends : (e : RecoverEnd) → EndsAs e (status_after o None w r.steps)
       → Restarts e (restart_output o r.strike w r.steps)
       → Puts (put_end e) (whole_output o w r.steps) old mid → new ≡ with_lines (again_lines (again_of e)) mid
@@ -85,7 +85,7 @@ module _ (r : Run) (o : Object) (w : List Wild) (old mid new : SinkLog) (spelled
       subst (λ x. BreaksOff (RecoversObject r o) old x) (lines_none mid ∙ sym more) (recovery_breaks put)
   recovery_ends recoveries.NoMemory status restart put more = more ∙ sym (lines_none mid) ∙ put
 
-  -- a recovery that ended this way: after its lines, the put of the restart's line failed
+  -- if the put of the restart's line failed after a recovery, the answer was written up to that line
   pub recovery_breaks_late : (e : RecoverEnd) → Restarts e (restart_output o r.strike w r.steps)
       → Puts (put_end e) (whole_output o w r.steps) old mid → LinesBreakOff (again_lines (again_of e)) mid new
       → BreaksOff (RecoversObject r o) old new

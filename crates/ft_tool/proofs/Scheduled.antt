@@ -11,13 +11,13 @@ use Rattle.ft_tool.specs.Objects.{judged}
 use Rattle.ft_tool.specs.Answers.{SchedulesAccepted, SchedulesUnless}
 use Rattle.ft_tool.specs.Files.{IsNotAccepted}
 
--- if the object is accepted
+-- if the object is accepted, its schedule is the answer
 pub schedule_accepted : (x : Option Refusal) (o : Object) → x ≡ None → (a : Answer) → SchedulesAccepted o a →
     SchedulesUnless x o a
 schedule_accepted None o e a h = h
 schedule_accepted (Some r) o e a h = cc
 
--- if the object is not accepted
+-- if the object is not accepted, its refusal is the answer
 refused_so : (x : Option Refusal) (o : Object) (r : Refusal) → x ≡ Some r → (a : Answer) → a ≡ judged (Some r) →
     SchedulesUnless x o a
 refused_so x o r e a h = subst (λ y. SchedulesUnless y o a) (sym e) h

@@ -26,7 +26,7 @@ use Rattle.ft_tool.specs.Files.{LoadsObject, IsRefusedBy}
 use Rattle.ft_tool.proofs.Mapped.{longer_bytes, some_files, files_with, some_script}
 use Rattle.ft_tool.proofs.Tried.{spells_file}
 
--- the script was read to its end
+-- if the last take found the script at its end, the bytes read before are the whole script
 pub whole_script : (old between new : Option (List ℕ)) (text : List ℕ) (n : ℕ) (buf : List ℕ) →
     Consumes old between text → n ≡ 0 → Consumes between new (take n buf) → IsAtEnd new →
     IfSome old (λ told. text ≡ told)
@@ -51,7 +51,7 @@ longer_script (Some text) None taken h long = absurd h
 longer_script (Some text) (Some rest) taken h long = let e : length text ≡ length (taken ++ rest) = ap length h in
     (text, (refl, omega (arith, e, length-append {A = ℕ}, long)))
 
--- a session whose lines were written
+-- if all lines of a session were written, so was the answer of `debug`
 pub session_concludes : (d : Debugging) (o : Object) (w : List Wild) (text : List ℕ) (old new : SinkLog)
     → length text ≤ 1048576 → w ≡ d.wild
     → PutsSession AllPut o w text old new → Concludes (DebugsObject d text o) 0 old new
@@ -62,7 +62,7 @@ session_concludes d o w text old new short is h = record {
   status_is = refl;
 }
 
--- a session with a line whose put failed
+-- if the put of one of a session's lines failed, the answer of `debug` was written up to that line
 pub session_breaks_off : (d : Debugging) (o : Object) (w : List Wild) (text : List ℕ) (old new : SinkLog)
     → length text ≤ 1048576 → w ≡ d.wild
     → PutsSession PutFailed o w text old new → BreaksOff (DebugsObject d text o) old new
@@ -107,7 +107,7 @@ over_undebugged d told left (Refused e) h a is =
 over_undebugged d told left Failed h a is = absurd is
 over_undebugged d told left NoMemory h a is = absurd is
 
--- a session got as far as its script, and a take of the script failed
+-- if a take failed after the session's object was loaded, the session failed at its script
 pub script_failed : (d : Debugging) (bytes : List ℕ) (shelf shelf' : ShelfLog) (script script' : SourceLog)
     → LoadsObject shelf.files d.object (Ok bytes) → Rose script.failures script'.failures
     → OfFiles shelf.files (λ files. FailsIn (Debugs d) files shelf shelf' ⊎ FailsAtScript d files script script')
@@ -115,7 +115,7 @@ script_failed d bytes shelf shelf' script script' h rose =
     let m = spells_file shelf.files d.object bytes h in
     (m.0, (m.1.0, inr (record { rose = rose; comes = m.1.1 })))
 
--- the load of a session's object failed
+-- if the load of a session's object failed, a load of the request failed
 pub session_failed : (d : Debugging) (shelf shelf' : ShelfLog) (script script' : SourceLog)
     → LoadFails d.object shelf shelf'
     → OfFiles shelf.files (λ files. FailsIn (Debugs d) files shelf shelf' ⊎ FailsAtScript d files script script')
@@ -123,7 +123,7 @@ session_failed d shelf shelf' script script' h =
     let m = some_files shelf.files in
     (m.0, (m.1.0, inl (record { file = d.object; comes = refl; fails = h })))
 
--- a take failed
+-- if the fault is `Failed`, the count of failed takes rose
 pub take_failed : (V : Type 0) (before now : ℕ) (e : ScriptFault) → TakeCause {V = V} before now (Err e) → e
     ≡ faults.Failed → Rose before now
 take_failed V before now e h is = subst (λ f. TakeCause {V = V} before now (Err f)) is h

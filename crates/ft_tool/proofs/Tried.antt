@@ -42,7 +42,7 @@ use Rattle.ft_tool.proofs.Mapped.{files_with, files_with_both}
 pub at_most : (n m : ℕ) → (n < m → ⊥) → m ≤ n
 at_most n m h = omega (arith, lt_of_not-le {n = suc n} {m = m} h)
 
--- a campaign that finished
+-- if a campaign finished, its answer was written
 pub tried_concludes : (Promised : List Verdict → Type 0) (c : Campaign) (o : Object) (faults : List Strike)
     (totals : Totals) (status : ℕ) (old new : SinkLog)
     → Finishes totals o faults c.wild c.steps old new → length faults * c.steps ≤ 1000000000
@@ -56,7 +56,7 @@ tried_concludes Promised c o faults totals status old new h few keeps is = recor
   status_is = is h.found h.totals_are;
 }
 
--- a campaign whose lines were written up to a failed put
+-- if a campaign stopped at a failed put, its answer was written up to that put
 pub tried_breaks_off : (Promised : List Verdict → Type 0) (c : Campaign) (o : Object) (faults : List Strike)
     (old new : SinkLog)
     → Stops o faults c.wild c.steps old new → length faults * c.steps ≤ 1000000000
@@ -74,7 +74,7 @@ sample_undetected turns some few = never_detected (sample_object turns) []
     (sample_is_spellable (sample_object turns) turns refl some few)
     (sample_is_accepted (sample_object turns) turns refl)
 
--- the status of a survey, given its totals
+-- the status is 0 if the totals count no corrupt verdict, and 10 otherwise
 pub none_corrupt : (totals : Totals) (vs : List Verdict) → totals.corrupt ≡ 0 → totals ≡ totals_of vs → 0 ≡ status_of vs
 none_corrupt totals vs none is = sym (ap (λ b. if b then 0
     else 10) (eq-eqb (count_by is_corrupt vs) 0 (sym (ap (λ (t : Totals). t.corrupt) is) ∙ none)))
@@ -111,7 +111,7 @@ with_list Promised c told bytes o a file is =
     let m = files_with_both told c.object bytes c.faults is.0 file is.1.0.file is.1.0.own in
     (m.0, (m.1.0, (m.1.1.0, (is.0, (m.1.1.1, is.1.1)))))
 
--- the answer of a campaign is an answer for its file, even if its object is refused
+-- likewise for the answer of a campaign, whether or not its object is refused
 with_strikes : (x : Option Refusal) (c : Campaign) (told : Option Files) (bytes : List ℕ) (o : Object) (a : Answer) →
     IsToldFile told c.object bytes → CampaignsUnless x (CampaignsListOf c told bytes o) a
     → OfFiles told (λ files. IsFile files c.object bytes × CampaignsUnless x (CampaignsAccepted c files o) a)
@@ -135,7 +135,7 @@ over_struck c told bytes h a is =
     let m = with_strikes (refusal (object_of bytes)) c told bytes (object_of bytes) a h.0 is in
     (m.0, (m.1.0, (bytes, (m.1.1.0, inl (object_of bytes, ((version_at bytes, h.1), m.1.1.1))))))
 
--- likewise for the shelf after the load, and for the borrowed bytes
+-- likewise for an answer to the borrowed bytes, with the shelf as it is after the load
 pub own_bytes : (told between : Option Files) (name : Word) (bytes lent : List ℕ) → between ≡ told → lent ≡ bytes →
     LoadsObject told name (Ok bytes) → IsToldFile between name lent
 own_bytes told between name bytes lent e f h = subst (λ t. IsToldFile t name lent) (sym e)
@@ -167,7 +167,7 @@ over_unstruck Over told name (Refused e) h a is = let m = files_with told name h
 over_unstruck Over told name Failed h a is = absurd is
 over_unstruck Over told name no_memory h a is = absurd is
 
--- the file of a loaded object spells it, and spells an accepted object if it is accepted
+-- the file of a loaded object spells an object, and an accepted one if the loaded one is accepted
 pub spells_file : (told : Option Files) (name : Word) (bytes : List ℕ) → LoadsObject told name (Ok bytes) →
     OfFiles told (λ files. SpellsFile files name)
 spells_file told name bytes h = let m = files_with told name bytes h.0 in
@@ -196,7 +196,7 @@ refused_file : (told : Option Files) (name : Word) (bytes : List ℕ) (Early : T
 refused_file told name bytes Early h refused = let m = files_with told name bytes h.0 in
     (m.0, (m.1.0, refused_by m.0 name bytes Early m.1.1 refused))
 
--- unless the call ends early: a fact that implies a false one is false, and a false one implies anything
+-- unless the call ends early, a fact that implies a false one is false, and a false fact implies any fact
 unaccepted_file : (Spells Accepted Early : Type 0) → (Accepted → Spells) → (Spells → ⊥) ⊎ Early → (Accepted → ⊥) ⊎ Early
 unaccepted_file Spells Accepted Early f (inl none) = inl (λ a. none (f a))
 unaccepted_file Spells Accepted Early f (inr early) = inr early
@@ -205,7 +205,7 @@ alone : (Comes Own Early : Type 0) → (Comes → ⊥) ⊎ Early → (Comes → 
 alone Comes Own Early (inl none) = inl (λ comes. absurd (none comes))
 alone Comes Own Early (inr early) = inr early
 
--- the load of the fault list failed, after the load of the object
+-- if the load of the fault list failed after the load of the object, a load of the request failed
 fails_later : (name : Word) (shelf between shelf' : ShelfLog) → between.failures ≡ shelf.failures
     → LoadFails name between shelf' → LoadFails name shelf shelf'
 fails_later name shelf between shelf' same h = (subst (λ n. Rose n shelf'.failures) same h.0, h.1)
@@ -246,7 +246,7 @@ campaign_failed c bytes shelf between shelf' h same f =
       ),
     )
 
--- the loads of a campaign that does not get to its list, or ends early
+-- a campaign that does not get to its list, or ends early, may load its object alone
 pub object_alone : (c : Campaign) (told : Option Files) (Comes : Files →
     Type 0) (Early : Type 0) (asked asked' : Option LoadList) → OfFiles told (λ files. (Comes files → ⊥) ⊎ Early)
     → HasMade (object_load c.object ∷ []) asked asked' →
@@ -254,7 +254,7 @@ pub object_alone : (c : Campaign) (told : Option Files) (Comes : Files →
 object_alone c told Comes Early asked asked' m h =
     (m.0, (m.1.0, inl (record { none = alone (Comes m.0) (c.faults ≡ c.object) Early m.1.1; made = h })))
 
--- the loads of a campaign that gets to its list
+-- a campaign that gets to its list loads it after the object, unless both have the same name
 list_loaded : (c : Campaign) (told : Option Files) (Comes : Files →
     Type 0) (Early : Type 0) (asked between asked' : Option LoadList) → OfFiles told Comes →
     HasMade (object_load c.object ∷ []) asked between → LoadsOther c between asked'
@@ -273,7 +273,7 @@ list_loaded c told Comes Early asked between asked' m h (inr more) = (
   ),
 )
 
--- the loads of a survey
+-- likewise for a survey whose object was loaded
 pub surveys_loaded : (c : Campaign) (told : Option Files) (bytes : List ℕ) (Early : Type 0)
     (asked between asked' : Option LoadList) → LoadsObject told c.object (Ok bytes) →
     HasMade (object_load c.object ∷ []) asked between
@@ -282,7 +282,7 @@ surveys_loaded c told bytes Early asked between asked' h first more =
     list_loaded c told (λ files. SpellsFile files c.object) Early asked between asked'
     (spells_file told c.object bytes h) first more
 
--- the loads of a campaign
+-- likewise for a campaign on an accepted object; otherwise, or if it ends early, it may load the object alone
 pub campaigns_loaded : (c : Campaign) (told : Option Files) (bytes : List ℕ) (Early : Type 0)
     (asked between asked' : Option LoadList) → LoadsObject told c.object (Ok bytes) →
     HasMade (object_load c.object ∷ []) asked between
@@ -295,7 +295,7 @@ campaigns_loaded c told bytes Early asked between asked' h first (inr more) =
     list_loaded c told (λ files. SpellsAccepted files c.object) Early asked between asked'
     (spells_accepted told c.object bytes h more.0) first more.1
 
--- the loads of a campaign or a survey whose object was not loaded or is not an object
+-- a survey or a campaign whose object was not loaded, or is not an object, may load that file alone
 pub survey_unloaded : (c : Campaign) (told : Option Files) (Early : Type 0) (asked asked' : Option LoadList) →
     OfFiles told (λ files. (SpellsFile files c.object → ⊥) ⊎ Early) → HasMade (object_load c.object ∷ []) asked asked'
     → OfFiles told (λ files. LoadsFor (Surveys c) told files Early asked asked')
@@ -315,7 +315,7 @@ campaign_unloaded c told Early asked asked' m h =
       ),
     ) h
 
--- the load of a list failed
+-- if the fault is `Failed`, the load of the list failed
 pub list_failed : (V : Type 0) (name : Word) (e : ListFault) (old new : ShelfLog)
     → ListCause {V = V} name (Err e) old new → e ≡ list_faults.Failed → LoadFails name old new
 list_failed V name e old new h is = subst (λ f. ListCause {V = V} name (Err f) old new) is h

@@ -33,20 +33,20 @@ use Rattle.ft_tool.specs.Demonstrations.{ShowsSample}
 abbrev pub usage : Answer
 usage = one_piece (codes "usage\n") 2
 
--- the run of an object under the requested plan, for the requested number of steps
+-- the answer for the run of an object under the requested plan, for the requested number of steps
 abbrev pub tried : Run → Object → Answer
 tried r o = ran o (run o r.strike r.wild r.steps)
 
 abbrev pub checked : Object → Answer
 checked o = judged (refusal o)
 
--- the run withstands its plan: after each number of steps it has the outputs and the status of the run without the
--- strike, or it is detected and its outputs are a prefix of those; and the run without the strike is never detected
+-- the run withstands its plan: after any number of steps it has the outputs and the status of the run without the
+-- strike, or it is detected and its outputs are a prefix of those; the run without the strike is never detected
 pub record Withstands (o : Object) (strike : Option Strike) (w : List Wild) : Type 0 where
   pub agrees : (n : ℕ) → Agrees (outputs_after o strike w n) (status_after o strike w n) (outputs_after o None w n) (status_after o None w n)
   pub undetected : IsNeverDetected o w
 
--- for an accepted object, its run, which withstands the plan; otherwise the refusal of the object
+-- the answer of `run`, given the refusal of the object, if any: the run, which withstands its plan, or the refusal
 abbrev pub RunsUnless : Option Refusal → Run → Object → Answer → Type 0
 RunsUnless None r o a = (a ≡ tried r o) × Withstands o r.strike r.wild
 RunsUnless (Some x) r o a = a ≡ judged (Some x)
@@ -56,14 +56,16 @@ abbrev pub again_lines : Option ℕ → List (List ℕ)
 again_lines None = []
 again_lines (Some n) = again_line n ∷ []
 
--- the recovery of an object: the lines and the status of its run without a fault, and the line of the restart
+-- the answer for the recovery of an object: the lines and the status of its run without a fault, and the line of the
+-- restart, if there was one
 abbrev pub recovered : Run → Object → Answer
 recovered r o = record {
   pieces = whole_output o r.wild r.steps ++ again_lines (restart_output o r.strike r.wild r.steps);
   status = status_of_run (status_after o None r.wild r.steps);
 }
 
--- for an accepted object, its recovery, and its run without a fault is never detected; otherwise its refusal
+-- the answer of `recover`, given the refusal of the object, if any: the recovery or the refusal. The run of an accepted
+-- object without a fault is never detected
 abbrev pub RecoversUnless : Option Refusal → Run → Object → Answer → Type 0
 RecoversUnless None r o a = (a ≡ recovered r o) × IsNeverDetected o r.wild
 RecoversUnless (Some x) r o a = a ≡ judged (Some x)
@@ -107,7 +109,7 @@ abbrev pub OverAssemblyFile : Word → Files → Answer → Type 0
 OverAssemblyFile name files a = (text : List ℕ) × (IsFile files name text × OverAssembly text a)
 
 -- the answer of `schedule` for an accepted object: the bytes of its schedule in version 2 of the format, in one piece.
--- The object obeys the rules of its tables, so it has one schedule
+-- The object obeys the rules of its tables, so it has exactly one schedule
 pub record SchedulesAccepted (o : Object) (a : Answer) : Type 0 where
   pub spellable : IsSpellable o
   pub schedule : Object
@@ -147,8 +149,8 @@ CampaignsObject c files o a = CampaignsUnless (refusal o) (CampaignsAccepted c f
 abbrev pub OverSource : (Program → Answer → Type 0) → Word → Files → Answer → Type 0
 OverSource Over name files a = (text : List ℕ) × (IsFile files name text × OverText Over text a)
 
--- the answer of a command for files and a script. If a shelf does not reveal its files, a link may get different bytes
--- each time it loads the same name, so its answer is for what is revealed
+-- the answer of a command for files and a script. The answer of a link depends only on the revealed files: if a shelf
+-- reveals none, a link may get different bytes each time it loads the same name
 abbrev pub Answers : Request → Option Files → Files → List ℕ → Answer → Type 0
 Answers Usage told files script a = a ≡ usage
 Answers (Checks name) told files script a = OverFile ChecksObject name files a
@@ -169,7 +171,7 @@ Answers (Schedules name) told files script a = OverFile SchedulesObject name fil
 Answers (Links name) told files script a = LinksFile told name a
 
 -- the answer of the command that the words ask for, with the revealed files and script, or else with some files and
--- some script. One map of files serves all loads, so each name has one content
+-- some script. Except for a link, one map of files serves all loads, so each name has one content
 pub record IsAnswer (words : List Word) (told : Option Files) (left : Option (List ℕ)) (a : Answer) : Type 0 where
   pub request : Request
   pub asks : Asks words request
@@ -235,8 +237,8 @@ pub record FailedToLoad (words : List Word) (old new : ShelfLog) : Type 0 where
   pub are_files : AreFiles old.files files
   pub fails : FailsIn request files old new
 
--- a session got as far as its script: no earlier step refuses it; a take of the script failed, and the count of failed
--- takes rose
+-- a session got as far as its script, since its file spells an object. A take of the script failed, and the count of
+-- failed takes rose
 pub record FailsAtScript (d : Debugging) (files : Files) (old new : SourceLog) : Type 0 where
   pub rose : Rose old.failures new.failures
   pub comes : SpellsFile files d.object

@@ -53,7 +53,7 @@ pub record LoadsList (c : Campaign) (Comes : Type 0) (asked asked' : Option Load
   pub other : c.faults ≢ c.object
   pub made : HasMade (object_load c.object ∷ list_load c.faults ∷ []) asked asked'
 
--- no fault list was loaded: if the campaign got to it, its name is the object's, or the call ended early
+-- no fault list was loaded: the call ended early or, if the campaign got to its list, the list has the object's name
 pub record LoadsNoList (c : Campaign) (Comes Early : Type 0) (asked asked' : Option LoadList) : Type 0 where
   pub none : (Comes → c.faults ≡ c.object) ⊎ Early
   pub made : HasMade (object_load c.object ∷ []) asked asked'
@@ -126,8 +126,8 @@ pub record Loads (words : List Word) (Early : Type 0) (old new : ShelfLog) : Typ
   pub made : LoadsFor request old.files files Early old.asked new.asked
 
 -- the words ask for a session on a file that spells an object, with the revealed files or else with some files. At most
--- 1,048,577 bytes of the script were read, and each take but the last returned some, so no take followed the end or a
--- failure
+-- 1,048,577 bytes of the script were read, and each take but the last returned at least one, so no take followed the
+-- end or a failure
 pub record TakesFrom (words : List Word) (told : Option Files) (old new : SourceLog) : Type 0 where
   pub debugging : Debugging
   pub asks : Asks words (Debugs debugging)

@@ -7,8 +7,8 @@ use Rattle.ft_demo.specs.Demonstrations.{AreDemoVerdicts, demo_lines}
 use Rattle.ft_tool.specs.Lists.{NoneCorrupt}
 use Rattle.ft_tool.specs.Replies.{Answer}
 
--- the answer of `demo` for this many turns: the line of the outputs, and the last line of the campaign, with no corrupt
--- verdict; the run without a fault is never detected
+-- the answer of `demo` for this many turns: the line of the outputs and the last line of the campaign. No verdict is
+-- corrupt, and the run without a fault is never detected
 pub record ShowsSample (turns : ℕ) (a : Answer) : Type 0 where
   pub found : List Verdict
   pub verdicts : AreDemoVerdicts (sample_object turns) found

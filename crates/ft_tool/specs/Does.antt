@@ -27,15 +27,15 @@ pub record FailsTaking (r : Request) (told : Option Files) (old new : SourceLog)
   pub is : r ≡ Debugs debugging
   pub fails : OfFiles told (λ files. FailsAtScript debugging files old new)
 
--- a request for a session on an object read at most 1,048,577 bytes of its script
+-- the request is for a session on an object, and at most 1,048,577 bytes of the script were read
 pub record TakesFor (r : Request) (told : Option Files) (old new : SourceLog) : Type 0 where
   pub debugging : Debugging
   pub is : r ≡ Debugs debugging
   pub comes : OfFiles told (λ files. SpellsFile files debugging.object)
   pub taken : TakesAtMost 1048577 old new
 
--- what a call does for a request: it writes the answer, up to a failed put, or a load or a take fails, or memory runs
--- out; no load fails unless the call ends with `LoadFailed`; and it makes the loads of the request
+-- what a call does for a request: it writes the answer, or the part before a failed put, unless a load or a take fails
+-- or memory runs out. No load fails unless the call ends with `LoadFailed`, and the loads are those of the request
 pub record Does (r : Request) (e : Ending) (left : Option (List ℕ)) (old new : SinkLog) (shelf shelf' : ShelfLog)
     (Takes : Type 0) : Type 0 where
   pub ends : Ends e (AnswersTo r shelf.files left) old new (FailsLoading r shelf shelf' ⊎ Takes)

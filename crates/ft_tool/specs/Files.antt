@@ -36,13 +36,13 @@ use Rattle.ft_tool.specs.declared.load.ListFault.TheVariants as list_faults
 use Rattle.ft_tool.specs.declared.load.ObjectFault.{ObjectFault}
 use Rattle.ft_tool.specs.declared.load.ObjectFault.TheVariants.{Refused, Failed, NoMemory}
 
--- the result of a load: the file's bytes, or that there are more than the limit
+-- what the result of a load says: these are the file's bytes, or the file has more bytes than the limit
 abbrev pub Gives : Option Files → Word → ℕ → List ℕ → Result Load LoadFault → Type 0
 Gives files name limit into (Ok Whole) = (length into ≤ limit) × IsToldFile files name into
 Gives files name limit into (Ok TooLong) = (bytes : List ℕ) × (IsToldFile files name bytes × (limit < length bytes))
 Gives files name limit into (Err e) = Unit {0}
 
--- why loaded bytes are not read as an object
+-- why there is no object if the loaded bytes could not be decoded
 abbrev pub fault_of : DecodeError → ObjectFault
 fault_of (decodes.Object e) = Refused e
 fault_of decodes.NoMemory = NoMemory
@@ -63,7 +63,7 @@ abbrev pub LoadsObject : Option Files → Word → Result (List ℕ) ObjectFault
 LoadsObject files name (Ok bytes) = IsToldFile files name bytes × Spells bytes (version_at bytes) (object_of bytes)
 LoadsObject files name (Err e) = RefusesFile files name e
 
--- a failed load raises the count of failures and is recorded as the last; any other fault leaves both unchanged
+-- a failed load raises the count of failures and is recorded as the last one; any other fault leaves both unchanged
 abbrev pub FaultCause : Word → ObjectFault → ShelfLog → ShelfLog → Type 0
 FaultCause name (Refused e) old new = NoLoadFails old new
 FaultCause name Failed old new = LoadFails name old new
@@ -103,7 +103,7 @@ GetsList faults_of Is (Err list_faults.TooMany) = (list : List ℕ) × (Is list 
 GetsList faults_of Is (Err list_faults.Failed) = Unit {0}
 GetsList faults_of Is (Err list_faults.NoMemory) = Unit {0}
 
--- a failed load of a list raises the count of failures and is recorded as the last; any other result leaves both
+-- a failed load of a list raises the count of failures and is recorded as the last one; any other result leaves both
 -- unchanged
 abbrev pub ListCause : {V : Type 0} → Word → Result V ListFault → ShelfLog → ShelfLog → Type 0
 ListCause name (Ok v) old new = NoLoadFails old new

@@ -65,8 +65,8 @@ pub record IsAdded (modules : List Object) (bytes : List ℕ) (o : Object) : Typ
 -- THE LINKED OBJECT
 
 -- the answer is the object that the map makes of the modules: its bytes in version 2 of the format, in one piece. It is
--- accepted; after each number of steps its run has the outputs and the status of the modules' run; with a fault it
--- still has them, or it is detected and its outputs are a prefix of them
+-- accepted. After any number of steps, its run has the outputs and the status of the modules' run; with a fault it
+-- still has them, or it is detected and its outputs are a prefix of theirs
 pub record LinksObject (linkage : LinkMap) (first : Object) (others : List Object) (a : Answer) : Type 0 where
   pub accepted : IsAccepted (linked linkage first others)
   pub outputs : (n : ℕ) → outputs_after (linked linkage first others) None [] n ≡ modules_outputs linkage first others n
@@ -79,7 +79,7 @@ abbrev pub LinksUnless : Option LinkRefusal → LinkMap → Object → List Obje
 LinksUnless None linkage first others a = LinksObject linkage first others a
 LinksUnless (Some r) linkage first others a = a ≡ unlinked r
 
--- the answer once all modules were added, of which there must be at least one
+-- the answer after all modules were added; there must be at least one module
 abbrev pub LinksAdded : LinkMap → List Object → Answer → Type 0
 LinksAdded linkage [] a = ⊥
 LinksAdded linkage (first ∷ others) a = LinksUnless (link_refusal linkage first others) linkage first others a

@@ -1,4 +1,4 @@
--- What the parts of the tool know of a call's files and script: private to the tool.
+-- What the parts of the tool know about a call's files and script: private to the tool.
 use Rattle.std.specs.Prelude.{◌≡◌, ◌≢◌, ◌⊎◌, ℕ, List, [], ◌∷◌, Option}
 use Rattle.ft_edge.specs.Loads.{Files}
 use Rattle.ft_types.specs.declared.object.Object.{Object}

@@ -36,9 +36,9 @@ pub(crate) enum Ending {
     Detected,
     /// The words are not a command.
     Usage,
-    /// A file could not be read.
+    /// A file or the script could not be read.
     LoadFailed,
-    /// A line could not be written.
+    /// The output could not be written.
     WriteFailed,
     /// Memory ran out.
     NoMemory,
@@ -50,7 +50,7 @@ pub(crate) enum Ending {
     NotAccepted,
     /// The machine is still running after the last step.
     OutOfSteps,
-    /// Some verdict is corrupt.
+    /// At least one verdict is corrupt.
     Corrupt,
     /// The fault list, the campaign over it, or the script is refused.
     ListRefused,
@@ -115,7 +115,7 @@ pub(crate) fn refuse_bytes<K: Sink>(error: ObjectError, out: &mut K) -> Ending
     }
 }
 
-/// Ends a command that has no object: writes the line of the refusal if its bytes are refused.
+/// Ends a command whose object was not read: writes the line of the refusal if the object's bytes are refused.
 pub(crate) fn refuse_object<K: Sink>(fault: ObjectFault, out: &mut K) -> Ending
     ensures ends { Ends result (IsRefusedBy fault)
         (K.log out.old) (K.log out.new) (fault ≡ ObjectFault.Failed) }
@@ -155,7 +155,7 @@ pub(crate) fn put_list_line<K: Sink>(number: u64, told: u64, out: &mut K) -> End
     }
 }
 
-/// Ends a command that has no fault list: writes the line of the refusal if its text is refused.
+/// Ends a command whose fault list was not read: writes the line of the refusal if the list is refused.
 pub(crate) fn refuse_list<K: Sink>(fault: ListFault, out: &mut K) -> Ending
     ensures ends { Ends result (IsListRefusedBy fault)
         (K.log out.old) (K.log out.new) (fault ≡ ListFault.Failed) }
@@ -169,7 +169,7 @@ pub(crate) fn refuse_list<K: Sink>(fault: ListFault, out: &mut K) -> Ending
     }
 }
 
-/// Ends a command that has no script: writes the line of the refusal if it is too long.
+/// Ends a command whose script was not read: writes the line of the refusal if the script is too long.
 pub(crate) fn refuse_script<K: Sink>(fault: ScriptFault, out: &mut K) -> Ending
     ensures ends { Ends result (IsScriptRefusedBy fault)
         (K.log out.old) (K.log out.new) (fault ≡ ScriptFault.Failed) }

@@ -43,9 +43,9 @@ pub fn words_have_one_answer()
     runs_and_meanings_write_the_same_lines();
 }
 
-/// Without a strike, the run of an accepted object is the same for all answers to wild loads. So a run with a strike is
-/// compared, whatever answers its plan has, with the run without answers, which commits what a compiled object's source
-/// means.
+/// Without a strike, an accepted object has the same outputs and the same status whatever the answers to wild loads. So
+/// a run with a strike, whatever answers its plan has, can be compared with the run without a strike and without
+/// answers. For a compiled object, that run commits what its source means.
 pub fn answers_matter_after_a_strike_alone()
     ensures outputs { (o : Object) (w : List Wild) (n : ℕ) → IsSpellable o → IsAccepted o → outputs_after o None w n ≡ outputs_after o None [] n }
     ensures status { (o : Object) (w : List Wild) (n : ℕ) → IsSpellable o → IsAccepted o → status_after o None w n ≡ status_after o None [] n }

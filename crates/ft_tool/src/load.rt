@@ -61,7 +61,7 @@ pub(crate) enum ObjectFault {
     NoMemory,
 }
 
-/// Why loaded bytes are not read as an object.
+/// Why there is no object if the loaded bytes could not be decoded.
 pub(crate) fn fault_of(error: DecodeError) -> ObjectFault
     ensures { result ≡ fault_of error }
 {

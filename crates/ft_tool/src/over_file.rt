@@ -22,7 +22,7 @@ pub(crate) trait FileCommand {
     // The name of its file.
     ghost file: { Self → Word };
 
-    // The maximum number of bytes that it reads of its file.
+    // The maximum number of bytes that it reads from its file.
     ghost limit: { Self → ℕ };
 
     // The answer for the file's bytes.
@@ -32,7 +32,7 @@ pub(crate) trait FileCommand {
     fn file(&self) -> &str
         ensures { result.now ≡ file self.now };
 
-    /// The maximum number of bytes that it reads of its file.
+    /// The maximum number of bytes that it reads from its file.
     fn limit(&self) -> usize
         ensures { result ≡ limit self.now };
 

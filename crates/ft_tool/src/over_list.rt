@@ -13,7 +13,7 @@ use ft_edge::{Shelf, Sink};
 use ft_isa::Strike;
 use std::alloc::Global;
 
-/// What faults are tried on.
+/// An object on which faults are tried.
 pub(crate) trait Target {
     ghost use Rattle.std.specs.Prelude.{◌≡◌, ◌≢◌, ◌≤◌, List, length};
     ghost use Rattle.ft_command.specs.Asked.{campaign_view};
@@ -25,13 +25,13 @@ pub(crate) trait Target {
     // The object.
     ghost object: { Self → Object };
 
-    // What is known of the object.
+    // What is known about the object.
     ghost known: { Self → Type 0 };
 
     // What is promised about the verdicts.
     ghost promised: { Self → List Verdict → Type 0 };
 
-    /// Tries faults on it.
+    /// Tries faults on the object.
     fn over_faults<K: Sink>(
         &self,
         alloc: Global,

@@ -82,7 +82,7 @@ pub(crate) fn asm_line(number: u64, told: u64) -> Line
     line
 }
 
-/// The line for a link that is refused: it gives a line of the map, a module or a limit.
+/// The line for a link that is refused; `told` is a line of the map, a module or a limit.
 pub(crate) fn link_line(number: u64, told: u64) -> Line
     ensures { result ≡ link_line number told }
 {

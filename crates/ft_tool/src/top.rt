@@ -113,25 +113,25 @@ pub fn tool<F: Shelf, I: Source, K: Sink>(
     ensures status { IsTrue (is_status result) }
 
     // The answer of the command that the words ask for was written, each piece with one put, and the result is its
-    // status. So a source is compiled exactly if its text is a program, to an accepted object whose run commits what
-    // the program means and ends when the meaning ends. After each number of steps, the run of an accepted object under
-    // its plan has the outputs and the status of the run without the strike, or it is detected and its outputs are a
-    // prefix of those. A recovery writes the whole output of the run without the strike. The object linked from
+    // status. So a source is compiled if and only if its text is a program. Its object is accepted, and the run commits
+    // what the program means and ends if the meaning ends. After any number of steps, the run of an accepted object
+    // under its plan has the outputs and the status of the run without the strike, or it is detected and its outputs
+    // are a prefix of those. A recovery writes the whole output of the run without the strike. The object linked from
     // accepted modules is accepted and runs as they do.
     ensures headline { result ≢ 3 → result ≢ 4 → result ≢ 5 →
         Concludes (IsAnswer (map string_bytes words.now) (F.log shelf.old).files (I.log script.old).left) result
         (K.log out.old) (K.log out.new) }
     ensures usage { result ≡ 2 → Asks (map string_bytes words.now) Usage }
 
-    // A load of one of the command's files failed, or a take of its script, and nothing was written.
+    // A load of one of the command's files or a take of its script failed, and nothing was written.
     ensures load_failure { result ≡ 3 →
         FailedToLoad (map string_bytes words.now) (F.log shelf.old) (F.log shelf.new)
         ⊎ FailedToTake (map string_bytes words.now) (F.log shelf.old).files
         (I.log script.old) (I.log script.new) }
     ensures load_failure_puts_nothing { result ≡ 3 → K.log out.new ≡ K.log out.old }
 
-    // A put failed and was the last: all earlier pieces were written, and a prefix of the piece that failed. The count
-    // of failed puts rose.
+    // A put failed and was the last: all earlier pieces were written, and a prefix of the piece whose put failed. The
+    // count of failed puts rose.
     ensures write_failure { result ≡ 4 →
         BreaksOff (IsAnswer (map string_bytes words.now) (F.log shelf.old).files (I.log script.old).left)
         (K.log out.old) (K.log out.new) }
@@ -144,9 +144,9 @@ pub fn tool<F: Shelf, I: Source, K: Sink>(
 
     // The counts of failed loads and takes are unchanged with any status but 3. The script is read only in a session on
     // an object, at most 1,048,577 bytes of it, and never again after its end or a failure. Only the files that the
-    // request names are loaded, in its order and each up to its limit; a fault list or a module is loaded exactly if
-    // the command gets to it, except that a fault list with the object's name is not loaded again. With statuses 3 and
-    // 5, loads of fault lists and modules may be missing; with status 5, all loads may be.
+    // request names are loaded, in its order and each up to its limit; a fault list or a module is loaded exactly
+    // when the command gets to it, except that a fault list with the object's name is not loaded again. With statuses
+    // 3 and 5, loads of fault lists and modules may be missing; with status 5, all loads may be.
     ensures load_failures { result ≢ 3 → NoLoadFails (F.log shelf.old) (F.log shelf.new) }
     ensures script { TakesFrom (map string_bytes words.now) (F.log shelf.old).files
         (I.log script.old) (I.log script.new) ⊎ (script.new ≡ script.old) }

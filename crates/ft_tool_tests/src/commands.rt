@@ -4,7 +4,7 @@ use ft_tests::{Row, check_row, check_rows, check_script, status_of, worked_objec
 use std::process::Abort;
 use std::test::Fail;
 
-/// Commands over worked objects.
+/// Commands on worked objects.
 const OVER_OBJECTS: &[Row] = &[
     ("check A", "accepted\n", 0),
     ("check A2", "check block 0 index 3 premise 2\n", 8),
@@ -37,7 +37,7 @@ const TEXTS: &[(&str, &[u8])] = &[
     ("map", b"module A\nmodule X\n"),
 ];
 
-/// Commands over texts.
+/// Commands on texts.
 const OVER_TEXTS: &[Row] = &[
     (
         "campaign A --faults list",
@@ -78,7 +78,7 @@ const WRITERS: &[&str] = &[
     "link one",
 ];
 
-/// The texts that they read.
+/// The texts that these commands read.
 const READ: &[(&str, &[u8])] = &[
     ("source", b"cell out = 0; out = 7;"),
     (

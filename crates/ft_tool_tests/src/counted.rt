@@ -122,8 +122,8 @@ fn late_fault(r40: Reg) -> Strike
     }
 }
 
-/// Finds the verdict of a fault before step 99,000, with 100,000 steps. It costs at most 101,696 steps, since the last
-/// snapshot before the fault is at step 98,304.
+/// Finds the verdict of a fault before step 99,000 in a run of 100,000 steps. It costs at most 101,696 steps, since the
+/// last snapshot before the fault is at step 98,304.
 fn judge_late<P: Program, L: Ledger>(
     alloc: Global,
     checked: &Checked<P>,

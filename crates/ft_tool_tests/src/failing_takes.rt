@@ -3,7 +3,7 @@ use ft_edge::MemSource;
 use ft_tests::{Row, check_script};
 use std::test::Fail;
 
-/// Fails unless the row holds if the take with this number fails. Take 1 would find that no bytes are left.
+/// Fails unless the row holds when the take with this number fails. Take 1 would find that no bytes are left.
 fn check_failing_take(rt: &impl AllocGlobal, take: u64, row: Row) -> Result<(), Fail> {
     let mut script = MemSource::new(rt.alloc(), b"step 1\n")?;
     script.fail_at(take)?;

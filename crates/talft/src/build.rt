@@ -4,7 +4,7 @@ use std::alloc::Global;
 use std::fs;
 use std::rt::Files;
 
-/// The link through which the system names the running program's file.
+/// The system's link to the running program's file.
 const OWN_FILE: &str = "/proc/self/exe";
 
 /// The file that describes an installation's build, relative to the folder that contains `bin`.
@@ -21,7 +21,7 @@ fn file_of_build<R: Files + AllocGlobal>(rt: &R) -> Option<String> {
     format!(in rt.alloc(); "{above}/{BUILD}").ok()
 }
 
-/// The line that gives version, commit and kit, with its line feed; `None` if the program is not installed.
+/// The line with the version, commit and kit, including its line feed; `None` if it cannot be found.
 pub(crate) fn line_of_build<R: Files + AllocGlobal>(rt: &R, alloc: Global) -> Option<String> {
     let name = file_of_build(rt)?;
     let mut bytes = Vec::new(alloc);

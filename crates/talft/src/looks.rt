@@ -13,7 +13,7 @@ pub(crate) struct Folders<'r, R: Files> {
     pub rt: &'r R,
 }
 
-/// Whether a file may not be read.
+/// Whether reading a file is not permitted.
 fn is_forbidden<R: Files>(rt: &R, name: &str) -> bool {
     match File::open(rt, name) {
         Ok(_) => false,

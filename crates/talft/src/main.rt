@@ -3,8 +3,8 @@
 //! The program's words are its arguments, and `ft_tool::tool` does what they ask for: its contract says
 //! what it writes and returns. Arguments that are not UTF-8 are not a command, so `tool` then gets no
 //! words. Output is buffered and written in large pieces. What is in the buffer at the end is written before
-//! the program ends; the status is that of `tool`, or 4 if this last write fails. A refused, detected or cut
-//! call is explained on standard error.
+//! the program ends; the status is that of `tool`, or 4 if this last write fails. A call that is
+//! refused, is cut short or detects a fault is explained on standard error.
 #![tactic(auto)]
 
 mod build;

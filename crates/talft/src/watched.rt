@@ -4,16 +4,16 @@ ghost use Rattle.std.specs.Prelude.{◌≡◌};
 use std::io;
 use std::io::{Error, ErrorKind, Write};
 
-/// The message before an object goes to a terminal, up to the form of the command.
+/// The first part of the message before an object goes to a terminal. The form of the command follows.
 const BINARY: &str = "talft: note: an object is binary: redirect it to a file, as in `talft ";
 
-/// The message after the form of the command.
+/// The last part of that message, after the form of the command.
 const REDIRECTED: &str = " >FILE.obj`\n";
 
 /// What an object begins with.
 const MAGIC: &[u8] = b"TALFT";
 
-/// The system's number for a closed stream.
+/// The system's error number for a closed stream.
 const CLOSED: i32 = 9;
 
 /// A writer that remembers why its last write failed. Before an object goes to a terminal, it warns that objects are

@@ -4,7 +4,7 @@ use Rattle.std.proofs.lemmas.List.{drop-drop}
 use Rattle.ft_format.specs.Layout.{bytes_of}
 use Rattle.ft_embed.proofs.cells.put_word.Goals as goal
 
--- eight bytes are replaced by eight others
+-- the eight bytes at a place are replaced by the bytes of a word
 put : (at w : ℕ) (xs new : List ℕ) → new ≡ to_be_bytes w64 w → take at xs ++ (new ++ drop (at + 8 - at) (drop at xs))
     ≡ take at xs ++ (bytes_of w64 w ++ drop (at + 8) xs)
 unfolding bytes_of

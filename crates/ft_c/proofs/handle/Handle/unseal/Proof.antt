@@ -1,4 +1,4 @@
--- `unseal` gives the pointer back.
+-- `unseal` returns the pointer that `seal` kept.
 use Rattle.std.proofs.Common.{suc, Option, None, ◌≡◌, List, [], ◌∷◌, ◌++◌, refl, sym, subst, Some, lit<}
 use mir.Val.{Val, vptr, vcons, vnil}
 use base.Logic.{SProp, ent, emp, id⊢}
