@@ -25,7 +25,7 @@
  *            calls share the arena, so only one thread may call.)
  * UNITS      Lengths, and room for bytes, are in bytes. Byte offsets start at 0. Room for outputs or verdicts is counted
  *            in elements. A step is a step of the machine: an instruction takes two, its fetch and its execution.
- * STACK      talft_compile used up to 169 KiB in all tests, with 97 nested loops, 98 nested brackets and 199 operators. The
+ * STACK      In the tests talft_compile used up to 169 KiB, for 97 nested loops, 98 nested brackets and 199 operators. The
  *            others used up to 17 KiB. This is measured, not proved.
  *
  * NOT PROVED  No clause says how much memory a call takes, that it is freed, or that NO_MEMORY is returned only when memory is
