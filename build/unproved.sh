@@ -51,7 +51,7 @@ esac
 
 . "$top/build/kit.sh" || exit 70
 need_kit || exit 70
-echo 'talft: slow, since not proved yet: `make` proves and builds it' >&2
+echo 'talft: running the unproved sources, which is slow: `make` proves and builds the program' >&2
 work=$(mktemp -d) || exit 70
 trap 'rm -rf "$work"' EXIT
 words=("$@") data=() lacking=no script=/dev/null

@@ -18,7 +18,7 @@ talft-typing 7 TYPING the typing rules of talft, with a table of the premises
 talft-machine 7 MACHINE the machine of talft, its steps and its faults
 talft-tools 7 TOOLS the tools around talft: fault lists, campaigns, pictures, programs in C
 talft-c 7 C programs in C for talft
-talft-debugging 7 DEBUGGING debugging of objects, assembly texts and sources of talft, forward and back
+talft-debugging 7 DEBUGGING debugging objects, assembly texts and sources of talft, forward and back
 PAGES
 }
 # The scripts in tools/: each has its own page.

@@ -23,7 +23,7 @@ start=$(date +%s)
 got=$(./talft trial examples/five.obj 2>"$work/said"; printf '/%d' $?)
 took=$(seconds_since "$start")
 report 'the first answer' "$(printf 'out 5\n/0')" "$got"
-report 'the message about it' 'talft: slow, since not proved yet: `make` proves and builds it' "$(cat "$work/said")"
+report 'the message about it' 'talft: running the unproved sources, which is slow: `make` proves and builds the program' "$(cat "$work/said")"
 report 'the first answer within a minute' yes "$([ "$took" -lt 60 ] && echo yes || echo "$took seconds")"
 echo "seconds to the first answer: $took"
 
