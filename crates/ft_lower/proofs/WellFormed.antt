@@ -23,7 +23,7 @@ use Rattle.ft_lower.proofs.Whole.{IsResolved}
 
 -- HOW MANY BLOCKS
 
--- the number of blocks is one more than the number that the steps before the last one end
+-- there is one more block than the steps before the last one end
 blocks_many : (o is : List Step3) (p : Place) → p.block + length (blocks_onto o (is ++ Stop ∷ []))
     ≡ suc (after p is).block
 blocks_many o [] p = omega arith
