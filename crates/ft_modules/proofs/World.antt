@@ -192,7 +192,7 @@ plain_registers o m (row ∷ rows) h p r y e =
     (rw (get-insert m row.reg.number (typed_row o row) q) at i))
     (all_rest row rows p) r y e
 
--- if a code type, where it exists, has plain rows, its register rows are plain
+-- the register rows of an optional code type are plain if the code type has plain rows
 rows_plain_by : (u : Option CodeType) → ((t : CodeType) → u ≡ Some t → HasPlainRows t) →
     All HasPlainRow (unwrap_or (option_map regs_of u) [])
 rows_plain_by None h = λ k d lt. absurd (omega (arith, lt))
