@@ -30,7 +30,7 @@ narrowed (loop e body rest) = loop (narrowed_expression e) (narrowed body) (narr
 narrowed (choose e if_so if_not rest) = choose (narrowed_expression e) (narrowed if_so) (narrowed if_not)
     (narrowed rest)
 
--- if f after m is k after g on values, it is also k after g on results
+-- if m followed by f equals g followed by k on values, it does so on results too
 moved : {A C B D : Type 0} → (r : Result A ℕ) (q : Result C ℕ) (m : C → A) (f : A → Result B ℕ) (g : C →
     Result D ℕ) (k : D → B) → r ≡ q >>= (λ x. Ok (m x)) → ((x : C) → f (m x) ≡ g x >>= λ y. Ok (k y)) → r >>= f
     ≡ (q >>= g) >>= λ y. Ok (k y)
