@@ -199,7 +199,7 @@ module _ (o : Object) (w : List Wild) (i : ℕ) (short : i < 65537) where
       ∙ ap (λ x. machine.load k rd x s w) (finds k m c a I ∙ there)
       ∙ goes_by (with_held m rd.number (col k v)) 0 [] c)
 
-  -- a green store makes its address and word the only pending store if nothing is pending
+  -- a green store queues its address and word if nothing is pending
   pub store_green : (m : Registers) (c : Cells) (os : List Output) (rd rs : Reg) (a v : ℕ) →
       slice_get (map bare o.instrs) i ≡ Some (instr.St Green rd rs) → held m rd.number ≡ col Green a → held m rs.number
       ≡ col Green v → Leads o 2 (spot i m 0 [] c w os) (spot (suc i) m 0 ((a, v) ∷ []) c w os)
