@@ -25,15 +25,15 @@ use Rattle.ft_compile.proofs.Walked.{block_noted, RowsAreFine}
 
 -- NODES AND ROWS
 
--- one more node is within any bound of at least one
+-- appending one node adds at most n nodes, if n is at least 1
 pushes_one : (ns : List Node) (x : Node) (n : ℕ) → 1 ≤ n → length (ns ++ x ∷ []) ≤ length ns + n
 pushes_one ns x n h = let l = length_pushed ns x in omega arith
 
--- two more nodes are within any bound of at least two
+-- appending two nodes adds at most n nodes, if n is at least 2
 pushes_two : (ns : List Node) (x y : Node) (n : ℕ) → 2 ≤ n → length ((ns ++ x ∷ []) ++ y ∷ []) ≤ length ns + n
 pushes_two ns x y n h = let l = length_pushed ns x in let m = length_pushed (ns ++ x ∷ []) y in omega arith
 
--- an address has three nodes
+-- an address adds three nodes
 address_length : (scope begin many q : ℕ) (w : Noted) → length (with_address_nodes scope begin many q w).nodes
     ≡ length w.nodes + 3
 address_length scope begin many q w =

@@ -37,7 +37,7 @@ pub same_lines : (p : Program) (o : Object) → StandsFor p o → (xs : List Out
     ≡ output_lines p.names xs
 same_lines p o h xs = lines_by_names o p.names h.names xs
 
--- the lines of a prefix of outputs are a prefix of their lines
+-- if outputs are a prefix of others, so are their lines
 lines_begin : (names : List (List ℕ)) (xs ys : List Output) → Begins xs ys →
     LinesBegin (output_lines names xs) (output_lines names ys)
 lines_begin names xs ys h = (

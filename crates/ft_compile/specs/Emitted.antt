@@ -65,10 +65,11 @@ entry_type = record { ints = 0; regs = []; queue = []; memory = 0 }
 abbrev pub variables_type : ℕ → CodeType
 variables_type vars = record { ints = vars; regs = map green_row (range_with_len 0 vars) ++ map blue_row (range_with_len 0 vars); queue = []; memory = 0 }
 
--- the blocks that start at these places: the first has code type 0, the others code type 1
+-- a block that starts at this place, with code type 1
 abbrev pub block_from : ℕ → Block
 block_from s = record { start = s; code_type = 1 }
 
+-- the blocks that start at these places: the first has code type 0, the others code type 1
 abbrev pub blocks_at : List ℕ → List Block
 blocks_at [] = []
 blocks_at (s ∷ ss) = record { start = s; code_type = 0 } ∷ map block_from ss

@@ -33,7 +33,7 @@ use Rattle.ft_dup.specs.Doubles.{bare}
 abbrev pub machine_step : Object → Ran → Ran
 machine_step o r = extended r.outputs (step o r.state r.wild)
 
--- a run with no strike repeats steps from its start
+-- a run with no strike iterates this step from its start
 pub run_is : (o : Object) (w : List Wild) (n : ℕ) → run o None w n ≡ iterate (machine_step o) n (run o None w 0)
 unfolding run
 run_is o w zero = refl
@@ -173,7 +173,7 @@ module _ (o : Object) (w : List Wild) (i : ℕ) (short : i < 65537) where
       ap (λ (h : Coloured). machine.writes rd h.colour (apply op h.word y) (fetched_state i m 0 [] c I) w) es
       ∙ goes_by (with_held m rd.number (col k (apply op x y))) 0 [] c)
 
-  -- an `idx` puts the address of the array cell that a register selects into its register
+  -- an `idx` puts the address of the array cell that its source register selects into its destination register
   pub index : (m : Registers) (c : Cells) (os : List Output) (rd rs : Reg) (first n x : ℕ) (k : Colour) →
       slice_get (map bare o.instrs) i ≡ Some (instr.Idx rd rs first n) → held m rs.number ≡ col k x →
       Leads o 2 (spot i m 0 [] c w os) (spot (suc i) (with_held m rd.number (col k (cell_in_run first n x))) 0 [] c w
@@ -199,7 +199,7 @@ module _ (o : Object) (w : List Wild) (i : ℕ) (short : i < 65537) where
       ∙ ap (λ x. machine.load k rd x s w) (finds k m c a I ∙ there)
       ∙ goes_by (with_held m rd.number (col k v)) 0 [] c)
 
-  -- a green store adds its pending store if nothing is pending
+  -- a green store queues its address and word if nothing is pending
   pub store_green : (m : Registers) (c : Cells) (os : List Output) (rd rs : Reg) (a v : ℕ) →
       slice_get (map bare o.instrs) i ≡ Some (instr.St Green rd rs) → held m rd.number ≡ col Green a → held m rs.number
       ≡ col Green v → Leads o 2 (spot i m 0 [] c w os) (spot (suc i) m 0 ((a, v) ∷ []) c w os)

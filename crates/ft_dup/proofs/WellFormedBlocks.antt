@@ -27,7 +27,7 @@ pub starts_length : (n : ℕ) (bs : Blocks) → length (starts_from n bs) ≡ le
 starts_length n [] = refl
 starts_length n (b ∷ bs) = ap suc (starts_length (n + row_size b) bs)
 
--- the list of starts has the start of each existing block
+-- element b of the list of starts is the start of block b, if the block exists
 pub start_at : (n : ℕ) (bs : Blocks) (b : ℕ) → b < length bs → slice_index (starts_from n bs) b ≡ n + start_of bs b
 start_at n [] b h = absurd (omega arith)
 start_at n (x ∷ bs) zero h = omega arith
@@ -109,7 +109,7 @@ block_is [] b h = absurd (omega arith)
 block_is (x ∷ bs) zero h = refl
 block_is (x ∷ bs) (suc b) h = block_is bs b (omega arith)
 
--- well-formed blocks have the shape
+-- well-formed blocks have the shape that can be doubled
 pub shape_of_well : (vars cells : ℕ) (bs : Blocks) → IsWell vars cells bs → HasShape bs
 shape_of_well vars cells bs h = record {
   pairs = h.pairs;

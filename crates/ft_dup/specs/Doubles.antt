@@ -37,7 +37,7 @@ abbrev pub IsIntCell : Cell → Type 0
 IsIntCell c = c.basic ≡ int
 
 -- an object carries blocks: its instructions are theirs except for claims and substitutions, its blocks begin where
--- theirs do, its entry is block 0, and it has this many cells, all of type `int`
+-- theirs do, its entry is block 0, and it has this many cells, each of type `int` and with an initial word below 2^64
 pub record Carries (o : Object) (cells : ℕ) (bs : Blocks) : Type 0 where
   pub instrs : map bare o.instrs ≡ map bare (doubled bs)
   pub blocks : map start_of_block o.blocks ≡ starts bs

@@ -45,7 +45,8 @@ empty = record { first = 0; past = 0; memory = 0 }
 abbrev pub moves : ℕ → ℕ → Basic → List Instr → List Instr
 moves p w b rest = instr.Mov (green p) (green_word w) b ∷ instr.Mov (blue p) (blue_word w) b ∷ rest
 
--- green and blue `idx`: the address of the array cell that the word of pair q selects, into the registers of pair p
+-- a green and a blue `idx`, which put the address of the array cell that the word of pair q selects into the registers
+-- of pair p
 abbrev pub indexes : ℕ → ℕ → ℕ → ℕ → List Instr → List Instr
 indexes p q first length rest = instr.Idx (green p) (green q) first length ∷ instr.Idx (blue p) (blue q) first length ∷ rest
 

@@ -12,7 +12,7 @@ use Rattle.ft_lexer.specs.Scan.{Scan, over, token, Mode, gap, comment, name, num
 use Rattle.ft_lexer.specs.Scan.{sign_from, begins, in_name, reads, scan_from, scan}
 use Rattle.ft_lexer.specs.Placed.{Placed}
 
--- t is the part of the text from start to at
+-- t is the part of the text from start to at; it is not empty and begins at or after low
 pub record Run (text : List ℕ) (low start at : ℕ) (t : List ℕ) : Type 0 where
   pub ends_at : start + length t ≡ at
   pub part : t ≡ take (length t) (drop start text)

@@ -9,7 +9,7 @@ use Rattle.ft_lexer.specs.Scan.{Scan, scan_from, gap, over, token, sign_at}
 abbrev pub left : Lexer → Scan
 left l = scan_from gap l.at l.rest.now
 
--- the next byte, if any, is not in a gap
+-- the next byte, if any, is neither blank nor the start of a comment
 abbrev pub BeginsToken : List ℕ → Type 0
 BeginsToken [] = Unit {0}
 BeginsToken (b ∷ bs) = (is_blank b ≡ false) × ((b == 35) ≡ false)

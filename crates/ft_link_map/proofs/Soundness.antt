@@ -61,7 +61,7 @@ record IsFair (m : LinkMap) (count : ℕ) : Type 0 where
   imports_apart : AllPairs NameTwoBlocks m.imports
   sides_apart : All (λ (e : Ask). All (NameTwoBlocks e) m.imports) m.exports
 
--- an export or import of one of n modules is one of k modules, if n is at most k
+-- exports and imports of the first n modules are of the first k modules, if n is at most k
 of_more : (n k : ℕ) → n ≤ k → (asks : List Ask) → All (IsOfModules n) asks → All (IsOfModules k) asks
 of_more n k le asks h = λ i d lt. omega (arith, le, h i d lt)
 

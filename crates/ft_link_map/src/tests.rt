@@ -14,7 +14,7 @@ fn refusal(alloc: Global, text: &str) -> Result<Option<MapError>, Fail> {
     }
 }
 
-/// Texts, and why they are refused.
+/// Texts, and why they are refused, if they are.
 const TEXTS: &[(&str, Option<MapError>)] = &[
     ("", Some(MapError::Line { line: 1 })),
     ("\n", Some(MapError::Line { line: 1 })),
@@ -85,7 +85,7 @@ fn long_text(
     Ok(text)
 }
 
-/// Pieces of long texts, and why the texts are refused.
+/// Pieces of long texts, and why the texts are refused, if they are.
 const LONG: &[(&str, u32, &str, &str, Option<MapError>)] = &[
     ("module ", 255, "m", "\n", None),
     ("module ", 256, "m", "\n", Some(MapError::Line { line: 1 })),

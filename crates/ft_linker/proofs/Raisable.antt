@@ -78,7 +78,7 @@ blocks_raise o k s f = λ n y e.
 
 -- INSTRUCTIONS
 
--- each of the substitutions that cover the rows obeys the rules
+-- if substitutions cover the rows in order, each obeys the rules, and those after the first cover the later rows
 cover_by : (nodes : List Node) (rows first : ℕ) (us : List Subst) (x : Option Subst) →
     Cover nodes rows first (before x us) → (f : ℕ) × Cover nodes rows f us
 cover_by nodes rows first us None h = (first, h)

@@ -44,7 +44,7 @@ fn walk(object: &Object, first: u32, past: u32) -> Option<u32>
     None
 }
 
-/// The first block at which the walk fails, and the index in it.
+/// The first block in which the walk fails, and the index in it.
 pub fn first_fault(object: &Object) -> Option<(u32, u32)>
     requires { IsSpellable object.now }
     ensures { result ≡ first_walk_fault object.now 0 object.now.blocks }

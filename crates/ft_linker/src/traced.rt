@@ -7,7 +7,7 @@ ghost use Rattle.ft_modules.specs.CodeWalk.{Entered, are_free, both_free, claime
 use ft_isa::{Base, Basic, Instr, Reg};
 use ft_types::{Object, RegType, Table};
 
-/// The code type of a basic type `code T`.
+/// The code type that a basic type claims, if it is `code T`.
 fn code_claimed(basic: Basic) -> Option<u16>
     ensures { result ≡ code_claimed basic }
 {

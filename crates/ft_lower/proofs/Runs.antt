@@ -86,7 +86,7 @@ module _ (bs : Blocks) (f : FlowState) where
   pub done_once : (j k : ℕ) → (steps bs j f).done ≡ true → (steps bs k f).done ≡ true → steps bs j f ≡ steps bs k f
   done_once = ends_once at IsDone done_stops
 
-  -- a run that is not done yet is done only later
+  -- if a run is done after k steps but not after j, then j is below k
   pub done_after : (j k : ℕ) → ((steps bs j f).done ≡ true → ⊥) → (steps bs k f).done ≡ true → j < k
   done_after = goes_before at IsDone done_stops
 

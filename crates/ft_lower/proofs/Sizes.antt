@@ -55,7 +55,8 @@ write_size n (Var x) = omega arith
 write_size n (Cell k) = omega arith
 write_size n (Run c k) = omega arith
 
--- so do the steps of statements: the 16 in the weight of a loop or a choice cover its exit and its two jumps
+-- the steps of statements become at most as many instructions as the statements weigh: the 16 in the weight of a loop
+-- or a choice covers its exit and its two jumps
 statements_size : (st : StatementList Slot) (n b : ℕ) → row_size (statement_steps n b st) ≤ statements_weight st
 statements_size none n b = omega arith
 statements_size (assign to e rest) n b = omega (

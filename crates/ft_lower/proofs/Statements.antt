@@ -122,21 +122,21 @@ module _ (bs : Blocks) (n m : ℕ) where
       (goes_on (with_pair n 0 (with_cell to x f)))) (sym is)
       (set_cell to v p (evaluated_both i e s) f (like_both n p i e s f l)))
 
-  -- an assignment takes at most twice as many steps as its work
+  -- an assignment that does work w takes at most 2w steps
   work_of : (to : Slot) (v : ℕ) (e : Expression Slot) (s : State) →
       expression_nodes e + 1 + 0 + 2 * s.work ≤ 0 + 2 * (assigned to v (evaluated e s)).work
   work_of (Var x) v e s = omega arith
   work_of (Cell c) v e s = omega arith
   work_of (Run c k) v e s = omega arith
 
-  -- an assignment takes at least as many steps as it uses turns
+  -- an assignment uses at most as many turns as it takes steps
   left_of : (to : Slot) (v : ℕ) (e : Expression Slot) (s : State) →
       s.left ≤ (assigned to v (evaluated e s)).left + (expression_nodes e + 1)
   left_of (Var x) v e s = omega arith
   left_of (Cell c) v e s = omega arith
   left_of (Run c k) v e s = omega arith
 
-  -- a choice leaves no more turns than there were before it if each of its sides does so
+  -- if each side of a choice leaves at most as many turns as there were before it, so does the choice
   zero_less : (v : ℕ) (s : State) (a b : Outcome) → (state_of a).left ≤ s.left → (state_of b).left ≤ s.left →
       (state_of (at_zero v a b)).left ≤ s.left
   zero_less zero s a b p q = p

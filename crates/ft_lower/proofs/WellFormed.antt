@@ -23,7 +23,7 @@ use Rattle.ft_lower.proofs.Whole.{IsResolved}
 
 -- HOW MANY BLOCKS
 
--- the number of blocks is one more than the number that the steps before the last one end
+-- the steps before the last one end all blocks but the last
 blocks_many : (o is : List Step3) (p : Place) → p.block + length (blocks_onto o (is ++ Stop ∷ []))
     ≡ suc (after p is).block
 blocks_many o [] p = omega arith
@@ -69,7 +69,7 @@ Knows n k = (x : ℕ) → x < n → k x ≡ true
 
 -- STEPS IN A ROW
 
--- over n variables and m cells, with this many blocks
+-- for flows over n variables and m cells, with this many blocks
 module _ (n m : ℕ) (blocks : ℕ) where
   -- a step is well formed, given what is known
   abbrev StepIsWell : Known → Step3 → Type 0
@@ -298,7 +298,7 @@ module _ (n m : ℕ) (blocks : ℕ) where
     ended : IsBlock is
     well : RowIsWell n m blocks k is
 
-  -- all blocks are well formed: the first given what is known, the others given the variables
+  -- all blocks are well formed: the first given what is known, the others given that only the variables are known
   abbrev AllAreWell : Known → Blocks → Type 0
   AllAreWell k [] = Unit {0}
   AllAreWell k (x ∷ bs) = BlockIsWell k x × AllAreWell (pairs_below n) bs

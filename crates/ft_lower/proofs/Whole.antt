@@ -25,7 +25,8 @@ pub record IsResolved (p : Program) : Type 0 where
   pub need : program_need p ≤ 32
   pub weight : program_weight p ≤ 65536
 
--- what the steps for the zeros at the start lead to: a running state at place p with 0 in each pair
+-- what the steps for the zeros at the start lead to: a running state at place p with 0 in each pair, and with the same
+-- cells and outputs
 record Fresh (bs : Blocks) (k : ℕ) (p : Place) (f : FlowState) : Type 0 where
   end : FlowState
   reaches : Reaches bs k f end

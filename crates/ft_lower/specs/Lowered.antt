@@ -73,7 +73,7 @@ statement_steps n b (choose e if_so if_not rest) =
     ++ (Go n (b + 2 + block_count if_so + block_count if_not)
     ∷ statement_steps n (b + 2 + block_count if_so + block_count if_not) rest)))))
 
--- 0 in each of the first k pairs
+-- the steps that put 0 into each of the first k pairs
 abbrev pub zeros : ℕ → List Step3
 zeros zero = []
 zeros (suc k) = zeros k ++ Put k 0 ∷ []

@@ -41,6 +41,6 @@ pairs_of (Exit q spare to) = q ∷ spare ∷ []
 pairs_of (Go spare to) = spare ∷ []
 pairs_of Stop = []
 
--- each pair of the blocks' steps is below n
+-- each pair that the blocks' steps name is below n
 abbrev pub PairsBelow : ℕ → Blocks → Type 0
 PairsBelow n bs = All (All (λ i. All (λ p. p < n) (pairs_of i))) bs

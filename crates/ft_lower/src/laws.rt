@@ -9,7 +9,7 @@ ghost use Rattle.ft_lower.specs.Well.{IsWell};
 ghost use Rattle.ft_lower.specs.Lowered.{lowered};
 
 /// The Fibonacci program of the documents needs 7 pairs and weighs 69. Its blocks are well formed, become 61
-/// instructions and name pairs below 7; their run is done after 240 steps with ten numbers.
+/// instructions and name only pairs below 7; their run is done after 240 steps, with ten numbers as its outputs.
 pub fn fibonacci_numbers_are_run()
     ensures need { program_need fibonacci ≡ 7 }
     ensures weight { program_weight fibonacci ≡ 69 }
@@ -21,7 +21,7 @@ pub fn fibonacci_numbers_are_run()
 {}
 
 /// The array program of the documents needs 5 pairs and weighs 49. Its blocks are well formed, become 41 instructions
-/// and name pairs below 5; their run is done after 63 steps with four words.
+/// and name only pairs below 5; their run is done after 63 steps, with four words as its outputs.
 pub fn array_words_are_run()
     ensures need { program_need array_program ≡ 5 }
     ensures weight { program_weight array_program ≡ 49 }

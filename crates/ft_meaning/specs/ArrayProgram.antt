@@ -18,7 +18,7 @@ array_program = record {
       none;
 }
 
--- an output of a cell
+-- the output of assigning word w to cell k
 abbrev at_cell : ℕ → ℕ → Output
 at_cell k w = record { addr = cell_address k; value = w }
 

@@ -19,7 +19,7 @@ fibonacci = record {
       none);
 }
 
--- the cell's outputs of these words
+-- one output of the cell for each of these words, in order
 abbrev pub puts_out : List ℕ → List Output
 puts_out [] = []
 puts_out (w ∷ ws) = record { addr = cell_address 0; value = w } ∷ puts_out ws

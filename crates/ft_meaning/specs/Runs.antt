@@ -27,7 +27,7 @@ pub record Keeps (r q : Run) : Type 0 where
   pub line : length q.line.items ≡ length r.line.items
   pub left : q.left ≤ r.left
 
--- each cell has a name, there are at most 1024 cells, and the line buffer has room for each name and a value
+-- each cell has a name, there are at most 1,024 cells, and the line buffer has room for each name and a value
 pub record Ready (names : List (List ℕ)) (r : Run) : Type 0 where
   pub as_many : length names ≡ length r.cells.items
   pub few : length r.cells.items ≤ 1024

@@ -276,7 +276,7 @@ module _ (linkage : LinkMap) (first : Object) (others : List Object) (h : AreLin
         blocks = applies_all;
       }
 
-  -- the modules and the linked object are as the run needs them
+  -- the modules and the linked object meet the requirements of the run
   pub linked_world : World modules joins x
   linked_world = world linkage first others h spelled
 

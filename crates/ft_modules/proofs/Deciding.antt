@@ -1,4 +1,4 @@
--- The tests of refusals decide what their names say.
+-- The tests for refusals decide the properties that they are named after.
 use Rattle.std.proofs.Common.{◌≡◌, ℕ, zero, suc, ◌+◌, ◌<◌, Bool, true, List, [], ◌∷◌, length}
 use Rattle.std.proofs.Common.{slice_get, Option, Some, None, refl, ap, subst, arith, eqb-true, eq-eqb}
 use Rattle.std.specs.Prelude.{All}

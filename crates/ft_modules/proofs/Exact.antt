@@ -58,7 +58,7 @@ none_found p (y ∷ ys) e n x f = none_first (p y) p y ys n x refl e f (none_fou
 
 -- MODULES
 
--- what a module needs, so that refusals 3, 4 and 5 do not apply
+-- what a module needs for refusals 3, 4 and 5 not to apply
 record Passes (cells : List Cell) (o : Object) : Type 0 where
   pub same : o.cells ≡ cells
   pub plain_cells : All HasPlainCell o.cells
@@ -273,7 +273,7 @@ link_joined modules exports i l x from to stub e =
           from.there to.there) ∙ x.like);
     })
 
--- an import, the export of its name, and their link
+-- there is an export of the import's name, and the link between them is joined
 record Joined (modules : List Object) (exports : List Ask) (i : Ask) : Type 0 where
   pub ask : Ask
   pub found : export_of exports i.name ≡ Some ask

@@ -200,7 +200,7 @@ walk_there o xs e k (i ∷ is) = λ j. if traced_there o xs e i j then walk_ther
 
 -- MODULES
 
--- the walk of each block passes after an exchange
+-- if the walk of a block does not fail, it does not fail after an exchange either
 block_walked : (o : Object) (b k : ℕ) → IsSpellable o → IsPermitted o b k → (j : ℕ) (y : Block) → slice_get o.blocks j
     ≡ Some y → code_walk o finite.empty 0 (block_instrs o j) ≡ None →
     code_walk (after_exchange o b k) finite.empty 0 (block_instrs (after_exchange o b k) j) ≡ None

@@ -97,7 +97,7 @@ module _ (modules : List Object) (joins : List Link) (x : Object) (spelled : IsS
       (row x b here_x.instr)
   rows = row_beside o x home.to home.are_sent h.entered c b h.contexts here_o.instr here_x.instr walked.first related
 
-  -- both continue with the next instruction
+  -- the states correspond if both continue with the next instruction
   pub further : (p q : Stepping) (d e : Context) → row o c here_o.instr ≡ Goes d → row x b here_x.instr ≡ Goes e →
       Beside o home.to (entered_after here_o.instr h.entered) d e → GoesOn o v s [] p d → GoesOn x u t [] q e →
       AreTogether modules joins x world (record { number = a.number; state = p.state }) q.state
@@ -158,7 +158,7 @@ module _ (modules : List Object) (joins : List Link) (x : Object) (spelled : IsS
       (h.fits.context.registers r.number k e).word ∙ ap (value_polynomial k.form) h.values
       ∙ sym (h.other_fits.context.registers r.number k known).word
 
-  -- a blue store has the same output in both states
+  -- the address and the value of a blue store are the same in both states
   pub stored_words : (rd rs : Reg) → here_o.instr ≡ St Blue rd rs → is_traced o h.entered (St Blue rd rs) ≡ true →
       (word s rd ≡ word t rd) × (word s rs ≡ word t rs)
   stored_words rd rs e f =
@@ -190,7 +190,7 @@ module _ (modules : List Object) (joins : List Link) (x : Object) (spelled : IsS
         address_word x u b t rd k (home.to w).1 (home.to w).0 h.other_fits.context f sends.sent_word,
       )
 
-  -- both machines leave their blocks for corresponding targets
+  -- the states correspond if both machines leave their blocks for corresponding targets
   leave : (rd : Reg) (w q : Subst) (y z : Stepping) → is_some (finite.get h.entered rd.number) ≡ true →
       SameSubst o x w q → Arrives o (valuation_by o w v) (word s rd) s [] y →
       Arrives x (valuation_by x q u) (word t rd) t [] z →
@@ -209,7 +209,7 @@ module _ (modules : List Object) (joins : List Link) (x : Object) (spelled : IsS
       az.block found_x az.fits (az.pc_green ∙ words.1 ∙ begins) (az.pc_blue ∙ words.1 ∙ begins) az.fetched (az.status
       ∙ h.other_going))
 
-  -- both execute a blue jump
+  -- the results correspond if both execute a blue jump
   pub jumps : (rd : Reg) (w q : Subst) → here_o.instr ≡ JmpB rd w → here_x.instr ≡ JmpB rd q → SameSubst o x w q →
       is_traced o h.entered (JmpB rd w) ≡ true → Steps modules joins x world a.number (execute (JmpB rd w) s [])
       (execute (JmpB rd q) t [])
@@ -227,7 +227,7 @@ module _ (modules : List Object) (joins : List Link) (x : Object) (spelled : IsS
         after = leave rd w q _ _ entered same y.1 z;
       }
 
-  -- both take a blue branch, or neither does
+  -- the states correspond if both take a blue branch, or neither does
   branched : (rz rd : Reg) (w q : Subst) (d e : Context) (y z : Stepping) (p r : Bool) → p ≡ r →
       is_some (finite.get h.entered rd.number) ≡ true → SameSubst o x w q → row o c here_o.instr ≡ Goes d →
       row x b here_x.instr ≡ Goes e → Beside o home.to (entered_after here_o.instr h.entered) d e →
@@ -239,7 +239,7 @@ module _ (modules : List Object) (joins : List Link) (x : Object) (spelled : IsS
       absurd (true≢false (sym j ∙ sym pr ∙ i))
   branched rz rd w q d e y z p r pr f same eo ex beside (passed i m) (passed j n) = further y z d e eo ex beside m n
 
-  -- both execute a blue branch
+  -- the results correspond if both execute a blue branch
   pub branches : (rz rd : Reg) (w q : Subst) → here_o.instr ≡ BzB rz rd w → here_x.instr ≡ BzB rz rd q →
       SameSubst o x w q →
       is_traced o h.entered (BzB rz rd w) ≡ true → Steps modules joins x world a.number (execute (BzB rz rd w) s [])

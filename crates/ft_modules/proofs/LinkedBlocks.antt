@@ -125,7 +125,8 @@ pub walked_first : (o : Object) (e : Entered) (k : ℕ) (i : Instr) (is : List I
 unfolding code_walk
 walked_first o e k i is h = walked_by o e k i is (is_traced o e i) refl h
 
--- if the typing rules of a module's instructions apply and the walk passes them, so do those in the linked object
+-- if the typing rules of a module's instructions apply and the walk passes the instructions, the typing rules of the
+-- linked object's versions apply too
 pub applies_beside : (o x : Object) (to : ℕ → ℕ × ℕ) → AreSent o x to →
     (e : Entered) (c b : Context) (k : ℕ) (is js : List Instr) → Beside o to e c b → code_walk o e k is ≡ None →
     AllZip (IsInstrOf o x to) is js → Applies o c is → Applies x b js

@@ -69,7 +69,7 @@ module _ (modules : List Object) (joins : List Link) (x : Object) (spelled : IsS
   abbrev here_x : Here x h.other h.other_at.number
   here_x = here x h.other accepted h.other_at
 
-  -- both execute an instruction that stays in its block
+  -- the results correspond if both execute an instruction that stays in its block
   stays : After (GoesOn o v s [] (execute here_o.instr s [])) ⊥ (row o c here_o.instr) →
       After (GoesOn x u t [] (execute here_x.instr t [])) ⊥ (row x b here_x.instr) →
       ((execute here_o.instr s []).state.status ≡ Running → (execute here_x.instr t []).state.status ≡ Running →
@@ -102,7 +102,7 @@ module _ (modules : List Object) (joins : List Link) (x : Object) (spelled : IsS
       (subst (λ (z : Instr). (execute i s []).state.status ≡ Running → (execute z t []).state.status ≡ Running →
       (execute i s []).output ≡ (execute z t []).output) (sym ej) out))))
 
-  -- both execute a `mov`
+  -- the results correspond if both execute a `mov`
   moves : (rd : Reg) (y : Coloured) (basic : Basic) (j : Instr) (n : Option ℕ) → here_o.instr ≡ Mov rd y basic →
       here_x.instr ≡ j → IsMovOf home.to rd y basic j n → IsWord y.word → IsInstr (length x.types) (length x.cells) j →
       Steps modules joins x world a.number (execute (Mov rd y basic) s []) (execute j t [])
@@ -120,7 +120,7 @@ module _ (modules : List Object) (joins : List Link) (x : Object) (spelled : IsS
       ∙ is) (mov_row o v c s [] ⊥ rd y basic below h.fits.context)
       (mov_row x u b t [] ⊥ rd _ _ k'.0 h.other_fits.context) (λ _ _. refl))
 
-  -- both execute an instruction that stays in its block and has no output
+  -- the results correspond if both execute an instruction that stays in its block and has no output
   stays_silent : (i j : Instr) → here_o.instr ≡ i → here_x.instr ≡ j → j ≡ i → subst_of i ≡ None → i ≢ Halt →
       is_blue_store i ≡ false → IsInstr (length o.types) (length o.cells) i →
       IsInstr (length x.types) (length x.cells) j →
@@ -131,7 +131,7 @@ module _ (modules : List Object) (joins : List Link) (x : Object) (spelled : IsS
       (staying_row x u b t [] ⊥ i plain going spelled.few_cells (subst (IsInstr (length x.types) (length x.cells)) is l)
       h.other_fits.context) (λ _ _. silent i s still ∙ sym (silent i t still)))
 
-  -- both execute given instructions
+  -- the results correspond if both execute given instructions
   executed_by : (i j : Instr) → here_o.instr ≡ i → here_x.instr ≡ j → IsInstrOf o x home.to i j →
       is_traced o h.entered i ≡ true → IsInstr (length o.types) (length o.cells) i →
       IsInstr (length x.types) (length x.cells) j →
@@ -157,7 +157,7 @@ module _ (modules : List Object) (joins : List Link) (x : Object) (spelled : IsS
       (record { output = refl; after = both_ended refl refl })
   executed_by i j eo ex is f k l = stays_silent i j eo ex is refl (λ e. cc) refl k l
 
-  -- both execute the instructions at their places
+  -- the results correspond if both execute the instructions at their places
   executed : Steps modules joins x world a.number (execute here_o.instr s []) (execute here_x.instr t [])
   executed = executed_by here_o.instr here_x.instr refl refl (related modules joins x spelled accepted world a t h)
       (walked modules joins x spelled accepted world a t h).first
@@ -166,7 +166,7 @@ module _ (modules : List Object) (joins : List Link) (x : Object) (spelled : IsS
       (all_there (IsInstr (length x.types) (length x.cells)) x.instrs (instr_number h.other) here_x.instr spelled.instrs
       here_x.there)
 
-  -- both fetch the instructions at their places
+  -- the results correspond if both fetch the instructions at their places
   fetched_both : SameFetched (Some here_o.instr) (Some here_x.instr) →
       Steps modules joins x world a.number (quiet (record s { fetched = Some here_o.instr }) [])
       (quiet (record t { fetched = Some here_x.instr }) [])
@@ -227,7 +227,7 @@ module _ (modules : List Object) (joins : List Link) (x : Object) (spelled : IsS
   steps_as p q y z e f g = subst (λ (k : Stepping). Steps modules joins x world a.number k q) (sym e)
       (subst (λ (k : Stepping). Steps modules joins x world a.number y k) (sym f) g)
 
-  -- both machines take a step
+  -- the results correspond if both machines take a step
   advanced : SameFetched s.fetched t.fetched → Steps modules joins x world a.number (advance o s.fetched s [])
       (advance x t.fetched t [])
   advanced (none_fetched f g) =
@@ -245,7 +245,7 @@ module _ (modules : List Object) (joins : List Link) (x : Object) (spelled : IsS
       (ap (λ (k : Option Instr). advance x k t []) g ∙ ap (λ (k : Instr). execute k t []) (sym nj))
       executed
 
-  -- the next step of both runs
+  -- the results of the next step correspond in both runs
   pub steps_together : Steps modules joins x world a.number (step_in (slice_get modules a.number) a.state) (step x t [])
   steps_together =
       let so : step o s [] ≡ advance o s.fetched s [] = ap (λ (z : Status). step_at o z s []) h.going in

@@ -1,4 +1,4 @@
--- Linkable modules are as the run needs them.
+-- Linkable modules meet the requirements of the run.
 use Rattle.std.proofs.Common.{◌≡◌, ℕ, suc, ◌+◌, ◌≤◌, Bool, true, false, ◌&&◌, ◌==◌, List, ◌∷◌, length, map, slice_get}
 use Rattle.std.proofs.Common.{Option, Some, None, refl, sym, ap, ◌∙◌, subst, arith, eqb-true}
 use Rattle.std.specs.Prelude.{slice_range}
@@ -170,7 +170,7 @@ module _ (linkage : LinkMap) (first : Object) (others : List Object) (h : AreLin
       sent_at modules joins m (code_address (instr_number p)) s f g b
       ∙ ap (sent_by modules (record { number = m; state = s })) none
 
-  -- all modules are as the run needs them
+  -- all modules meet the requirements of the run
   pub world : World modules joins x
   world m o e =
       let mine = is_module linkage first others h spelled m o e in

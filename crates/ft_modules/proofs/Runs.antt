@@ -53,7 +53,7 @@ sent_status : (modules : List Object) (joins : List Link) (a : InModule) → (se
     ≡ a.state.status
 sent_status modules joins a = sent_by_fetched modules joins a a.state.fetched
 
--- a machine that is done does not move
+-- a step of a machine that is done changes nothing and has no output
 stays_in : (u : Option Object) (s : State) → s.status ≡ Done → step_in u s ≡ quiet s []
 stays_in None s d = refl
 stays_in (Some o) s d = stays_at o s.status s [] (subst HasStopped (sym d) tt)

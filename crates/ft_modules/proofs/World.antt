@@ -145,7 +145,7 @@ same_cell_type : (o z : Object) (a : ℕ) → z.cells ≡ o.cells → cell_type 
 unfolding cell_of
 same_cell_type o z a e = rw e refl
 
--- the type of a cell is plain
+-- the type of a plain cell is plain
 plain_cell_by : (o : Object) (u : Option Cell) (b : Basic) → ((c : Cell) → u ≡ Some c → c.basic.base ≡ Int) →
     option_map basic_of u ≡ Some b → b.base ≡ Int
 plain_cell_by o None b h e = cc
@@ -161,7 +161,7 @@ cell_among o a c e = by_test _ e
     by_test true e = (a - 1048576, e)
     by_test false e = cc
 
--- the type of the cell at an address is plain
+-- if all cells are plain, so is the type of the cell at an address
 plain_cell : (o : Object) (a : ℕ) (b : Basic) → All HasPlainCell o.cells → cell_type o a ≡ Some b → b.base ≡ Int
 plain_cell o a b plain e = plain_cell_by o (cell_of o a) b (λ c f. let g = cell_among o a c f in
     all_there HasPlainCell o.cells g.0 c plain g.1) e
@@ -192,17 +192,17 @@ plain_registers o m (row ∷ rows) h p r y e =
     (rw (get-insert m row.reg.number (typed_row o row) q) at i))
     (all_rest row rows p) r y e
 
--- the register rows of a code type are plain, if it exists
+-- the register rows of an optional code type are plain if the code type has plain rows
 rows_plain_by : (u : Option CodeType) → ((t : CodeType) → u ≡ Some t → HasPlainRows t) →
     All HasPlainRow (unwrap_or (option_map regs_of u) [])
 rows_plain_by None h = λ k d lt. absurd (omega (arith, lt))
 rows_plain_by (Some t) h = h t refl
 
--- the register rows of each code type are plain
+-- if all code types have plain rows, the register rows of each are plain
 rows_plain : (o : Object) (t : ℕ) → All HasPlainRows o.types → All HasPlainRow (reg_rows o t)
 rows_plain o t h = rows_plain_by (slice_get o.types t) (λ c e. all_there HasPlainRows o.types t c h e)
 
--- a queue that fits in one object fits in another with the same cells
+-- a queue that fits in an object with plain cells fits in another with the same cells
 plain_queue : (o z : Object) (v : Valuation) (ps : List FormPair) (q : Pending) → z.cells ≡ o.cells →
     All HasPlainCell o.cells → FitsQueue o v ps q → FitsQueue z v ps q
 plain_queue o z v [] [] e p f = tt
@@ -220,7 +220,7 @@ plain_queue o z v (r ∷ ps) (y ∷ q) e p f =
       plain_queue o z v ps q e p f.1,
     )
 
--- cells that fit in one object fit in another with the same cells
+-- cells that fit in an object with plain cells fit in another with the same cells
 plain_memory : (o z : Object) (v : Valuation) (m : Updates) (cells : Cells) → z.cells ≡ o.cells →
     All HasPlainCell o.cells → FitsCells o v m cells → FitsCells z v m cells
 unfolding FitsCells
@@ -229,7 +229,8 @@ plain_memory o z v m cells e p h = λ a b at.
     let f = h a b at' in
     record { word = f.word; typed = plain_type o z _ b e (plain_cell o a b p at') f.typed }
 
--- a state that fits a starting context also fits that of a code type that agrees, in an object with the same cells
+-- if cells and rows are plain, a state that fits a starting context also fits that of a code type that agrees, in an
+-- object with the same cells
 pub start_fits_like : (o z : Object) (v : Valuation) (t u : ℕ) (s : State) (a : ℕ) → z.cells ≡ o.cells →
     All HasPlainCell o.cells → All HasPlainRows o.types → LikeTypes o t z u → FitsContext o v (start_context o t) s →
     FitsContext z v (start_context z u) (at_address a s)

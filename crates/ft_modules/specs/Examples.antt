@@ -19,7 +19,7 @@ use Rattle.ft_modules.specs.ModulesRun.{InModule, sent}
 abbrev pub no_rows : Subst
 no_rows = record { first = 0; past = 0; memory = 0 }
 
--- a module that jumps to its stub
+-- the instructions of a module that jumps to its stub
 abbrev pub jumps_to_stub : List Instr
 jumps_to_stub = Mov r1 (green 5) (code 0) ∷ Mov r33 (blue 5) (code 0) ∷ JmpG r1 ∷ JmpB r33 no_rows ∷ Halt ∷ []
 
@@ -55,7 +55,7 @@ hands_address_over = record {
   entry = 0;
 }
 
--- a module that stores its own code address
+-- the instructions of a module that stores its own code address
 abbrev pub stores_address : List Instr
 stores_address =
     Mov r0 (green out) (ref int) ∷ Mov r1 (green 1) (code 0) ∷ Mov r32 (blue out) (ref int) ∷ Mov r33 (blue 1) (code 0)

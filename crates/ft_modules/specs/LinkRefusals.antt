@@ -91,7 +91,7 @@ module_refusal earlier m cells o =
     option_or (option_map (λ f. CodeOf m f.0 f.1) (first_walk_fault o 0 o.blocks)) (
     unless (are_few (earlier ++ o ∷ [])) (TooBig m))))
 
--- why modules that are added in turn are refused: the first refusal
+-- the first refusal of modules that are added in turn, if there is one
 unfoldable pub modules_refusal : List Object → ℕ → List Cell → List Object → Option LinkRefusal
 modules_refusal earlier m cells [] = None
 modules_refusal earlier m cells (o ∷ os) = option_or (module_refusal earlier m cells o) (modules_refusal (earlier ++ o ∷ []) (suc m) cells os)
@@ -142,7 +142,7 @@ abbrev pub for_export : List Object → Ask → Option Ask → Option LinkRefusa
 for_export modules i None = Some (Missing i.line)
 for_export modules i (Some e) = unless (like_in (slice_get modules i.module) (type_in modules i.module i.block) (slice_get modules e.module) (type_in modules e.module e.block)) (Types i.line)
 
--- why an import is refused: its block is not a stub, its name is not exported, or the code types differ
+-- why an import is refused, if it is: its block is not a stub, its name is not exported, or the code types differ
 abbrev pub import_refusal : List Object → List Ask → Ask → Option LinkRefusal
 import_refusal modules exports i = option_or (unless (is_stub (instrs_in modules i.module i.block)) (Stub i.line)) (for_export modules i (export_of exports i.name))
 

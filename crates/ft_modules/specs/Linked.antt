@@ -51,7 +51,7 @@ raised_shape n x = renamed (λ k. n + k) x
 abbrev pub raised_node : ℕ → Node → Node
 raised_node n x = record { scope = x.scope; shape = raised_shape n x.shape }
 
--- a register row, raised; its basic type names no code type
+-- a register row, raised; its basic type stays the same, since a module's rows name no code type
 abbrev pub raised_row : ℕ → RegType → RegType
 raised_row n r = record { reg = r.reg; colour = r.colour; basic = r.basic; expr = n + r.expr }
 

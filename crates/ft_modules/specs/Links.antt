@@ -6,7 +6,7 @@ use Rattle.ft_types.specs.Objects.{block_start, block_type}
 use Rattle.ft_link_map.specs.declared.link_map.Ask.{Ask}
 use Rattle.ft_link_map.specs.declared.link_map.LinkMap.{LinkMap}
 
--- an imported block, by its module and its number in it, and the exported block that replaces it
+-- an imported block, given by its module and its number in that module, and the exported block that replaces it
 pub record Link : Type 0 where
   pub module_of : ℕ
   pub block : ℕ

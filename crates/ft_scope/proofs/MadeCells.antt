@@ -223,7 +223,7 @@ made_var c ds n m = record {
   inits = m.inits ∙ sym (words_push ds (var n) ∙ append-nil (cell_words ds));
 }
 
--- what follows from three facts about a success holds of the success
+-- if three facts hold of a success, so does what follows from them
 pub ok_from : {A E P Q R S : Type 0} (r : Result A E) → OnOk r P → OnOk r Q → OnOk r R → (P → Q → R → S) → OnOk r S
 ok_from (Ok x) p q r f = f p q r
 ok_from (Err e) p q r f = tt

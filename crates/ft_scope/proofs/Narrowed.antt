@@ -30,7 +30,7 @@ narrowed (loop e body rest) = loop (narrowed_expression e) (narrowed body) (narr
 narrowed (choose e if_so if_not rest) = choose (narrowed_expression e) (narrowed if_so) (narrowed if_not)
     (narrowed rest)
 
--- a map that comes before a step can be moved behind it
+-- if m followed by f equals g followed by k on values, it does so on results too
 moved : {A C B D : Type 0} → (r : Result A ℕ) (q : Result C ℕ) (m : C → A) (f : A → Result B ℕ) (g : C →
     Result D ℕ) (k : D → B) → r ≡ q >>= (λ x. Ok (m x)) → ((x : C) → f (m x) ≡ g x >>= λ y. Ok (k y)) → r >>= f
     ≡ (q >>= g) >>= λ y. Ok (k y)

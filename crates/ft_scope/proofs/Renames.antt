@@ -13,7 +13,7 @@ use Rattle.ft_scope.specs.Scope.{◌>>=◌, found, renamed_expression, renamed}
 use Rattle.ft_scope.specs.Size.{same_slot}
 use Rattle.ft_scope.specs.Renames.{Fails}
 
--- a step that is g followed by k for each value is also g followed by k after any result
+-- if f equals g followed by k on values, it does so on results too
 through : {A B C : Type 0} → (r : Result A ℕ) (f : A → Result B ℕ) (g : A → Result C ℕ) (k : C → Result B ℕ) →
     ((x : A) → f x ≡ g x >>= k) → r >>= f ≡ (r >>= g) >>= k
 through (Ok x) f g k h = h x

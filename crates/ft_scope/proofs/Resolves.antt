@@ -41,13 +41,13 @@ within limit n e other h = by (nat_lt limit n) refl
     by true g = absurd (omega (arith, ltb-true limit n g))
     by false g = refl
 
--- a tree of at most 1,048,576 nodes has at most as many declarations and statement nodes together
+-- a tree of at most 1,048,576 nodes has at most that many declarations and statement nodes together
 pub small_parts : (ds : List Decl) (ss : List (Stmt Spot)) → node_count ds ss ≤ 1048576 →
     length ds + statement_nodes (plain_list named ss) ≤ 1048576
 unfolding node_count
 small_parts ds ss h = h
 
--- a tree of at most 1,048,576 nodes has at most as many variables
+-- a tree of at most 1,048,576 nodes has at most that many variables
 pub few_variables : (ds : List Decl) (ss : List (Stmt Spot)) (n : Names) → node_count ds ss ≤ 1048576 →
     Holds n (declared_list ds) → n.vars ≤ 1048576
 few_variables ds ss n tiny held = omega (
@@ -58,7 +58,7 @@ few_variables ds ss n tiny held = omega (
   small_parts ds ss tiny,
 )
 
--- the renamed statements of a tree of at most 1,048,576 nodes have at most as many nodes
+-- the renamed statements of a tree of at most 1,048,576 nodes have at most that many nodes
 pub few_nodes : (ds : List Decl) (ss : List (Stmt Spot)) (b : StatementList Slot) → node_count ds ss ≤ 1048576 →
     statement_nodes b ≡ statement_nodes (plain_list named ss) → statement_nodes b ≤ 1048576
 few_nodes ds ss b tiny same = omega (arith, same, small_parts ds ss tiny)

@@ -6,7 +6,8 @@ ghost use Rattle.ft_scope.specs.Size.{same_slot, slot_weight, need, most_need, e
 use crate::slot::Slot;
 use ft_syntax::{Expr, Stmt};
 
-/// The largest need of an expression, in register pairs, and the weight. Both saturate at 2^64 - 1.
+/// The largest need of an expression or of an assignment with an index, in register pairs, and the weight. Both
+/// saturate at 2^64 - 1.
 #[derive(Clone, Copy)]
 pub struct Measure {
     pub need: u64,

@@ -6,7 +6,7 @@ use ft_syntax::parse;
 use std::process::Abort;
 use std::test::Fail;
 
-/// A source, and its outputs as numbers of cells and words.
+/// A source, and its outputs, each as a cell's number and a word.
 type Row = (&'static [u8], &'static [(u32, u64)]);
 
 /// The Fibonacci program of the documents.

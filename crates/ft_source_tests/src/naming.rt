@@ -4,7 +4,7 @@ use ft_syntax::{Expr, SourceError, Stmt, parse};
 use std::alloc::Global;
 use std::test::Fail;
 
-/// A text that declares this many arrays of 1,024 cells.
+/// Appends declarations of this many arrays of 1,024 cells to a text.
 fn declare_arrays(text: &mut String, count: usize) -> Result<(), Fail> {
     for k in 0..count {
         write!(text, "cell a{k}[1024]=1;")?;

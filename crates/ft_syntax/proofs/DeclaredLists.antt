@@ -3,12 +3,12 @@ use Rattle.std.proofs.Common.{◌≡◌, List, [], ◌∷◌, ◌++◌, length, 
 use Rattle.ft_syntax.specs.declared.decl.Decl.{Decl}
 use Rattle.ft_syntax.specs.Syntax.{declared, declared_list}
 
--- an empty list of declarations is an empty plain list
+-- the plain form of an empty list of declarations is empty
 pub declared_empty : declared_list [] ≡ []
 unfolding declared_list
 declared_empty = refl
 
--- a last declaration of a list is also the last of the plain list
+-- appending a declaration to a list appends it to the plain list
 pub declared_push : (ds : List Decl) (d : Decl) → declared_list (ds ++ d ∷ []) ≡ declared_list ds ++ declared d ∷ []
 unfolding declared_list
 declared_push [] d = refl
