@@ -119,7 +119,7 @@ tree_of-agrees : (ts us : List Expression) (x : Shape) → EachPart (λ s k. get
 tree_of-agrees ts us (shape.Word w) h = refl
 tree_of-agrees ts us x h = cc
 
--- further nodes keep the trees so far
+-- appending nodes does not change the earlier trees
 trees_onto-keeps : (ts : List Expression) (ns : List Node) (k : ℕ) → k < length ts → get_or (trees_onto ts ns) k none
     ≡ get_or ts k none
 trees_onto-keeps ts [] k h = refl
@@ -128,7 +128,7 @@ trees_onto-keeps ts (x ∷ ns) k h =
     trees_onto-keeps (ts ++ tree_of ts x.shape ∷ []) ns k (omega arith)
     ∙ get_or_append_left ts (tree_of ts x.shape ∷ []) none k h
 
--- each further node gets the tree of its shape
+-- each appended node has the tree of its shape
 trees_onto-row : (ts : List Expression) (ns : List Node) (j n : ℕ) (x : Node) → n ≡ length ts + j → slice_get ns j
     ≡ Some x → HasPartsBelow n x.shape → get_or (trees_onto ts ns) n none ≡ tree_of (trees_onto ts ns) x.shape
 trees_onto-row ts [] j n x e f h = cc

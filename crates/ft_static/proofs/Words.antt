@@ -12,7 +12,7 @@ use Rattle.ft_static.proofs.Cases.{if_cases}
 get-with_word : (m : WordMap) (k v q : ℕ) → map.get (with_word m k v) q ≡ cond (q == k) (Some v) (map.get m q)
 get-with_word m k v q = rw (map.get-insert nat_cmp_total m k v q, unsigned_tied q k) refl
 
--- reading a word from the chosen option is choosing between the words read
+-- choosing an option and then reading its word is the same as reading both words and then choosing
 cond_read : (b : Bool) (v : ℕ) (o : Option ℕ) → unwrap_or (cond b (Some v) o) 0 ≡ (if b then v else unwrap_or o 0)
 cond_read true v o = refl
 cond_read false v o = refl
