@@ -74,7 +74,7 @@ by_parts_where C P D M c d f g = by_parts (λ e. C e → P e) (λ m. D m → M m
 abbrev none : Expression
 none = integer (word 0)
 
--- if two facts about a part imply a third, and both hold of each part, so does the third
+-- if two facts about a part imply a third, and the two hold of each part, then the third does too
 pub each_part_both : (P Q R : Bool → ℕ → Type 0) → ((s : Bool) (k : ℕ) → P s k → Q s k → R s k) → (x : Shape) →
     EachPart P x → EachPart Q x → EachPart R x
 each_part_both P Q R f (shape.Op o a b) h g = (f false a h.0 g.0, f false b h.1 g.1)
@@ -107,7 +107,7 @@ pub parts_below : (nodes : List Node) (n scope : ℕ) (x : Shape) → IsShape no
 parts_below nodes n scope x h =
     each_part (MayName nodes n scope) (λ s k. k < n) (λ s k m. m.lower) x (parts_named nodes n scope x h)
 
--- if the parts have the same trees, so does the node, whatever the numbers of the parts
+-- if the parts of a renamed node have the same trees as those of the original node, so do the two nodes
 pub tree_of-renamed : (ts us : List Expression) (f : ℕ → ℕ) (x : Shape) →
     EachPart (λ s k. get_or ts (f k) none ≡ get_or us k none) x → tree_of ts (renamed f x) ≡ tree_of us x
 tree_of-renamed ts us f (shape.Word w) h = refl

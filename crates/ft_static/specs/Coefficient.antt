@@ -17,7 +17,8 @@ count k (times a m) = by_order (cmp_atom k a) (count k m) (suc (count k m)) (cou
 abbrev pub share : Monomial → Monomial → ℕ → ℕ
 share k m c = by_order (cmp_monomial k m) 0 c 0
 
--- what the products of one term, m with coefficient c, with each term of a polynomial contribute to the coefficient of k
+-- what the products of one term, m with coefficient c, with each term of a polynomial contribute to the coefficient
+-- of k
 abbrev pub share_of_multiple : Monomial → Monomial → ℕ → Polynomial → ℕ
 share_of_multiple k m c nought = 0
 share_of_multiple k m c (plus n d q) = share k (join m n) (c * d) + share_of_multiple k m c q
