@@ -107,7 +107,7 @@ pub parts_below : (nodes : List Node) (n scope : ℕ) (x : Shape) → IsShape no
 parts_below nodes n scope x h =
     each_part (MayName nodes n scope) (λ s k. k < n) (λ s k m. m.lower) x (parts_named nodes n scope x h)
 
--- if the parts of a renamed node have the same trees as those of the original node, so do the two nodes
+-- a renamed node has the same tree as the original node if their parts have the same trees
 pub tree_of-renamed : (ts us : List Expression) (f : ℕ → ℕ) (x : Shape) →
     EachPart (λ s k. get_or ts (f k) none ≡ get_or us k none) x → tree_of ts (renamed f x) ≡ tree_of us x
 tree_of-renamed ts us f (shape.Word w) h = refl

@@ -27,7 +27,7 @@ pub with_word_is_word : (m : WordMap) (k v q : ℕ) → IsWord v → IsWord (wor
 with_word_is_word m k v q h w = rw (word_at-with_word m k v q) (if_cases IsWord (q == k) v (word_at m q) (λ e. h) (λ e.
     w))
 
--- of two choices by the same test, the later one counts
+-- in the second branch of a choice, a choice by the same test takes its second branch
 shadowed : {X : Type 0} (b : Bool) (x y z : X) → cond b y (cond b x z) ≡ cond b y z
 shadowed true x y z = refl
 shadowed false x y z = refl
