@@ -1,4 +1,4 @@
--- Appending twice to what is known or recorded.
+-- Appending twice, or appending nothing, to what is known or recorded.
 use Rattle.std.proofs.Common.{◌≡◌, ℕ, List, [], ◌++◌, Option, Some, None, refl, ap, sym, append_assoc, append-nil}
 use Rattle.std.specs.Io.KnownBytes.{append_known}
 use Rattle.ft_edge.specs.Told.{append_told}

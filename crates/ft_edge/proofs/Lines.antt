@@ -73,7 +73,7 @@ breaks_then xs ys old mid new h i = record {
   fails = subst (λ log. FailsPut i.line log new) (ap (with_lines i.done) h ∙ lines_more xs i.done old) i.fails;
 }
 
--- if the puts of some lines broke off, the puts of these and more lines broke off
+-- if the puts of some lines broke off, so did the puts of these lines followed by more
 pub breaks_before : (xs more : List (List ℕ)) (old new : SinkLog) → BreaksOff xs old new →
     BreaksOff (xs ++ more) old new
 breaks_before xs more old new h = record {
@@ -91,7 +91,7 @@ breaks_at all done line rest old mid new e h i =
     subst (λ lines. BreaksOff lines old new) (sym e)
     (breaks_then done (line ∷ rest) old mid new h (breaks_before (line ∷ []) rest mid new i))
 
--- if some lines were put, the puts of all lines end in the same way as those of the others
+-- if some lines were put, the puts of all lines end in the same way as the puts of the remaining lines
 pub puts_then : (e : PutEnd) (xs ys : List (List ℕ)) (old mid new : SinkLog) → e ≢ NothingPut → mid
     ≡ with_lines xs old → Puts e ys mid new → Puts e (xs ++ ys) old new
 puts_then AllPut xs ys old mid new made h i = lines_then xs ys old mid new h i

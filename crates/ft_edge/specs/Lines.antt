@@ -31,7 +31,7 @@ pub data PutEnd : Type 0 where
   PutFailed : PutEnd
   NothingPut : PutEnd
 
--- the sink's record after such a call
+-- how the sink's record changes in a call that ends like this
 abbrev pub Puts : PutEnd → List (List ℕ) → SinkLog → SinkLog → Type 0
 Puts AllPut lines old new = new ≡ with_lines lines old
 Puts PutFailed lines old new = BreaksOff lines old new

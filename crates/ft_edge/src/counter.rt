@@ -45,7 +45,7 @@ impl Counter {
         Ok(())
     }
 
-    /// Gives the next call its number, and returns whether it must fail.
+    /// Numbers the next call, and returns whether it must fail.
     pub(crate) fn begin(&mut self) -> bool
         ensures fails { result ≡ is_to_fail self.old }
         ensures after { self.new ≡ after_call self.old }

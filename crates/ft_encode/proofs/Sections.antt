@@ -60,8 +60,8 @@ pub record SectionsFit (v : Version) (o : Object) : Type 0 where
   pub instrs : AllFit code_layout (map instr_row o.instrs)
   pub substs : AllFit subst_layout (map subst_row o.substs)
 
--- what the bytes contain: the header, the rows of each section, and all that follows the types, the register rows and
--- the substitution rows
+-- what the bytes contain: the header, the rows of each section, and the bytes after the types, after the register rows
+-- and after the substitution rows
 pub record Sections (bytes : List ℕ) (v : Version) (o : Object) : Type 0 where
   pub header : header_at bytes ≡ header_for v o
   pub total_is : length bytes ≡ total (header_for v o)

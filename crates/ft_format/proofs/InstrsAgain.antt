@@ -64,7 +64,7 @@ substitution_again h nodes first at x past memory narrow n =
       memory = number_again nodes true (at + 8) memory narrow r.1.1.1.1.0;
     }
 
--- if the rule that a field is 0, else `Count`, is not broken, the field is 0
+-- if the rule that a field is 0, whose error is `Count`, is not broken, the field is 0
 no_again : (at n : ℕ) → must (n == 0) (errors.Count at) ≡ None → 0 ≡ n
 no_again at n h = sym (eq_held n 0 (errors.Count at) h)
 

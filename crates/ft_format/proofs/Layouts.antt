@@ -64,7 +64,7 @@ after_number w32 n rest h = refl
 after_number w64 n rest h = refl
 after_number w128 n rest h = absurd h
 
--- a number takes as many bytes as its width has
+-- a number is written in exactly as many bytes as its width requires
 length_number : (w : Width) (n : ℕ) → FitsIn w n → length (bytes_of w n) ≡ byte_len w
 unfolding bytes_of
 length_number w8 n h = refl

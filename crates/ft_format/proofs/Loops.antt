@@ -39,7 +39,7 @@ pub ends : (ws : List Width) (m : ℕ) (bs : List ℕ) (broken last : Option Obj
     → m ≡ 0 → judge [] ≡ last → judge (rows ws m bs) ≡ broken → broken ≡ last
 ends ws m bs broken last judge e none h = sym h ∙ ap judge (rows_none ws m bs e) ∙ none
 
--- after a value is read, the values read so far and those of the remaining records are still all values
+-- after a value is read, the values read so far and those of the remaining records are still all the values
 pub gives : {A : Type 0} (ws : List Width) (m n : ℕ) (bs row : List ℕ) (done all : List A) (v : A)
     (values after : List (List ℕ) → List A)
     → m ≡ suc n → row ≡ numbers ws (take (size ws) bs) → ((rest : List (List ℕ)) → values (row ∷ rest) ≡ v ∷ after rest)
@@ -49,7 +49,7 @@ gives ws m n bs row done all v values after e is more h =
     append_assoc done (v ∷ []) (after rest) ∙ ap (λ l. done
     ++ l) (sym (ap values (first_row ws m n bs row e is) ∙ more rest)) ∙ h
 
--- if no record is left, the values read so far are all values
+-- if no record is left, the values read so far are all the values
 pub given : {A : Type 0} (ws : List Width) (m : ℕ) (bs : List ℕ) (done all : List A) (values : List (List ℕ) → List A)
     → m ≡ 0 → values [] ≡ [] → done ++ values (rows ws m bs) ≡ all → done ≡ all
 given ws m bs done all values e none h = sym (append-nil done)

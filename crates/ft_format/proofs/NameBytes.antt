@@ -14,7 +14,8 @@ use Rattle.ft_format.specs.Broken.{cells_broken}
 use Rattle.ft_format.proofs.Shapes.{shape_5}
 use Rattle.ft_format.proofs.Unbroken.{both}
 
--- a name that breaks no rule ends within the name bytes, and is no longer than its end allows
+-- if a cell's record breaks no rule, its name ends after `start` and within the name bytes, and has at most as many
+-- bytes as lie between `start` and its end
 name_within : (h : Header) (names : List ℕ) (start at : ℕ) (row : List ℕ) → length row ≡ 5 → cell_broken h start at row
     ≡ None
     → (start < past_of row) × (past_of row ≤ h.names) × (length (cell_of names start row).name ≤ past_of row - start)

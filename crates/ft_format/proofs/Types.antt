@@ -80,7 +80,7 @@ type_again h nodes regs queue at (a ∷ b ∷ c ∷ d ∷ e ∷ []) fit n = absu
 type_again h nodes regs queue at (a ∷ b ∷ c ∷ d ∷ e ∷ f ∷ []) fit n = absurd fit.1.1.1.1.1.1
 type_again h nodes regs queue at (a ∷ b ∷ c ∷ d ∷ e ∷ f ∷ g ∷ z ∷ zs) fit n = absurd fit.1.1.1.1.1.1.1
 
--- the values of n + k rows are those of the first n rows and those of the other k
+-- the values of n + k rows are those of the first n rows, followed by those of the other k
 values_split : {A : Type 0} (f : List ℕ → A) (ws : List Width) (m n k : ℕ) (bs : List ℕ) → m ≡ n + k →
     map f (rows ws m bs) ≡ map f (rows ws n bs) ++ map f (rows ws k (drop (size ws * n) bs))
 values_split f ws m n k bs e = ap (λ i. map f (rows ws i bs)) e ∙ ap (map f) (rows_plus ws n k bs)

@@ -21,7 +21,7 @@ first_none r s h = (both r s h).0
 pub rest_none : (r s : Option ObjectError) → (r next s) ≡ None → s ≡ None
 rest_none r s h = (both r s h).1
 
--- if no rule of a chain is broken, each single rule is unbroken
+-- a chain of rules, in order; if it is unbroken, so is each of its rules
 abbrev pub chain : List (Option ObjectError) → Option ObjectError
 chain [] = None
 chain (r ∷ []) = r

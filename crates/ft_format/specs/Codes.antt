@@ -40,7 +40,7 @@ abbrev pub colour_code : Colour → ℕ
 colour_code Green = 0
 colour_code Blue = 1
 
--- the colour of a code
+-- the colour with this code
 abbrev pub colour_of : ℕ → Colour
 colour_of n = if n == 0 then Green else Blue
 

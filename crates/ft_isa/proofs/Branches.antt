@@ -11,19 +11,20 @@ pub if_some : {A : Type 0} (test : Bool) (x y : A) → (if test then Some x else
 if_some true x y e = (refl, cc)
 if_some false x y e = absurd cc
 
--- a value of a conditional is the value of its first branch, and then the test holds, or the value of its second branch
+-- if a conditional is `Some y`, either the test holds and the first branch is `Some y`, or the second branch is
 pub of_branch : {A : Type 0} (test : Bool) (o p : Option A) (y : A) → (if test then o else p) ≡ Some y →
     ((test ≡ true) × (o ≡ Some y)) ⊎ (p ≡ Some y)
 of_branch true o p y e = inl (refl, e)
 of_branch false o p y e = inr e
 
--- a value of a mapped option is the image of the option's value
+-- if a mapped option is `Some y`, the option is `Some x`, and f maps x to y
 pub of_map : {A B : Type 0} (f : A → B) (o : Option A) (y : B) → option_map f o ≡ Some y → (x : A)
     × ((o ≡ Some x) × (f x ≡ y))
 of_map f None y e = absurd cc
 of_map f (Some x) y e = (x, (refl, cc))
 
--- P holds of the result of a test for the letter c if it holds of the result at c and of that of the other branch
+-- P holds of a byte and its result under a test for the letter c, if P holds of c and its result, and of the byte and
+-- the result of the other branch
 pub of_letter : {A : Type 0} (P : ℕ → A → Type 0) (b c : ℕ) (made after : A) (o : Option A) → P c made →
     (o ≡ Some after → P b after) → (if eqb b c then Some made else o) ≡ Some after → P b after
 of_letter {A} P b c made after o here other e =
@@ -38,7 +39,8 @@ of_letter {A} P b c made after o here other e =
 pub same_word : (w v : List ℕ) → bytes_eq w v ≡ true → w ≡ v
 same_word w v e = (bytes_eq-Decides w v).0 e
 
--- P holds of the result of a match on words if it holds of the result at the first word and of that of the other branch
+-- P holds of a word and its result under a test for the word v, if P holds of v and its result, and of the word and
+-- the result of the other branch
 pub chosen : {A : Type 0} (P : List ℕ → A → Type 0) (v w : List ℕ) (x y : Option A) → ((a : A) → x ≡ Some a → P v a) →
     ((a : A) → y ≡ Some a → P w a) → (a : A) → (if bytes_eq w v then x else y) ≡ Some a → P w a
 chosen P v w x y h i a e = elim (of_branch (bytes_eq w v) x y a e) [
@@ -46,7 +48,7 @@ chosen P v w x y h i a e = elim (of_branch (bytes_eq w v) x y a e) [
   | inr other ↦ i a other
 ]
 
--- if P holds of b, it holds of the value of `Some b`
+-- if P holds of v and b, it holds of v and the value of `Some b`
 pub known : {A : Type 0} (P : List ℕ → A → Type 0) (v : List ℕ) (b : A) → P v b → (a : A) → Some b ≡ Some a → P v a
 known P v b h a e = let same : b ≡ a = cc in subst (P v) same h
 

@@ -127,7 +127,7 @@ passed_text (answer ∷ done) = answer_text answer ++ codes "," ++ passed_text d
 abbrev pub wild_told : WildRead → List ℕ
 wild_told read = passed_text read.done ++ answer_told read.part
 
--- wild answers that were read leave room for one more, and each has a text
+-- the answers before the last comma leave room for one more, and each has a text; a number read after it is a word
 abbrev pub IsWildRead : WildRead → Type 0
 IsWildRead read = (length read.done < 4096) × AllByRecursion IsAnswer read.done × IsAnswerRead read.part
 
@@ -163,7 +163,7 @@ all_push : (done : List Wild) (answer : Wild) → AllByRecursion IsAnswer done �
 all_push [] answer all here = (here, tt)
 all_push (first ∷ done) answer all here = (all.0, all_push done answer all.1 here)
 
--- if fewer than 4,096 answers and one more each have a text, together they have one
+-- if each of fewer than 4,096 answers has a text, and so does one more, together they have one
 are_answers : (done : List Wild) (answer : Wild) → length done < 4096 → AllByRecursion IsAnswer done → IsAnswer answer →
     AreAnswers (done ++ answer ∷ [])
 are_answers done answer room all here =

@@ -11,7 +11,7 @@ IsWord n = n < 2 ^ 64
 abbrev pub IsLength : ℕ → Type 0
 IsLength m = (1 ≤ m) × (m ≤ 1024)
 
--- the word that says whether a test holds
+-- 1 if a test holds, and 0 otherwise
 abbrev pub word_of_test : Bool → ℕ
 word_of_test b = if b then 1 else 0
 

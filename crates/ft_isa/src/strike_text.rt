@@ -16,7 +16,7 @@ pub struct Form {
     pub at: usize,
 }
 
-/// What has been read of a strike, by the part that is being read.
+/// How far a strike has been read: the part that is being read, and what was read before it.
 #[derive(Clone, Copy)]
 enum StrikeRead {
     AtStep(Option<u64>),

@@ -38,7 +38,7 @@ pub fn decode(alloc: Global, bytes: &[u8]) -> Result<Object, DecodeError>
     // No rule is broken exactly when the bytes spell some object, and they spell only one.
     ensures exact { (broken bytes.now ≡ None) ↔ ((v : Version) × (o : Object) × Spells bytes.now v o) }
     ensures one { (v w : Version) (o other : Object) → Spells bytes.now v o → Spells bytes.now w other → o ≡ other }
-    // If a rule on the length, the header or the total is broken, it is returned, regardless of memory.
+    // If a rule for the length, the header or the total is broken, its error is returned, even if there is no memory.
     ensures front { (e : ObjectError) → front_broken bytes.now ≡ Some e → IsErrOf result (DecodeError.Object e) }
 {
     read_object(alloc, bytes)

@@ -79,7 +79,7 @@ fn one_by_one(forms: &mut Interner, a: Form, b: Form, c: Form, d: Form) -> Resul
     Ok(forms.op(Op::Mul, three, a)?)
 }
 
-/// Whether the product of four forms is the same when made by pairs and when made one by one from the last.
+/// Whether the product of four forms is the same when made in pairs and when made one by one from the last.
 #[tactic(auto, using(ft_norm::proofs::HeldForms::keeps_both))]
 fn commute(forms: &mut Interner, a: Form, b: Form, c: Form, d: Form) -> Result<bool, NoMemory>
     requires first { IsInteger forms.old a }
@@ -157,7 +157,7 @@ fn coefficients_vanish(forms: &mut Interner) -> Result<bool, NoMemory> {
     Ok(true)
 }
 
-/// Whether the word put at `at` is still found there after an update at `past`.
+/// Whether the word written at `at` is still found there after an update at `past`.
 #[tactic(auto, using(ft_norm::proofs::HeldForms::keeps_both))]
 fn is_passed(forms: &mut Interner, at: Form, past: Form) -> Result<bool, NoMemory>
     requires first { IsInteger forms.old at }
@@ -171,7 +171,7 @@ fn is_passed(forms: &mut Interner, at: Form, past: Form) -> Result<bool, NoMemor
     Ok(forms.same(found, at))
 }
 
-/// Whether a form and the next number are known to differ, in both directions.
+/// Whether a form and that form plus 1 are known to differ as addresses, whichever is written first.
 #[tactic(auto, using(ft_norm::proofs::HeldForms::keeps_both))]
 fn next_is_passed(forms: &mut Interner, at: Form) -> Result<bool, NoMemory>
     requires { IsInteger forms.old at }

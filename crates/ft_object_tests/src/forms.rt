@@ -27,7 +27,7 @@ fn sum(forms: &mut Interner, first: u8, count: u8, on_right: bool) -> Result<For
     Ok(total)
 }
 
-/// The word of a memory at an address, with its own step counter.
+/// The word of a memory at an address, read with a new step counter.
 fn counted<L: Ledger>(
     forms: &mut Interner,
     memory: Form,
@@ -46,7 +46,7 @@ fn counted<L: Ledger>(
     forms.sel(memory, at, &mut steps)
 }
 
-/// The same, with a new counter.
+/// The same, with the counter in a new ledger.
 pub fn sel(forms: &mut Interner, memory: Form, at: Form) -> Result<Form, NoMemory>
     requires memory { IsMemory forms.old memory }
     requires address { IsInteger forms.old at }

@@ -18,7 +18,7 @@ pub(crate) const RUN: &[u8] =
 pub(crate) const FIVE_COMMENTED: &[u8] =
     b"# stores 5\n\n\t cell\tout  int 0 \n #\nnode 0 memory\n#x y\ntype 0 0\nblock 0\n  mov r0 G 1048576 ref:int\n  mov r1 G 5 int\n\n  mov r32 B 1048576 ref:int\n  mov r33 B 5 int\n  st_G r0 r1\n  st_B r32 r33\n  halt\n\nentry 0";
 
-/// Texts with a line that has none of the forms, and its number.
+/// Texts with a line that has none of the forms, and the number of that line.
 pub(crate) const FORMLESS: &[(&[u8], u32)] = &[
     (b"cel out int 0\n", 1),
     (b"cell out int\n", 1),
@@ -58,7 +58,7 @@ pub(crate) const FORMLESS: &[(&[u8], u32)] = &[
     (b"entry 0\nentry\n", 2),
 ];
 
-/// Texts with a line that has one of the forms but is not allowed there, or in which a line is missing, and its number.
+/// Texts with a line that has one of the forms but is not allowed there, or with a missing line; and the line's number.
 pub(crate) const DISORDERED: &[(&[u8], u32)] = &[
     (b"", 1),
     (b"\n", 2),
@@ -131,7 +131,7 @@ pub(crate) fn formless(line: u32) -> AsmError {
     AsmError::Text { line }
 }
 
-/// The refusal of a text because of a line that is not allowed there, or is missing.
+/// The refusal of a text because of a line that is out of place or missing.
 pub(crate) fn disordered(line: u32) -> AsmError {
     AsmError::Order { line }
 }

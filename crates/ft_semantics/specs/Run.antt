@@ -38,7 +38,7 @@ pub run-add_one : (o : Object) (strike : Option Strike) (w : List Wild) (k : ℕ
 unfolding run
 run-add_one o strike w k = rw add-one refl
 
--- the four parts of a run after n steps
+-- the state, the wild answers left, the outputs and the status after n steps
 abbrev pub state_after : Object → Option Strike → List Wild → ℕ → State
 state_after o strike w n = (run o strike w n).state
 
@@ -51,7 +51,7 @@ outputs_after o strike w n = (run o strike w n).outputs
 abbrev pub status_after : Object → Option Strike → List Wild → ℕ → Status
 status_after o strike w n = (state_after o strike w n).status
 
--- whether the plan's strike struck something within n steps
+-- whether the plan's strike came within the first n steps and hit an existing site of a running machine
 abbrev pub is_struck : Object → Option Strike → List Wild → ℕ → Bool
 is_struck o None w n = false
 is_struck o (Some strike) w n = nat_lt strike.step n && is_there (state_after o (Some strike) w strike.step) strike.site

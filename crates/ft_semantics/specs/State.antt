@@ -71,7 +71,7 @@ word s r = (register s r).word
 abbrev pub colour : State → Reg → Colour
 colour s r = (register s r).colour
 
--- the map after n insertions: number i, from 0, inserts the value of i at the key of i
+-- the map after n insertions: insertion i, counted from 0, inserts the value of i at the key of i
 unfoldable pub tabulate : {X : Type 0} → ℕ → (ℕ → ℕ) → (ℕ → X) → FinMap nat_cmp X
 tabulate zero key value = map.empty
 tabulate (suc n) key value = map.insert (tabulate n key value) (key n) (value n)

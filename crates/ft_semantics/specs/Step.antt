@@ -63,7 +63,7 @@ abbrev pub found : Colour → State → ℕ → Option ℕ
 found Green s a = option_or (newest_at s.queue a) (cell_at s.cells a)
 found Blue s a = cell_at s.cells a
 
--- a wild load takes the plan's next answer: a word, or a stop
+-- a wild load takes the plan's next answer, a word or a stop; if none is left, that counts as a stop
 abbrev pub wild_load : Colour → Reg → State → List Wild → Stepping
 wild_load c rd s (Word v ∷ w) = writes rd c v s w
 wild_load c rd s (Stop ∷ w) = detected s w

@@ -66,7 +66,7 @@ coefficient_add_term k m c (plus n d p) l w = by_cases (λ q. coefficient k q
     rw (o, q, zero-add) (sym (mod-eq_of_lt w.3)))
     (λ o. rw o (coefficient_add_term k m c p l w.5)))
 
--- each coefficient of a polynomial is the one without the first term plus that term's share
+-- each coefficient of a polynomial is the coefficient in the polynomial without its first term, plus that term's share
 split_off : (k m : Monomial) (c : ℕ) (p : Polynomial) → IsProper (plus m c p) → coefficient k p + share k m c
     ≡ coefficient k (plus m c p)
 split_off k m c p h = order_split _ (cmp_monomial k m)

@@ -234,7 +234,7 @@ mutual
       (norm_memory_is_proper m) (norm_is_normal a) (norm_is_normal b)
 
 mutual
-  -- a form under normal forms is normal
+  -- the form of an integer under normal forms is normal
   pub under_is_normal : (e : Integer) (ps : List Polynomial) (u : Updates) →
       ((i : ℕ) → IsNormal (slice_index_or ps i nought)) → AreProperUpdates u → IsNormal (norm_under e ps u)
   under_is_normal (word w) ps u h k = normal_constant w

@@ -46,7 +46,7 @@ names_sum = record {
   scope_within = lit≤ tt;
 }
 
--- what holds of a node holds of the equal node that is found
+-- if x obeys the rules, so does the node that was found, which is x
 given : (n : ℕ) (x node : Node) → ◌≡◌ {A = Option Node} (Some x) (Some node) → IsNode nodes n x → IsNode nodes n node
 given n x node e h = let q : x ≡ node = cc in subst (IsNode nodes n) q h
 

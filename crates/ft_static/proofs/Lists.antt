@@ -37,7 +37,7 @@ zero_last n = grind (arith, nat_tests)
 above_one : (i j : ℕ) → nat_cmp i j ≡ nat_cmp (suc i) (suc j)
 above_one i j = grind (arith, nat_tests)
 
--- repeating a comparison decides nothing more
+-- repeating an earlier comparison does not change the result
 again : (l a r : Ordering) → ordering_then l (ordering_then a (ordering_then l r)) ≡ ordering_then l (ordering_then a r)
 again Less a r = refl
 again Equal a r = refl

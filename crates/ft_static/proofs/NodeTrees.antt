@@ -74,7 +74,7 @@ by_parts_where C P D M c d f g = by_parts (λ e. C e → P e) (λ m. D m → M m
 abbrev none : Expression
 none = integer (word 0)
 
--- if two facts about a part imply a third, and both hold of each part, so does the third
+-- if two facts about a part imply a third, and the two hold of each part, then the third does too
 pub each_part_both : (P Q R : Bool → ℕ → Type 0) → ((s : Bool) (k : ℕ) → P s k → Q s k → R s k) → (x : Shape) →
     EachPart P x → EachPart Q x → EachPart R x
 each_part_both P Q R f (shape.Op o a b) h g = (f false a h.0 g.0, f false b h.1 g.1)
@@ -107,7 +107,7 @@ pub parts_below : (nodes : List Node) (n scope : ℕ) (x : Shape) → IsShape no
 parts_below nodes n scope x h =
     each_part (MayName nodes n scope) (λ s k. k < n) (λ s k m. m.lower) x (parts_named nodes n scope x h)
 
--- if the parts have the same trees, so does the node, whatever the numbers of the parts
+-- a renamed node has the same tree as the original node if their parts have the same trees
 pub tree_of-renamed : (ts us : List Expression) (f : ℕ → ℕ) (x : Shape) →
     EachPart (λ s k. get_or ts (f k) none ≡ get_or us k none) x → tree_of ts (renamed f x) ≡ tree_of us x
 tree_of-renamed ts us f (shape.Word w) h = refl
@@ -119,7 +119,7 @@ tree_of-agrees : (ts us : List Expression) (x : Shape) → EachPart (λ s k. get
 tree_of-agrees ts us (shape.Word w) h = refl
 tree_of-agrees ts us x h = cc
 
--- further nodes keep the trees so far
+-- appending nodes does not change the earlier trees
 trees_onto-keeps : (ts : List Expression) (ns : List Node) (k : ℕ) → k < length ts → get_or (trees_onto ts ns) k none
     ≡ get_or ts k none
 trees_onto-keeps ts [] k h = refl
@@ -128,7 +128,7 @@ trees_onto-keeps ts (x ∷ ns) k h =
     trees_onto-keeps (ts ++ tree_of ts x.shape ∷ []) ns k (omega arith)
     ∙ get_or_append_left ts (tree_of ts x.shape ∷ []) none k h
 
--- each further node gets the tree of its shape
+-- each appended node has the tree of its shape
 trees_onto-row : (ts : List Expression) (ns : List Node) (j n : ℕ) (x : Node) → n ≡ length ts + j → slice_get ns j
     ≡ Some x → HasPartsBelow n x.shape → get_or (trees_onto ts ns) n none ≡ tree_of (trees_onto ts ns) x.shape
 trees_onto-row ts [] j n x e f h = cc

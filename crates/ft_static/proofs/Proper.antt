@@ -31,7 +31,7 @@ less_not_greater o e k = let x : Less ≡ Greater = sym e ∙ k in cc
 equal_not_greater : (o : Ordering) → o ≡ Equal → o ≢ Greater
 equal_not_greater o e k = let x : Equal ≡ Greater = sym e ∙ k in cc
 
--- an atom that leads a monomial still leads it after an atom that is not less than it is inserted
+-- if b leads a monomial and is not greater than a, it still leads the monomial after a is inserted
 leads_with : (a b : Atom) (m : Monomial) → cmp_atom b a ≢ Greater → Leads b m → Leads b (with_factor a m)
 leads_with a b one h k = h
 leads_with a b (times d m) h k = by_cases (λ n. Leads b n) (cmp_atom a d) (times a (times d m)) (times a (times d m))
@@ -57,7 +57,7 @@ factors_with a one = refl
 factors_with a (times b m) = by_cases (λ n. factors n ≡ suc (suc (factors m))) (cmp_atom a b) (times a (times b m))
     (times a (times b m)) (times b (with_factor a m)) (λ e. refl) (λ e. refl) (λ e. ap suc (factors_with a m))
 
--- the number of atoms in a product is the sum of the numbers in its factors
+-- the number of atoms in a product of two monomials is the sum of their numbers of atoms
 pub factors_join : (m n : Monomial) → factors (join m n) ≡ factors m + factors n
 factors_join one n = omega arith
 factors_join (times a m) n = let h = factors_join m (with_factor a n) in let k = factors_with a n in omega arith

@@ -123,7 +123,7 @@ mutual
   lex_updates unchanged (update r w x) xs ys = refl
   lex_updates (update p v u) unchanged xs ys = refl
 
--- a comparison that ties decides nothing
+-- a tie after a comparison does not change the result
 then_equal : (o : Ordering) → ordering_then o Equal ≡ o
 then_equal Less = refl
 then_equal Equal = refl

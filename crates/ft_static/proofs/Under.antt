@@ -32,7 +32,7 @@ module _ (es : List Integer) (m : Memory) where
   abbrev pub MemoryHasForm : Memory → Type 0
   MemoryHasForm k = norm_memory (substitute_memory k es m) ≡ norm_memory_under k (map norm_integer es) (norm_memory m)
 
-  -- the form of a substituted expression is the form taken under the substituted forms
+  -- the form of a substituted expression is the form of the expression under the substituted forms
   pub norm-substitute : OfAll HasForm MemoryHasForm
   norm-substitute = by_parts HasForm MemoryHasForm whole stored
     where
@@ -51,7 +51,7 @@ module _ (es : List Integer) (m : Memory) where
     abbrev pub MemoryHasValue : Memory → Type 0
     MemoryHasValue k = memory_value (substitute_memory k es m) s ≡ memory_value k (valuation_after es m s)
 
-    -- it denotes the value that the expression has in the valuation after the substitution
+    -- a substituted expression denotes the value that the expression has in the valuation after the substitution
     pub value-substitute : OfAll HasValue MemoryHasValue
     value-substitute = by_parts HasValue MemoryHasValue whole stored
       where
@@ -80,7 +80,7 @@ module _ (n : ℕ) (ps : List Polynomial) (own : (i : ℕ) → i < n → slice_i
     abbrev pub MemoryIsOwn : Memory → Type 0
     MemoryIsOwn m = norm_memory_under m ps unchanged ≡ norm_memory m
 
-    -- under the variables' own forms an expression has its normal form
+    -- under the variables' own forms, an expression has its normal form
     pub norm_under_itself : OfAll (λ e. IsWithin n e → IsOwn e) (λ m. IsMemoryWithin n m → MemoryIsOwn m)
     norm_under_itself = by_parts_where (IsWithin n) IsOwn (IsMemoryWithin n) MemoryIsOwn split split_memory whole stored
       where
@@ -100,7 +100,7 @@ module _ (n : ℕ) (ps : List Polynomial) (own : (i : ℕ) → i < n → slice_i
         stored memory_variable k h = refl
         stored m k h = cc
 
--- the polynomial at a place among the forms of trees is the form of the tree at that place
+-- the polynomial of node n, taken from the forms of the nodes' trees, is the form of node n's integer
 integer_in-map : (ps : List Polynomial) (u : Updates) (ts : List Expression) (n : ℕ) →
     integer_in (map (form_under ps u) ts) n ≡ norm_under (integer_at ts n) ps u
 integer_in-map ps u ts n = ap polynomial_of (get_or-map (form_under ps u) ts n (integer (word 0)))
@@ -110,7 +110,7 @@ integer_in-map ps u ts n = ap polynomial_of (get_or-map (form_under ps u) ts n (
     part (integer e) = refl
     part (memory m) = refl
 
--- likewise for the updates at a place
+-- likewise for the updates of node n
 memory_in-map : (ps : List Polynomial) (u : Updates) (ts : List Expression) (n : ℕ) →
     memory_in u (map (form_under ps u) ts) n ≡ norm_memory_under (memory_at ts n) ps u
 memory_in-map ps u ts n = ap (updates_or u) (get_or-map (form_under ps u) ts n (integer (word 0)))

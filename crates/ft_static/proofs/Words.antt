@@ -12,7 +12,7 @@ use Rattle.ft_static.proofs.Cases.{if_cases}
 get-with_word : (m : WordMap) (k v q : ℕ) → map.get (with_word m k v) q ≡ cond (q == k) (Some v) (map.get m q)
 get-with_word m k v q = rw (map.get-insert nat_cmp_total m k v q, unsigned_tied q k) refl
 
--- reading a word from the chosen option is choosing between the words read
+-- choosing an option and then reading its word is the same as reading both words and then choosing
 cond_read : (b : Bool) (v : ℕ) (o : Option ℕ) → unwrap_or (cond b (Some v) o) 0 ≡ (if b then v else unwrap_or o 0)
 cond_read true v o = refl
 cond_read false v o = refl
@@ -27,7 +27,7 @@ pub with_word_is_word : (m : WordMap) (k v q : ℕ) → IsWord v → IsWord (wor
 with_word_is_word m k v q h w = rw (word_at-with_word m k v q) (if_cases IsWord (q == k) v (word_at m q) (λ e. h) (λ e.
     w))
 
--- of two choices by the same test, the later one counts
+-- in the second branch of a choice, a choice by the same test takes its second branch
 shadowed : {X : Type 0} (b : Bool) (x y z : X) → cond b y (cond b x z) ≡ cond b y z
 shadowed true x y z = refl
 shadowed false x y z = refl

@@ -17,12 +17,13 @@ count k (times a m) = by_order (cmp_atom k a) (count k m) (suc (count k m)) (cou
 abbrev pub share : Monomial → Monomial → ℕ → ℕ
 share k m c = by_order (cmp_monomial k m) 0 c 0
 
--- what the products of one term, m with coefficient c, with each term of a polynomial contribute to k
+-- what the products of one term, m with coefficient c, with each term of a polynomial contribute to the coefficient
+-- of k
 abbrev pub share_of_multiple : Monomial → Monomial → ℕ → Polynomial → ℕ
 share_of_multiple k m c nought = 0
 share_of_multiple k m c (plus n d q) = share k (join m n) (c * d) + share_of_multiple k m c q
 
--- what the products of each term of p with each term of q contribute to k
+-- what the products of each term of p with each term of q contribute to the coefficient of k
 abbrev pub share_of_products : Monomial → Polynomial → Polynomial → ℕ
 share_of_products k nought q = 0
 share_of_products k (plus m c p) q = share_of_multiple k m c q + share_of_products k p q

@@ -69,6 +69,6 @@ abbrev pub then_y : Memory
 then_y = upd at_x y (word 8)
 
 -- the memory variable, an integer variable, the word 5, the sum of the variable and the word, and the word of the
--- memory at that sum as its address
+-- memory at that sum
 abbrev pub nodes : List Node
 nodes = record { scope = 0; shape = shape.Memory } ∷ record { scope = 1; shape = shape.Var 0 } ∷ record { scope = 0; shape = shape.Word 5 } ∷ record { scope = 1; shape = shape.Op Add 1 2 } ∷ record { scope = 1; shape = shape.Sel 0 3 } ∷ []

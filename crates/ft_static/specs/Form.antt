@@ -164,7 +164,8 @@ cmp_lists cmp xs ys = ordering_then (nat_cmp (length xs) (length ys)) (slice_cmp
 abbrev pub cmp_pairs : {A B : Type 0} → (A → A → Ordering) → (B → B → Ordering) → A × B → A × B → Ordering
 cmp_pairs cmp_first cmp_second p q = ordering_then (cmp_first p.0 q.0) (cmp_second p.1 q.1)
 
--- FORMS IN ORDER: atoms increase, monomials increase strictly, coefficients are nonzero words, and both limits hold
+-- FORMS IN ORDER: atoms increase, monomials increase strictly, coefficients are nonzero words, and there are at most 4
+-- atoms in a monomial and 64 monomials in a part of an atom or of an update
 
 -- the atom is not greater than the monomial's first atom
 abbrev pub Leads : Atom → Monomial → Type 0

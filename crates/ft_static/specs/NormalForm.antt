@@ -28,7 +28,7 @@ abbrev pub join : Monomial → Monomial → Monomial
 join one n = n
 join (times a m) n = join m (with_factor a n)
 
--- a polynomial with a term before it, unless its coefficient is 0
+-- a polynomial with a term before it, or unchanged if the term's coefficient is 0
 abbrev pub led_by : Monomial → ℕ → Polynomial → Polynomial
 led_by m c p = if c == 0 then p else plus m c p
 
@@ -160,7 +160,8 @@ same a b = false
 -- AFTER A SUBSTITUTION
 
 abbrev mutual
-  -- the form of an integer after these are substituted for the integer variables and u for the memory variable
+  -- the form of an integer after these polynomials are substituted for the integer variables and u for the memory
+  -- variable
   pub norm_under : Integer → List Polynomial → Updates → Polynomial
   norm_under (word w) ps u = constant w
   norm_under (variable i) ps u = slice_index_or ps i nought

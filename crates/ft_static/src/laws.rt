@@ -58,7 +58,7 @@ pub fn forms_are_known_by_coefficients()
 
 /// Two expressions are the same exactly when their normal forms are equal. If the numbers in an expression are words,
 /// its form denotes the same value as the expression, under every valuation of the integer variables and of the memory
-/// by words. So two such expressions that are the same denote the same value.
+/// by words. So if two such expressions are the same, they denote the same value.
 pub fn forms_denote_as_expressions()
     ensures same_forms { (a b : Expression) → same a b ≡ true ↔ norm a ≡ norm b }
     ensures denotes { (e : Expression) (s : Valuation) → IsLawful s → HasWords e → form_denotation (norm e) s ≡ denotation e s }

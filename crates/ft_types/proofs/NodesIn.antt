@@ -1,4 +1,4 @@
--- The tree of a node that an object names within a scope has the node's sort.
+-- A node that is named as an integer or a memory within a scope has a tree of that sort.
 use Rattle.std.proofs.Common.{◌≡◌, ℕ, true, false, List, sym, subst}
 use Rattle.ft_static.specs.Expression.{Expression, integer, memory}
 use Rattle.ft_static.specs.NodeRules.{AreNodes}

@@ -118,7 +118,7 @@ subst_of (JmpB rd subst) = Some subst
 subst_of (BzB rz rd subst) = Some subst
 subst_of i = None
 
--- a substitution takes the rows from number `first` on, at most 128 of those that exist, and names a memory
+-- a substitution takes the rows from number `first` on, at most 128, all of which exist, and names a memory
 pub record IsSubst (nodes : List Node) (rows first : ℕ) (s : Subst) : Type 0 where
   pub first_is : s.first ≡ first
   pub rising : s.first ≤ s.past

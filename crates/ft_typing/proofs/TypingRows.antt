@@ -24,7 +24,7 @@ use Rattle.ft_typing.specs.RowTests.{is_conditional, code_of_d, form_of_d, test_
 abbrev unknown : Typed
 unknown = record { colour = Green; basic = int; form = nought }
 
--- the tests of a list in turn: if the first one holds, the result is that of the others
+-- a chain of tests: the refusal of the first test that fails, or the given outcome if all hold
 judged : Object → Context → List Test → Outcome → Outcome
 judged o c [] e = e
 judged o c (t ∷ ts) e = need (premise_of t) (holds o c t) (judged o c ts e)

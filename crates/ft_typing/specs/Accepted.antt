@@ -33,8 +33,8 @@ pub record IsEntryType (o : Object) (t : ℕ) : Type 0 where
   pub queue : queue_rows o t ≡ []
   pub memory : HasShape o.nodes (memory_of o t) shape.Memory
 
--- an accepted object: its entry block has such a code type, each cell's initial word has the cell's basic type, and the
--- rows of each block's instructions apply from the block's starting context
+-- an accepted object: a run may begin with its entry block's code type, each cell's initial word has the cell's basic
+-- type, and the rows of each block's instructions apply from the block's starting context
 pub record IsAccepted (o : Object) : Type 0 where
   pub entry : IsEntryType o (block_type o o.entry)
   pub cells : (k : ℕ) (x : Cell) → slice_get o.cells k ≡ Some x → HasType o x.init x.basic

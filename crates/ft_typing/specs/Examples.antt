@@ -86,7 +86,7 @@ abbrev pub run_of_three : Basic → ℕ → List Cell
 run_of_three basic init =
     int_cell (codes "a[0]") 0 ∷ record { name = codes "a[1]"; basic = basic; init = init } ∷ int_cell (codes "a[2]") 0 ∷ []
 
--- n cells, numbered from k, each holding the address of the one before it; the type of cell i has i refs
+-- n cells, numbered from k; each holds the address just before its own, and the type of cell i has i refs
 abbrev pub refs_upwards : ℕ → ℕ → List Cell
 refs_upwards k zero = []
 refs_upwards k (suc n) = record { name = (97 + k) ∷ []; basic = record { refs = k; base = Int }; init = 1048575 + k } ∷ refs_upwards (suc k) n

@@ -45,7 +45,7 @@ pub data Test : Type 0 where
   has_room : Test
   -- the static queue is not empty
   has_oldest : Test
-  -- the register's form is that of the oldest pair's address; it is that of the oldest pair's value
+  -- the register's form is that of the oldest pair's address; likewise for the oldest pair's value
   is_oldest_address : Reg → Test
   is_oldest_value : Reg → Test
   -- the register's form is the one that d's condition tests

@@ -1,4 +1,4 @@
--- List elements at a position: rows, cells, types and their rows.
+-- The element at a given position of a list of rows, cells or types, or of a type's rows.
 use Rattle.std.proofs.Common.{◌≡◌, ℕ, zero, suc, ◌+◌, ◌-◌, ◌<◌, ◌≤◌, List, [], ◌∷◌, length, map, take, drop, Some, refl}
 use Rattle.std.proofs.Common.{sym, ap, ◌∙◌, subst, arith}
 use Rattle.std.specs.Prelude.{slice_get}
@@ -14,12 +14,12 @@ use Rattle.ft_view.specs.Ends.{AreEnds}
 use Rattle.ft_view.specs.Viewed.{last_end}
 use Rattle.ft_view.proofs.EndsRise.{types_more}
 
--- the value at a position is that of the record at this position
+-- the value at a position is the one that the record at this position encodes
 pub mapped : {X : Type 0} (v : List ℕ → X) (rs : List (List ℕ)) (i : ℕ) (row : List ℕ) (x : X) → slice_get rs i
     ≡ Some row → x ≡ v row → slice_get (map v rs) i ≡ Some x
 mapped v rs i row x there is = slice_get-map v rs i ∙ ap (option_map v) there ∙ ap Some (sym is)
 
--- the rows of the first records end where those of the last of them do
+-- the rows of the records up to and including record k end where the rows of record k end
 pub last_at : (end_of : List ℕ → ℕ) (start : ℕ) (rs : List (List ℕ)) (k : ℕ) (row : List ℕ) → slice_get rs k
     ≡ Some row → last_end end_of start (take (suc k) rs) ≡ end_of row
 last_at end_of start [] k row e = absurd (cc)
@@ -35,7 +35,7 @@ ends_at end_of all start (r ∷ rs) zero row h e = let same : r ≡ row = cc in
     (subst (λ x. start ≤ end_of x) same h.0, subst (λ x. end_of x ≤ all) same h.1)
 ends_at end_of all start (r ∷ rs) (suc k) row h e = ends_at end_of all (end_of r) rs k row h.2 e
 
--- cell k is that of record k, and its name begins where the names before it end
+-- cell k is the one that record k encodes, and its name begins where the names before it end
 pub cell_at : (names : List ℕ) (start : ℕ) (rs : List (List ℕ)) (k : ℕ) (row : List ℕ) → slice_get rs k ≡ Some row →
     slice_get (cells_of names start rs) k ≡ Some (cell_of names (last_end past_of start (take k rs)) row)
 cell_at names start [] k row e = absurd (cc)

@@ -93,7 +93,7 @@ pub subst_is : (bytes row : List ℕ) (i x : ℕ) → slice_get (subst_records b
 unfolding tables_read
 subst_is bytes row i x there is = mapped subst_node_of (subst_records bytes) i row x there is
 
--- a cell without its name is that of its record
+-- a cell without its name is the one that its record encodes
 pub cell_is : (bytes : List ℕ) (k past refs base code_type init : ℕ) (x : CellHead) → slice_get (cell_records bytes) k
     ≡ Some (past ∷ refs ∷ base ∷ code_type ∷ init ∷ []) → x.basic ≡ basic_type_of refs base code_type → x.init ≡ init
     → option_map cell_head_of (slice_get (object_of bytes).cells k) ≡ Some x
@@ -127,7 +127,7 @@ type_ends h p bytes seen v e =
     ends_of_types (header_at seen) (nodes_read (header_at seen) seen) (header_at seen).types
     (types_part (header_at seen) seen) 0 0 _ u.types
 
--- a code type is that of its record and of the rows between two ends
+-- a code type is the one that its record and the rows between two ends encode
 pub type_is : (bytes row : List ℕ) (t from queue_from : ℕ) →
     AreEnds regs_end_of (header_at bytes).regs 0 (type_records bytes) →
     AreEnds queue_end_of (header_at bytes).queue 0 (type_records bytes) → slice_get (type_records bytes) t ≡ Some row
@@ -144,7 +144,7 @@ type_is bytes row t from queue_from h q there e f =
     ∙ ap (λ a. Some (type_taken from a row (regs_read (header_at bytes) bytes) (queue_read (header_at bytes) bytes)))
     (sym f)
 
--- a code type without its rows is that of its record
+-- a code type without its rows is the one that its record encodes
 pub head_is : (bytes row : List ℕ) (t from queue_from : ℕ) (x : TypeHead) →
     AreEnds regs_end_of (header_at bytes).regs 0 (type_records bytes) →
     AreEnds queue_end_of (header_at bytes).queue 0 (type_records bytes) → slice_get (type_records bytes) t ≡ Some row

@@ -18,7 +18,7 @@ pub record IsPlain (row : List ℕ) : Type 0 where
   pub at : ℕ
   pub unbroken : node_broken version earlier at row ≡ None
 
--- if records of nodes break no rule, neither does each of them
+-- if a list of node records breaks no rule, neither does any record in it
 pub node_at : (v : Version) (earlier : List Node) (at : ℕ) (rs : List (List ℕ)) (i : ℕ) (row : List ℕ) →
     nodes_broken v earlier at rs ≡ None → slice_get rs i ≡ Some row → IsPlain row
 unfolding nodes_broken

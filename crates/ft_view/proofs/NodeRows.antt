@@ -20,7 +20,7 @@ pub count_is : (count : ℕ) (bytes : List ℕ) (nodes : List Node) → map node
 count_is count bytes nodes e = sym (ap length e) ∙ length-map (rows code_layout count bytes) node_of
     ∙ length_rows code_layout count bytes
 
--- node n is that of record n
+-- node n is the one that record n encodes
 pub row_is : (count n : ℕ) (bytes part row : List ℕ) (nodes : List Node) → map node_of (rows code_layout count bytes)
     ≡ nodes → n < length nodes → part ≡ take 16 (drop (16 * n) bytes) → row ≡ numbers code_layout part
     → slice_get nodes n ≡ Some (node_of row)

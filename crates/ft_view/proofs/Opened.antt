@@ -34,7 +34,7 @@ pub below : (h : Header) (p : Places) (bytes seen : List ℕ) (count : Header �
     ≡ bytes → i < count (header_at seen) → i < count h
 below h p bytes seen count i v e lt = subst (λ k. i < count k) (ap header_at e ∙ sym v.header) lt
 
--- the object has as many instructions as the header says, and each is that of its record
+-- the object has as many instructions as the header says, and each is the one that its record encodes
 pub instr_count : (bytes : List ℕ) → length (object_of bytes).instrs ≡ (header_at bytes).instrs
 unfolding tables_read
 instr_count bytes =

@@ -14,13 +14,13 @@ use Rattle.ft_format.proofs.Unbroken.{both}
 use Rattle.ft_format.proofs.Codes.{lt_held, eq_held}
 use Rattle.ft_view.specs.Ends.{AreEnds}
 
--- this holds of one row
+-- the register of one valid row exists
 plain_reg : (types : ℕ) (nodes : List Node) (ints least at reg colour pad refs base code_type expr : ℕ) →
     reg_broken types nodes ints least at (reg ∷ colour ∷ pad ∷ refs ∷ base ∷ code_type ∷ expr ∷ []) ≡ None → reg < 64
 plain_reg types nodes ints least at reg colour pad refs base code_type expr n =
     lt_held reg 64 (errors.Index at) (both (register_broken at reg) _ n).0
 
--- it holds of the rows of one type
+-- likewise for each row of one type
 type_reg_at : (types : ℕ) (nodes : List Node) (ints least at : ℕ) (rs : List (List ℕ))
     (i reg colour pad refs base code_type expr : ℕ) → type_regs_broken types nodes ints least at rs ≡ None
     → slice_get rs i ≡ Some (reg ∷ colour ∷ pad ∷ refs ∷ base ∷ code_type ∷ expr ∷ []) → reg < 64
@@ -51,7 +51,7 @@ nothing n k bs row P e h =
     let none : slice_get [] k ≡ Some row = subst (λ l. slice_get l k ≡ Some row) (rows_none reg_layout n bs e) h in
     absurd (cc)
 
--- it holds of the rows of all types
+-- likewise for each row of all types
 pub reg_at : (h : Header) (nodes : List Node) (start at : ℕ) (trs : List (List ℕ)) (bytes : List ℕ)
     (k reg colour pad refs base code_type expr : ℕ) → AreEnds regs_end_of h.regs start trs →
     regs_broken h nodes start at trs bytes ≡ None

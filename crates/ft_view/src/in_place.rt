@@ -91,7 +91,7 @@ pub(crate) fn field_x(bytes: &[u8]) -> u32
     number_at(bytes, 4)
 }
 
-/// The operation with this code. The code must exist, so its lowest byte identifies it.
+/// The operation with this code. The code must be valid, so its lowest byte identifies it.
 #[inline(always)]
 pub(crate) fn known_op(code: u32) -> Op
     requires { code ≤ last_op_code }

@@ -1,7 +1,7 @@
 //! Worked objects as bytes, made by another implementation of the format.
 //!
-//! The crate has only constants, which the crates that test rows share: objects that the checker accepts,
-//! and objects that it refuses, each with what it does.
+//! The crate has only constants, shared by the crates that have test rows: objects that the checker accepts,
+//! and objects that it refuses. The comment on each says what it does.
 #![tactic(auto)]
 
 /// Stores 5, green and blue, and halts.
