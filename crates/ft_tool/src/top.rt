@@ -136,7 +136,7 @@ pub fn tool<F: Shelf, I: Source, K: Sink>(
         BreaksOff (IsAnswer (map string_bytes words.now) (F.log shelf.old).files (I.log script.old).left)
         (K.log out.old) (K.log out.new) }
 
-    // Nothing was written. This status is meant for running out of memory.
+    // Nothing was written. This status is meant to report that memory ran out.
     ensures no_memory_puts_nothing { result ≡ 5 → K.log out.new ≡ K.log out.old }
 
     // The count of failed puts is unchanged with any status but 4.
