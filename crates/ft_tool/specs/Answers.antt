@@ -237,8 +237,8 @@ pub record FailedToLoad (words : List Word) (old new : ShelfLog) : Type 0 where
   pub are_files : AreFiles old.files files
   pub fails : FailsIn request files old new
 
--- a session got as far as its script, since its file spells an object. A take of the script failed, and the count of
--- failed takes rose
+-- a session got as far as its script, since its file spells an object. A take of the script failed: the count of failed
+-- takes rose or is 2^64 - 1
 pub record FailsAtScript (d : Debugging) (files : Files) (old new : SourceLog) : Type 0 where
   pub rose : Rose old.failures new.failures
   pub comes : SpellsFile files d.object
