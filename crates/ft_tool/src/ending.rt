@@ -206,7 +206,8 @@ fn put_text_line<K: Sink>(number: u64, told: u64, out: &mut K) -> Ending
     }
 }
 
-/// Ends a command whose assembly text is refused: writes the line of the refusal. If memory ran out, nothing is written.
+/// Ends a command whose assembly text is refused: writes the line of the refusal. If memory ran out, nothing is
+/// written.
 pub(crate) fn refuse_text<K: Sink>(error: AsmError, out: &mut K) -> Ending
     ensures { Ends result (IsTextRefused error) (K.log out.old) (K.log out.new) ⊥ }
 {
