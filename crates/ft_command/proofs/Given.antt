@@ -13,7 +13,7 @@ differ : (name a b : Word) (i x : ℕ) → name ≡ a → name ≡ b → nat_eq 
     nat_eq (slice_index b i) x ≡ false → ⊥
 differ name a b i x e f p q = true≢false (sym p ∙ ap (λ n. nat_eq (slice_index n i) x) (sym e ∙ f) ∙ q)
 
--- `--steps` with a value gives this and nothing else
+-- an option named `--steps` gives only what `--steps` gives
 pub steps_only : (allowed : Allowed) (name value : Word) (old new : Given) → name ≡ codes "--steps" →
     ((g : Given) → GivesSteps allowed (codes "--steps") value old g → g ≡ new) → (g : Given) →
     Gives allowed name value old g → g ≡ new
@@ -28,7 +28,7 @@ steps_only allowed name value old new is only g (by_wild h) =
 steps_only allowed name value old new is only g (by_faults h) =
     absurd (differ name (codes "--steps") (codes "--faults") 2 115 is h.name_is refl refl)
 
--- `--turns` with a value gives this and nothing else
+-- an option named `--turns` gives only what `--turns` gives
 pub turns_only : (allowed : Allowed) (name value : Word) (old new : Given) → name ≡ codes "--turns" →
     ((g : Given) → GivesTurns allowed (codes "--turns") value old g → g ≡ new) → (g : Given) →
     Gives allowed name value old g → g ≡ new
@@ -43,7 +43,7 @@ turns_only allowed name value old new is only g (by_wild h) =
 turns_only allowed name value old new is only g (by_faults h) =
     absurd (differ name (codes "--turns") (codes "--faults") 2 116 is h.name_is refl refl)
 
--- `--fault` with a value gives this and nothing else
+-- an option named `--fault` gives only what `--fault` gives
 pub strike_only : (allowed : Allowed) (name value : Word) (old new : Given) → name ≡ codes "--fault" →
     ((g : Given) → GivesStrike allowed (codes "--fault") value old g → g ≡ new) → (g : Given) →
     Gives allowed name value old g → g ≡ new
@@ -58,7 +58,7 @@ strike_only allowed name value old new is only g (by_wild h) =
 strike_only allowed name value old new is only g (by_faults h) =
     absurd (differ name (codes "--fault") (codes "--faults") 7 0 is h.name_is refl refl)
 
--- `--wild` with a value gives this and nothing else
+-- an option named `--wild` gives only what `--wild` gives
 pub wild_only : (allowed : Allowed) (name value : Word) (old new : Given) → name ≡ codes "--wild" →
     ((g : Given) → GivesWild allowed (codes "--wild") value old g → g ≡ new) → (g : Given) →
     Gives allowed name value old g → g ≡ new
@@ -72,7 +72,7 @@ wild_only allowed name value old new is only g (by_wild h) = only g (subst (λ n
 wild_only allowed name value old new is only g (by_faults h) =
     absurd (differ name (codes "--wild") (codes "--faults") 2 119 is h.name_is refl refl)
 
--- `--faults` with a value gives this and nothing else
+-- an option named `--faults` gives only what `--faults` gives
 pub faults_only : (allowed : Allowed) (name value : Word) (old new : Given) → name ≡ codes "--faults" →
     ((g : Given) → GivesFaults allowed (codes "--faults") value old g → g ≡ new) → (g : Given) →
     Gives allowed name value old g → g ≡ new

@@ -8,13 +8,13 @@ use crate::verb::Verb;
 use ft_isa::{NoMemory, Strike, Wild, read_number};
 use std::alloc::Global;
 
-/// The maximum number of steps of a run without `--steps`.
+/// The maximum number of steps of a run if `--steps` is not given.
 const STEPS: u64 = 1_000_000;
 
 /// The maximum number of turns of a demonstration.
 const DEMO_TURNS: u64 = 10_921;
 
-/// The maximum number of turns of a meaning without `--turns`.
+/// The maximum number of turns of a meaning if `--turns` is not given.
 const TURNS: u64 = 1_000_000;
 
 /// A command with its operand and options.

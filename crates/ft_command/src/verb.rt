@@ -4,13 +4,13 @@ ghost use Rattle.ft_command.specs.Commands.{name_of, takes_object, allowed_of};
 
 use crate::allowed::Allowed;
 
-/// The maximum that `--steps` may give a run.
+/// The maximum value of `--steps` for a run.
 const RUN_STEPS: u64 = 1_000_000_000;
 
-/// The maximum that `--steps` may give each run of a campaign.
+/// The maximum value of `--steps` for a campaign.
 const CAMPAIGN_STEPS: u64 = 1_000_000;
 
-/// The maximum that `--turns` may give a meaning.
+/// The maximum value of `--turns` for a meaning.
 const TURNS: u64 = 1_000_000_000;
 
 /// No options.

@@ -79,7 +79,7 @@ at_text p s = codes "at " ++ decimal p ++ codes " " ++ status_text s.status
 abbrev pub at_line : ℕ → State → List ℕ
 at_line p s = at_text p s ++ codes "\n"
 
--- the letter of a colour
+-- the letter of a colour, between spaces
 abbrev pub colour_text : Colour → List ℕ
 colour_text Green = codes " G "
 colour_text Blue = codes " B "

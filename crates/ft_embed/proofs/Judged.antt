@@ -50,7 +50,7 @@ asm_long text h = too_long h refl
 pub asm_broken : (text : List ℕ) (e : ObjectError) → Applies text (Broken e) → IsAsmBroken text (told_error e)
 asm_broken text e h = record { error = e; applies = h; told_is = refl }
 
--- what was handed over if the bytes fit, and if they do not
+-- `HandsOver` holds if the bytes fit and were written, and also if they do not fit and nothing was written
 pub handed : (bytes old new : List ℕ) (made : ℕ) → made ≡ length bytes → take made new ≡ bytes → length new
     ≡ length old → HandsOver bytes old new made 0
 handed bytes old new made is written same = fits refl is written same
@@ -87,10 +87,11 @@ pub source_refused : (text : List ℕ) (e : SourceError) (told : Refused) → (e
     e ≢ sources.NoMemory → told ≡ told_source e → IsSourceRefused text told
 source_refused text e told h named is = record { error = e; refused = h named; named = named; told_is = is }
 
--- a text has only one program, so the program that an object stands for is the one that it was emitted for
+-- equal results hold equal programs
 same_ok : (p q : Program) → ◌≡◌ {A = Result Program SourceError} (Ok p) (Ok q) → p ≡ q
 same_ok p q e = cc
 
+-- a text has only one program, so the program that the object stands for is the one that it was emitted for
 pub compiled : (text bytes : List ℕ) (o : Object) →
     ((r s : Result Program SourceError) → IsOutcome text r → IsOutcome text s → r ≡ s)
     → (p : Program) × IsProgramOf text p × StandsFor p o → (p : Program) × IsProgramOf text p × IsEmitted p o →

@@ -25,7 +25,7 @@ use Rattle.ft_embed.specs.Links.{IsUnaccepted, SaidUnlinked, IsAddedTo, HasAdded
 
 -- REFUSALS
 
--- a refused check has neither status 0 nor status 15
+-- a status that is 5 or 8 is neither 0 nor 15
 pub some_status : (n : ℕ) → (n ≡ 5) ⊎ (n ≡ 8) → (n ≢ 0) × (n ≢ 15)
 some_status n (inl five) = (λ z. omega (arith, five, z), λ z. omega (arith, five, z))
 some_status n (inr eight) = (λ z. omega (arith, eight, z), λ z. omega (arith, eight, z))

@@ -58,7 +58,8 @@ module _ (o : Object) (s s1 : State) (w w1 : List Wild) (n from c1 : ℕ) (old m
   whole : (k : ℕ) → span o (n + k) s w ≡ joined (span o n s w).outputs (span o k s1 w1)
   whole k = span_then o n k s s1 w w1 a.state_is a.wild_is
 
-  -- the number of earlier outputs and those of n + k steps is the number of those in the array and those of k steps
+  -- the earlier outputs and those of all n + k steps are as many as the outputs in the array and those of the last k
+  -- steps
   counted : (k : ℕ) → from + length (span o (n + k) s w).outputs ≡ c1 + length (span o k s1 w1).outputs
   counted k =
       let more = ap (λ (r : Ran). length r.outputs) (whole k)

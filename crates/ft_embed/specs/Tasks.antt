@@ -29,7 +29,7 @@ begun o = record { object = o; strike = None; taken = 0 }
 abbrev pub IsBy : ℕ → Strike → Type 0
 IsBy taken x = x.step ≤ taken
 
--- the machine's state in such a run of an accepted object, after the strike if that is due before the next step
+-- the machine's state in this run of an accepted object, after the strike if that is due before the next step
 pub record IsTask (r : TaskRun) (s : State) : Type 0 where
   pub spellable : IsSpellable r.object
   pub accepted : IsAccepted r.object

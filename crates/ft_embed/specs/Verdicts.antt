@@ -13,7 +13,7 @@ use Rattle.ft_embed.specs.declared.verdict.Verdict.{Verdict}
 abbrev pub nothing : Refused
 nothing = record { part = 0; number = 0; place = 0; index = 0 }
 
--- the first rule that bytes break: its number, and its place
+-- the first rule that bytes break: the number of the rule, and the place of the error
 abbrev pub told_error : ObjectError → Refused
 told_error e = record { part = 1; number = error_number e; place = error_place e; index = 0 }
 

@@ -13,7 +13,7 @@ use ft_types::Program;
 use ft_view::View;
 use std::alloc::Global;
 
-/// The result for an assembly text that is refused.
+/// The result for an assembly text that is refused, or if memory ran out.
 #[tactic(auto, using(crate::proofs::Judged::asm_text, crate::proofs::Judged::asm_order, crate::proofs::Judged::asm_long, crate::proofs::Judged::asm_broken))]
 fn refuse_text(error: AsmError) -> Written
     ensures refused { (text : List ℕ) → IsRefusal text error → result.status ≡ 12 → IsAsmRefused text result.why }

@@ -12,7 +12,7 @@ use ft_types::Program;
 use ft_view::View;
 use std::alloc::Global;
 
-/// The verdict on an object that is not accepted.
+/// The verdict on an object that is not accepted, or if memory ran out.
 #[tactic(auto, using(crate::proofs::Judged::tells_refused))]
 pub(crate) fn refuse(error: CheckError) -> Verdict
     ensures told { (x : Option Refusal) → IsRefusalOf x error → result.status ≢ 5 → Tells result.status result.why (judged x) }

@@ -30,7 +30,7 @@ fn compile_bytes(alloc: Global, text: &[u8]) -> Result<Vec<u8>, SourceError>
     }
 }
 
-/// The result for a source that is refused.
+/// The result for a source that is refused, or if memory ran out.
 fn refuse_source(error: SourceError) -> Written
     ensures told { result.status ≡ 6 → result.why ≡ told_source error }
     ensures named { result.status ≡ 6 → error ≢ errors.NoMemory }

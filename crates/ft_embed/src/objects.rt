@@ -33,7 +33,7 @@ fn upgrade_bytes(alloc: Global, bytes: &[u8]) -> Result<Vec<u8>, DecodeError>
     }
 }
 
-/// The result for bytes that spell no object.
+/// The result for bytes that spell no object, or if memory ran out.
 #[tactic(auto, using(crate::proofs::Judged::malformed))]
 fn refuse_bytes(error: DecodeError) -> Written
     ensures told { (bytes : List ℕ) → IsWhy (broken bytes) error → result.status ≡ 7 → IsMalformed bytes result.why }

@@ -12,7 +12,7 @@ pub struct FaultVerdict {
     pub at: u64,
 }
 
-/// How many faults there are, and how many have each verdict.
+/// How many faults there are, and how many have each verdict but corrupt, which no fault of an accepted object has.
 #[repr(C)]
 #[derive(Clone, Copy)]
 pub struct FaultTotals {

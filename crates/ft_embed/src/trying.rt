@@ -70,7 +70,7 @@ fn told_list(number: u32, place: u64) -> Refused
     }
 }
 
-/// The result for a text that is not a fault list.
+/// The result for a text that is not a fault list, or if memory ran out.
 fn refuse_list(error: ListError) -> TrialAnswer
     ensures told { (list : List ℕ) (steps : ℕ) → IsListError list error → result.status ≡ 11 → IsListRefused list steps result.why }
     ensures status { (result.status ≡ 5) ⊎ (result.status ≡ 11) }

@@ -22,8 +22,8 @@ pub struct Module<'a> {
     pub bytes: &'a [u8],
 }
 
-/// Why modules cannot be linked: a status; the number of the module that it is about, counted from 0 in the order of
-/// the map, or 0 if it is about a line; and a refusal.
+/// Why modules cannot be linked: a status; the number of the module that the refusal is about, counted from 0 in the
+/// order of the map, or 0 if the refusal is about a line; and the refusal.
 #[derive(Clone, Copy)]
 pub struct Unlinked {
     pub status: u32,
@@ -121,7 +121,7 @@ pub(crate) fn refuse_modules(error: LinkError) -> Unlinked
     }
 }
 
-/// The result for a module that is not accepted.
+/// The result for a module that is not accepted, or if memory ran out.
 #[tactic(auto, using(crate::proofs::LinkTurns::some_status))]
 pub(crate) fn refuse_module(error: CheckError, module: u32) -> Unlinked
     ensures told { (x : Option Refusal) → IsCheckRefusalOf x error → result.status ≢ 5 → IsUnaccepted x «module» result }

@@ -63,7 +63,7 @@ kept_none None b h = tt
 kept_none (Some xs) None h = absurd h
 kept_none (Some xs) (Some ys) h = sym h
 
--- likewise if the last take failed
+-- if the last take failed, at most `most` bytes were read and all takes but the last returned some
 pub takes_failed : (most : ℕ) (old mid new : SourceLog) (bytes : List ℕ) → GaveSome old.takes mid.takes (length bytes) →
     Consumes old.left mid.left bytes
     → new.takes ≡ append_told mid.takes (0 ∷ []) → Keeps mid.left new.left → length bytes ≤ most →

@@ -23,7 +23,7 @@ ascii_file : (file : List ℕ) → is_file file ≡ true → IsAscii file
 ascii_file file h = ascii_bytes file (and_parts (nat_lt 0 (length file)
     && nat_le (length file) 255) (list_all is_file_byte file) h).1
 
--- if the file names in a map are ASCII, they still are after a line, or several, are added
+-- if the file names in a map are ASCII, they still are after one or more lines are added
 ascii_line : (m : LinkMap) (number : ℕ) (line : List ℕ) (l : MapLine) → Says line l → All IsAscii m.files →
     All IsAscii (with_line m number l).files
 ascii_line m number line (Module file) h all = All-push IsAscii m.files file all (ascii_file file h.0)

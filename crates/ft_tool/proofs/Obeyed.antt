@@ -71,7 +71,7 @@ does_untaken {r} {q} {e} {left} {old} {new} {shelf} {shelf'} {Takes} same h =
       made = h.made;
     })
 
--- the answer to a session, and the failures of a session's load and takes
+-- the answer to a session, and what it means that the load or a take of a session failed
 abbrev SessionAnswers : Debugging → ShelfLog → SourceLog → Answer → Type 0
 SessionAnswers d shelf script a =
     OfFiles shelf.files (λ files. OfScript script.left (λ text. OverFile (DebugsObject d text) d.object files a))

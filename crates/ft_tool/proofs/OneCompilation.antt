@@ -89,10 +89,11 @@ begins_either (x ∷ xs) (y ∷ ys) zs h g =
       tail_same x y (xs ++ h.0) (ys ++ g.0) same,
     ) (g.0, refl))
 
--- the answers for the runs of two objects that stand for the same program agree
+-- the answer for the run of an object for n steps, without a strike
 abbrev execution : Object → ℕ → Answer
 execution o n = ran o (run o None [] n)
 
+-- the answers for the runs of two objects that stand for the same program agree
 executed_both : DoneRunsWriteTheMeaning → RunningRunsBeginTheMeaning → (p : Program) (o u : Object) → StandsFor p o →
     StandsFor p u → (n : ℕ) (s t : Status) → status_after o None [] n ≡ s → status_after u None [] n ≡ t
     → AreExecutions (execution o n) (execution u n)

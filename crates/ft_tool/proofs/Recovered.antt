@@ -19,7 +19,7 @@ use Rattle.ft_tool.specs.Answers.{RecoversUnless, RecoversObject, recovered, aga
 use Rattle.ft_tool.specs.Endings.{Ends, again_of, ending_of_recovery}
 use Rattle.ft_tool.proofs.Answered.{undetected}
 
--- without lines, no put fails
+-- if there are no lines to write, no put fails
 nothing_breaks : (old new : SinkLog) → LinesBreakOff [] old new → ⊥
 nothing_breaks old new h = no_break h.done h.line h.rest h.whole
   where

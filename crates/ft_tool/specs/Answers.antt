@@ -171,7 +171,7 @@ Answers (Schedules name) told files script a = OverFile SchedulesObject name fil
 Answers (Links name) told files script a = LinksFile told name a
 
 -- the answer of the command that the words ask for, with the revealed files and script, or else with some files and
--- some script. Except for a link, one map of files serves all loads, so each name has one content
+-- some script. Except for a link, one map of files serves all loads, so a name always has the same content
 pub record IsAnswer (words : List Word) (told : Option Files) (left : Option (List ℕ)) (a : Answer) : Type 0 where
   pub request : Request
   pub asks : Asks words request
@@ -237,8 +237,8 @@ pub record FailedToLoad (words : List Word) (old new : ShelfLog) : Type 0 where
   pub are_files : AreFiles old.files files
   pub fails : FailsIn request files old new
 
--- a session got as far as its script, since its file spells an object. A take of the script failed, and the count of
--- failed takes rose
+-- a session got as far as its script, since its file spells an object. A take of the script failed: the count of failed
+-- takes rose or is 2^64 - 1
 pub record FailsAtScript (d : Debugging) (files : Files) (old new : SourceLog) : Type 0 where
   pub rose : Rose old.failures new.failures
   pub comes : SpellsFile files d.object

@@ -43,7 +43,7 @@ text_load name = (name, 134217728)
 abbrev pub map_load : Word → Word × ℕ
 map_load name = (name, 65536)
 
--- the statuses of calls that may end before their last load: a load or a take failed, or memory ran out
+-- whether a call with this status may have ended before its last load: a load or a take failed, or memory ran out
 abbrev pub is_early : ℕ → Bool
 is_early status = status == 3 || status == 5
 

@@ -8,7 +8,7 @@ use Rattle.ft_modules.specs.LinkRefusals.{LinkRefusal, Cells, Rows, CodeOf, TooB
 use Rattle.ft_format.specs.declared.object_error.ObjectError.{ObjectError}
 use Rattle.ft_format.specs.Errors.{error_number, error_place}
 
--- `object`, the number of the broken rule, and its place
+-- `object`, the number of the broken rule, and the place of the error
 abbrev pub object_line : ObjectError → List ℕ
 object_line e = codes "object " ++ decimal (error_number e) ++ codes " " ++ decimal (error_place e) ++ codes "\n"
 

@@ -128,7 +128,7 @@ pub(crate) fn refuse_object<K: Sink>(fault: ObjectFault, out: &mut K) -> Ending
     }
 }
 
-/// Ends a command whose object is not accepted: writes the line of the refusal.
+/// Ends a command whose object is not accepted: writes the line of the refusal. If memory ran out, nothing is written.
 pub(crate) fn refuse_check<K: Sink>(error: CheckError, out: &mut K) -> Ending
     ensures { Ends result (IsNotAccepted error) (K.log out.old) (K.log out.new) ⊥ }
 {
@@ -182,7 +182,7 @@ pub(crate) fn refuse_script<K: Sink>(fault: ScriptFault, out: &mut K) -> Ending
     }
 }
 
-/// Ends a command whose source is refused: writes the line of the refusal.
+/// Ends a command whose source is refused: writes the line of the refusal. If memory ran out, nothing is written.
 pub(crate) fn refuse_source<K: Sink>(error: SourceError, out: &mut K) -> Ending
     ensures { Ends result (IsSourceRefused error) (K.log out.old) (K.log out.new) ⊥ }
 {
@@ -206,7 +206,8 @@ fn put_text_line<K: Sink>(number: u64, told: u64, out: &mut K) -> Ending
     }
 }
 
-/// Ends a command whose assembly text is refused: writes the line of the refusal.
+/// Ends a command whose assembly text is refused: writes the line of the refusal. If memory ran out, nothing is
+/// written.
 pub(crate) fn refuse_text<K: Sink>(error: AsmError, out: &mut K) -> Ending
     ensures { Ends result (IsTextRefused error) (K.log out.old) (K.log out.new) ⊥ }
 {

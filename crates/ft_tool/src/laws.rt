@@ -22,11 +22,11 @@ use ft_link_map::lines_are_one;
 use ft_scope::one_text_has_one_outcome;
 use ft_script::commands_are_one;
 
-/// If the files and the script are known, the words have at most one answer, pieces and status included. For `compile`
-/// and `exec`, the definition leaves open which object stands for a source, so several answers are possible: two
-/// answers of `compile` are the same refusal, or one object each; two answers of `exec` are the same refusal, or each
-/// has status 0 or 9 and the pieces of one are a prefix of the other's, and they are equal if both have status 0.
-/// Neither command ever ends with status 8.
+/// If the files and the script are known, the words have at most one answer, pieces and status included. The exceptions
+/// are `compile` and `exec`, since the definition leaves open which object stands for a source. Two answers of
+/// `compile` are the same refusal, or one object each. Two answers of `exec` are the same refusal, or each has status 0
+/// or 9 and the pieces of one are a prefix of the other's; if both have status 0, the answers are equal. Neither
+/// command ever ends with status 8.
 pub fn words_have_one_answer()
     ensures { (words : List Word) (request : Request) (files : Files) (script : List ℕ) (a b : Answer) → Asks words request
         → IsAnswer words (Some files) (Some script) a → IsAnswer words (Some files) (Some script) b → AreAnswers request a b }

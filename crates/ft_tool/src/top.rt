@@ -131,12 +131,12 @@ pub fn tool<F: Shelf, I: Source, K: Sink>(
     ensures load_failure_puts_nothing { result ≡ 3 → K.log out.new ≡ K.log out.old }
 
     // A put failed and was the last: all earlier pieces were written, and a prefix of the piece whose put failed. The
-    // count of failed puts rose.
+    // count of failed puts rose or is 2^64 - 1.
     ensures write_failure { result ≡ 4 →
         BreaksOff (IsAnswer (map string_bytes words.now) (F.log shelf.old).files (I.log script.old).left)
         (K.log out.old) (K.log out.new) }
 
-    // Nothing was written. This status is meant for running out of memory.
+    // Nothing was written. This status is meant to report that memory ran out.
     ensures no_memory_puts_nothing { result ≡ 5 → K.log out.new ≡ K.log out.old }
 
     // The count of failed puts is unchanged with any status but 4.

@@ -33,7 +33,7 @@ fn put_code_line<K: Sink>(number: u32, block: u32, index: u32, out: &mut K) -> E
     }
 }
 
-/// Ends a link whose modules are refused: writes the line of the refusal.
+/// Ends a link whose modules are refused: writes the line of the refusal. If memory ran out, nothing is written.
 pub(crate) fn refuse_modules<K: Sink>(error: LinkError, out: &mut K) -> Ending
     ensures { Ends result (IsUnlinkedBy error) (K.log out.old) (K.log out.new) ⊥ }
 {
@@ -54,7 +54,7 @@ pub(crate) fn refuse_modules<K: Sink>(error: LinkError, out: &mut K) -> Ending
     }
 }
 
-/// Ends a link whose map is refused: writes the line of the refusal.
+/// Ends a link whose map is refused: writes the line of the refusal. If memory ran out, nothing is written.
 pub(crate) fn refuse_map<K: Sink>(error: MapError, out: &mut K) -> Ending
     ensures { Ends result (IsMapRefused error) (K.log out.old) (K.log out.new) ⊥ }
 {
