@@ -91,7 +91,7 @@ abbrev pub is_atom_form : Option Form → Bool
 is_atom_form (Some (integer_form (plus (times a one) (suc zero) nought))) = true
 is_atom_form o = false
 
--- likewise for the number of an atom
+-- the number of an atom, or 0; more than the list's length if there is no atom with this number
 abbrev pub atom_reach : List Form → ℕ → ℕ
 atom_reach fs zero = 0
 atom_reach fs (suc k) = k + 1 + (if is_atom_form (slice_get fs k) then 0 else length fs)
