@@ -110,7 +110,7 @@ pub integer_seen : (es xs : List Entry) (fs : List Normal) (f : Form) → forms_
     IsIntegerAt (forms_of xs) f.0
 integer_seen es xs fs f v e h = let g : forms_of xs ≡ fs = ap forms_of e ∙ v in rw g h.found
 
--- so is a held memory
+-- a memory that is held is a memory among the forms of the entries
 pub memory_seen : (es xs : List Entry) (fs : List Normal) (f : Form) → forms_of es ≡ fs → xs ≡ es → IsMemory fs f →
     IsMemoryAt (forms_of xs) f.0
 memory_seen es xs fs f v e h = let g : forms_of xs ≡ fs = ap forms_of e ∙ v in rw g h.found
