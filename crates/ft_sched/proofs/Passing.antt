@@ -198,7 +198,7 @@ none_behind rows start front i rest n h k p =
     absurd (cc))
     (cases_lt (suc k) (length front))
 
--- no exchange is left up to a leading instruction and those that it passed
+-- no exchange is left up to and including a leading instruction and those that it passed
 pub none_passed : (rows start : ℕ) (front ws : List Instr) (i : Instr) (rest : List Instr) → list_all is_trailing ws
     ≡ true → is_leading i ≡ true → Stuck rows start front i →
     HasNone rows start (length front + length ws) (front ++ (ws ++ i ∷ rest)) →
