@@ -99,7 +99,7 @@ forms_onto-kept fs (x ∷ es) k l =
     let m : k < length g = omega (arith, length-append fs (entry_form fs x ∷ [])) in
     forms_onto-kept g es k m ∙ get_front fs (entry_form fs x ∷ []) k l
 
--- the form of entry i of these is in place length fs + i, if the entry names only earlier forms
+-- the form of entry i of these is at index length fs + i, if the entry names only earlier forms
 forms_onto-at : (fs hs : List Form) (es : List Entry) (i : ℕ) (e : Entry) → i < length es →
     reach_of_entry hs (get_or es i e) ≤ length fs + i
     → slice_get (forms_onto fs es) (length fs + i) ≡ Some (entry_form (forms_onto fs es) (get_or es i e))
@@ -118,7 +118,7 @@ forms_onto-at fs hs (x ∷ es) (suc i) e l r =
     let s : length fs + suc i ≡ length g + i = omega arith in
     rw s h
 
--- the form in place i is that of entry i
+-- the form at index i is that of entry i
 pub form_at : (es : List Entry) (i : ℕ) (e : Entry) → NamesEarlier es → i < length es → slice_get (forms_of es) i
     ≡ Some (entry_form (forms_of es) (get_or es i e))
 form_at es i e h l = let z : 0 + i ≡ i = omega arith in
@@ -129,7 +129,7 @@ pub form_read : (es : List Entry) (i : ℕ) (e x : Entry) → NamesEarlier es �
     slice_get (forms_of es) i ≡ Some (entry_form (forms_of es) x)
 form_read es i e x h l r k = form_at es i e h l ∙ ap (λ (y : Entry). Some (entry_form (forms_of es) y)) (sym r ∙ k)
 
--- the polynomial in place i is that of the entry that the code has read there
+-- the polynomial at index i is that of the entry that the code has read there
 pub polynomial_read : (es : List Entry) (i : ℕ) (e x : Entry) → NamesEarlier es → i < length es → e ≡ get_or es i e → e
     ≡ x → polynomial_of (entry_form (forms_of es) x) ≡ polynomial_at (forms_of es) i
 polynomial_read es i e x h l r k = sym (ap (λ (o : Option Form). polynomial_of (unwrap_or o (integer_form nought)))
@@ -142,7 +142,7 @@ pub lone_read : (es : List Entry) (i : ℕ) (e : Entry) (a : Shape) → NamesEar
 lone_read es i e a h l r k = let p : polynomial_at (forms_of es) i ≡ alone (atom_form (forms_of es) a) =
     sym (polynomial_read es i e (Lone a) h l r k) in rw (add-one, p) refl
 
--- the updates in place i are those of the entry that the code has read there
+-- the updates at index i are those of the entry that the code has read there
 pub updates_read : (es : List Entry) (i : ℕ) (e x : Entry) → NamesEarlier es → i < length es → e ≡ get_or es i e → e
     ≡ x → updates_at (forms_of es) i ≡ updates_of (entry_form (forms_of es) x)
 updates_read es i e x h l r k = ap (λ (o : Option Form). updates_of (unwrap_or o (integer_form nought)))
