@@ -83,7 +83,7 @@ pub data AreTied (c : Colour) (r x : Ran) : Type 0 where
   together : AreAlike c r.state x.state → r.outputs ≡ x.outputs → AreTied c r x
   over : x.state.status ≡ Detected → IsPrefix x.outputs r.outputs → AreTied c r x
 
--- a prefix of a list is a prefix of any continuation of it
+-- a prefix of a list stays a prefix when the list is extended
 prefix_more : (a b rest : List Output) → IsPrefix a b → IsPrefix a (b ++ rest)
 prefix_more a b rest h = begins_on a b (b ++ rest) h (rest, refl)
 
