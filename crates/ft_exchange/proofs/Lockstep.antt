@@ -260,7 +260,7 @@ module _ (o : Object) (b k : ℕ) (spelled : IsSpellable o) (acc : IsAccepted o)
         not_fetched = λ go i f. cc;
       })))
 
-  -- a state that is not running is such a shared state
+  -- a state that is not running is `Clear`
   clear_stopped : (x : State) → x.status ≢ Running → Clear n0 x
   clear_stopped x h = record { not_between = λ go e. h go; not_fetched = λ go i f e. h go }
 
