@@ -172,7 +172,7 @@ basic_sound (suc n) w basic e = elim (of_branch (bytes_eq (take 4 w) (codes "ref
       | inr plain ↦ plain_sound (suc n) w basic plain
     ]
 
--- a base does not begin with `ref:`
+-- the word of a base is read as that base without refs
 plain_again : (n : ℕ) (base : Base) → FitsBase base → basic_in n (base_word base) ≡ Some (plain_basic base)
 unfolding basic_in
 plain_again zero Int h = refl

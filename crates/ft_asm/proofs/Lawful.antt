@@ -42,7 +42,7 @@ module _ (is : List Instr) (substs : List ℕ) where
       ∙ sym (map-append (code_of substs) (slice_range is b.start d.start) (drop d.start is))
       ∙ ap (map (code_of substs)) (sym (drop_split is b.start d.start (ends_within least b (d ∷ ds) h).0))
 
-  -- the parts of blocks give the blocks back
+  -- blocks are recovered from their parts
   blocks_back : (least : ℕ) (b : Block) (bs : List Block) → AreBlocks (length is) least (b ∷ bs) →
       blocks_from b.start (parts_of is substs (b ∷ bs)) ≡ b ∷ bs
   blocks_back least b [] h = refl
@@ -74,7 +74,8 @@ module _ (is : List Instr) (substs : List ℕ) where
 
 -- OBJECTS
 
--- if the first block begins at instruction 0, the parts of all blocks contain all instructions and give the blocks back
+-- if the first block begins at instruction 0, the parts of all blocks contain all instructions, and the blocks are
+-- recovered from them
 parts_all : (is : List Instr) (substs : List ℕ) (bs : List Block) → BeginAtZero bs → AreBlocks (length is) 0 bs →
     (flat_map codes_of (parts_of is substs bs) ≡ map (code_of substs) is) × (blocks_from 0 (parts_of is substs bs) ≡ bs)
 parts_all is substs [] z h = absurd z

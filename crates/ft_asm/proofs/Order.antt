@@ -73,7 +73,7 @@ module _ (cs : List Cell) (ns : List Node) where
       ∙ regs_walked ts t [] t.regs (map pend_line t.queue ++ rest)
       ∙ pends_walked ts t t.regs [] t.queue rest
 
-  -- where more code types lead
+  -- the draft after more code types
   abbrev types_lead : List CodeType → CodeType → List CodeType → Draft
   types_lead ts t [] = InType cs ns ts t
   types_lead ts t (u ∷ us) = types_lead (ts ++ t ∷ []) u us

@@ -142,7 +142,7 @@ pub head_at : (o : Object) (t : ℕ) (u : CodeType) (head : TypeHead) → slice_
     option_map type_head_of (slice_get o.types t) ≡ Some head → head ≡ type_head_of u
 head_at o t u head e f = let both : Some (type_head_of u) ≡ Some head = ap (option_map type_head_of) (sym e) ∙ f in cc
 
--- its register rows and queue rows
+-- `reg_rows` and `queue_rows` find the rows of the code type with this number
 pub regs_at : (o : Object) (t : ℕ) (u : CodeType) → slice_get o.types t ≡ Some u → reg_rows o t ≡ u.regs
 regs_at o t u e = ap (λ x. unwrap_or (option_map regs_of x) []) e
 

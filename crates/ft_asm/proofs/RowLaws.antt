@@ -76,7 +76,7 @@ abbrev pub operands_of : (ks : List Kind) → Values ks → List Operand
 operands_of [] vs = []
 operands_of (k ∷ ks) vs = operand_of k vs.0 ∷ operands_of ks vs.1
 
--- the operands that were read
+-- the words begin with operands of these kinds, and `a` is the function applied to the values of these operands
 pub record AreMade {A : Type 0} (ks : List Kind) (made : Taking ks A) (ws : List (List ℕ)) (a : A)
     (rest : List (List ℕ)) : Type 0 where
   pub values : Values ks

@@ -153,7 +153,7 @@ one_order text n m (inl fault) (inr lacks) = absurd (no_first text n (of_order t
 one_order text n m (inr lacks) (inl other) = absurd (no_first text m (of_order text m other) lacks.begin)
 one_order text n m (inr lacks) (inr too) = lacks.here ∙ sym too.here
 
--- any two objects that a text reads as break the same first rule
+-- any two objects that a text reads as break the same first rule, or none
 one_judged : (text : List ℕ) (o p : Object) (a b : Option ObjectError) → Reads text o → Reads text p → rule_broken o
     ≡ a → rule_broken p ≡ b → a ≡ b
 one_judged text o p a b r s e f = sym e ∙ ap rule_broken (one_reading text o p r s) ∙ f

@@ -1,5 +1,5 @@
--- A text has at least as many bytes as its tables have rows and its names have bytes. So its counts are bounded, and
--- its numbers fit.
+-- The rows of a text's tables and the bytes of its names are together at most as many as the bytes of the text. So its
+-- counts are bounded, and its numbers fit.
 use Rattle.std.proofs.Common.{◌≡◌, ℕ, suc, ◌+◌, ◌^◌, ◌<◌, ◌≤◌, ◌==◌, Bool, true, false, List, [], ◌∷◌, ◌++◌, length}
 use Rattle.std.proofs.Common.{map, decimal, refl, ap, sym, ◌∙◌, subst, arith}
 use Rattle.std.specs.Prelude.{if◌then◌else◌}

@@ -1,4 +1,4 @@
--- Written lines are read back as the lines that they were written for.
+-- Lines that fit are read back from their text.
 use Rattle.std.proofs.Common.{◌≡◌, ℕ, zero, suc, ◌+◌, ◌%◌, ◌^◌, ◌<◌, ◌≤◌, ◌==◌, Bool, true, false, not, List, []}
 use Rattle.std.proofs.Common.{◌∷◌, ◌++◌, length, map, decimal, codes, refl, ap, sym, ◌∙◌, subst, append_assoc, arith}
 use Rattle.std.specs.Prelude.{if◌then◌else◌, ◌&&◌, nat_lt, Option, Some, None}
@@ -102,7 +102,7 @@ refs_is_word (suc n) base h = word_on (codes "ref:") (refs_word n base) (
   (refl, (refl, (refl, (refl, tt)))),
 ) (refs_is_word n base h).1
 
--- these are words
+-- each of these is a word
 abbrev pub AreWords : List (List ℕ) → Type 0
 AreWords ws = AllByRecursion IsAnyWord ws
 
@@ -141,7 +141,7 @@ instr_begins i = refl
 
 -- OPERANDS
 
--- the operands of a node that fits fit, and so do those of an instruction
+-- if a node fits, so do its operands; likewise for an instruction
 pub shape_operands : (shape : Shape) → FitsShape shape → FitsOperands (shape_form shape)
 shape_operands (shapes.Op op a b) h = assumption
 shape_operands shape h = assumption

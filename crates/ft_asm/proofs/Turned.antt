@@ -108,7 +108,7 @@ ends_lacks text number d here h e = record {
   none = open_reads text d h (not_done d e);
 }
 
--- if nothing is left of the text, its lines are those before
+-- if nothing is left of the text, the lines read so far are all its lines
 pub all_read : (text rest : List ℕ) (before : List (List ℕ)) → lines_of text ≡ before ++ lines_of rest → rest ≡ [] →
     lines_of text ≡ before
 all_read text rest before e f = e ∙ ap (λ r. before ++ lines_of r) f ∙ append-nil before

@@ -47,7 +47,7 @@ Holds t (InType cs ns ts u) = (t.place ≡ places.InType u.ints u.memory) × Are
 Holds t (InBlock cs ns ts ps p) = (t.place ≡ places.InBlock) × HasNoRows t × IsTables t cs ns ts (ps ++ p ∷ [])
 Holds t (Done l) = (t.place ≡ places.Done l.entry) × HasNoRows t × IsTables t l.cells l.nodes l.types l.parts
 
--- the tables hold what the lines so far and this one say, or this line is not allowed there
+-- the tables hold what the lines so far and this one say, or this line is not allowed after them
 abbrev pub Adds : Bool → tables.Draft → Draft → Line → Type 0
 Adds true t d line = (e : Draft) × (next d line ≡ Some e) × Holds t e
 Adds false t d line = next d line ≡ None

@@ -9,7 +9,7 @@ use Rattle.ft_asm.specs.declared.asm_error.AsmError.{AsmError}
 use Rattle.ft_asm.specs.declared.asm_error.AsmError.TheVariants as errors
 use Rattle.ft_asm.specs.Reads.{Answer, Is, TooLong, Text, Order, Broken, Applies}
 
--- a refusal applies to the text; running out of memory claims nothing
+-- a refusal applies to the text; `NoMemory` says nothing about the text
 abbrev pub IsRefusal : List ℕ → AsmError → Type 0
 IsRefusal text (errors.Text line) = Applies text (Text line)
 IsRefusal text (errors.Order line) = Applies text (Order line)

@@ -7,7 +7,7 @@ use Rattle.ft_text.specs.Lines.{with_byte}
 abbrev pub is_blank : ℕ → Bool
 is_blank byte = (byte == 32) || (byte == 9)
 
--- whether bytes form a word: there is at least one, and none is a blank or a line feed
+-- whether a byte may be in a word: it is neither a blank nor a line feed. A word has at least one byte
 abbrev pub is_part : ℕ → Bool
 is_part byte = not (is_blank byte) && not (byte == 10)
 

@@ -20,9 +20,9 @@ pub enum Line {
     Node(Node),
     /// A code type, whose rows follow: the number of its integer variables, and the node of its memory.
     Type { ints: u8, memory: u32 },
-    /// A register row of the last type.
+    /// A register row of the last code type.
     Reg(RegType),
-    /// A queue row of the last type: the nodes of an address and of a value.
+    /// A queue row of the last code type: the nodes of an address and of a value.
     Pend { address: u32, value: u32 },
     /// The start of a block of this code type.
     Block(u32),

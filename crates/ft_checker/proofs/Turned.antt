@@ -156,14 +156,14 @@ or_refused y z (CellType k) h = rw h refl
 or_refused y z (Refused b i why) h = rw h refl
 or_refused y z NoMemory h = tt
 
--- an exit with a refusal names the right one
+-- returning the right refusal is a correct result
 pub judges_exit : {A : Type 0} (r : Result A CheckError) (e : CheckError) (x y : Option Refusal) →
     IsErrAnd r (λ f. f ≡ e) → x ≡ y → IsRefusalOf y e → Judges x r
 judges_exit (Ok a) e x y h s k = absurd h
 judges_exit (Err f) e x y h s k = subst (λ (z : CheckError).
     IsRefusalOf x z) (sym h) (subst (λ (z : Option Refusal). IsRefusalOf z e) (sym s) k)
 
--- an exit because memory ran out claims nothing
+-- so is returning because memory ran out
 pub judges_stop : {A : Type 0} (r : Result A CheckError) (x : Option Refusal) → IsErrAnd r (λ f. f ≡ NoMemory) →
     Judges x r
 judges_stop (Ok a) x h = absurd h
@@ -171,7 +171,7 @@ judges_stop (Err f) x h = subst (λ (z : CheckError). IsRefusalOf x z) (sym h) t
 
 -- THE WALK OF A BLOCK
 
--- the code begins the walk of a block as defined
+-- the walk that the code begins is the defined walk of the block
 pub walk_begins : (o : Object) (b : ℕ) (y : Block) (past k : ℕ) (c : Context) → slice_get o.blocks b ≡ Some y → past
     ≡ block_end o b → c ≡ start_context o y.code_type → k ≡ 0 → walk o c k (slice_range o.instrs y.start past)
     ≡ walk o (start_context o y.code_type) 0 (block_instrs o b)

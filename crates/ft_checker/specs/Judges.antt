@@ -14,7 +14,7 @@ use Rattle.ft_static.specs.Form.{Form as Normal, updates}
 use Rattle.ft_typing.specs.Context.{start_context}
 use Rattle.ft_contexts.specs.Contexts.{HoldsForms, NamesTypes, context_in, pending_count}
 
--- what an error says: which refusal it is; running out of memory says nothing
+-- what an error says: which refusal it is; `NoMemory` says nothing
 abbrev pub IsRefusalOf : Option Refusal → CheckError → Type 0
 IsRefusalOf x EntryType = x ≡ Some refusals.EntryType
 IsRefusalOf x (CellType k) = x ≡ Some (refusals.CellType k)

@@ -66,7 +66,7 @@ fn turn<P: Program, L: Ledger>(
     }
 }
 
-/// The result for an instruction whose rule does not apply.
+/// The checker's error when an instruction is refused or memory runs out.
 fn refused(block: u32, index: u32, error: RuleError) -> CheckError
     ensures { (x : Option (ℕ × Premise)) → StopsAt x index error → IsRefusalOf (option_map (λ r. Refused block r.0 r.1) x) result }
 {

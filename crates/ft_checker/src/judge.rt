@@ -73,7 +73,7 @@ fn check_from_0<'a, P: Program, L: Ledger>(
     check(alloc, program, &mut steps)
 }
 
-/// The same check, for callers that do not count steps.
+/// The check that `check` makes, for callers that do not count steps.
 pub fn check_uncounted<'a, P: Program>(
     alloc: Global,
     program: &'a P,

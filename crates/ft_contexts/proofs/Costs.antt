@@ -30,11 +30,11 @@ pub cost_rises : (o : Object) (u v : ℕ) → u ≤ v → tree_cost o u ≤ tree
 unfolding tree_cost
 cost_rises o u v l = mul-le-mul_left (length o.nodes) (omega arith)
 
--- one more tree is within the bound for one more
+-- after the steps for one more tree, the total is within the bound for one more tree
 pub one_tree : (s t r i j c : ℕ) → s ≤ i + j * c → t ≤ s + c → r ≡ j + 1 → t ≤ i + r * c
 one_tree s t r i j c h k e = rw e (let m : (j + 1) * c ≡ j * c + c = omega arith in rw m (omega (arith, h, k)))
 
--- what is within the bound for j trees is within that for r trees, if j is at most r
+-- steps within the bound for j trees are within the bound for r trees, if j is at most r
 pub some_trees : (s i j r c : ℕ) → s ≤ i + j * c → j ≤ r → s ≤ i + r * c
 some_trees s i j r c h l = let m : j * c ≤ r * c = mul-le-mul_right c l in omega (arith, h, m)
 
@@ -60,17 +60,17 @@ few_queue_rows o t h l =
     let rows : queue_rows o t ≡ x.0.queue = ap (λ (y : Option CodeType). unwrap_or (option_map queue_of y) []) x.1 in
     rw rows k.queue_length
 
--- a tree with the variables unchanged is within the bound for a memory without updates
+-- with the variables unchanged, the steps for a tree are within the bound for a memory without updates
 pub own_steps : (o : Object) (fs : List Normal) (n : ℕ) (v : Variables) (s t : ℕ) → AreOwn fs n v →
     t ≤ s + tree_cost o (updates (updates_held fs v.memory)) → t ≤ s + tree_cost o 0
 own_steps o fs n v s t own h = let z = updates_found fs v.memory unchanged own.memory in rw z at h
 
--- a tree under a substitution is still within its bound after the list of forms has grown
+-- under a substitution, the bound on the steps for a tree stays the same when the list of forms grows
 pub put_steps : (o : Object) (fs gs : List Normal) (v : Variables) (s t : ℕ) → Keeps fs gs → HoldsVariables fs v →
     t ≤ s + tree_cost o (updates (updates_held gs v.memory)) → t ≤ s + tree_cost o (updates (updates_held fs v.memory))
 put_steps o fs gs v s t k w h = let z = memory_stays fs gs v.memory k w.memory in rw z at h
 
--- two more trees are within the bound for one more pair of trees
+-- after the steps for two more trees, the total is within the bound for one more pair of trees
 pub two_trees : (s t r i j c : ℕ) → s ≤ i + j * (2 * c) → t ≤ s + c → r ≤ t + c → r ≤ i + (j + 1) * (2 * c)
 two_trees s t r i j c h k l = let m : (j + 1) * (2 * c) ≡ j * (2 * c) + 2 * c = omega arith in
     rw m (omega (arith, h, k, l))

@@ -113,12 +113,12 @@ set_cases (y ∷ xs) zero k (suc q) x e P h l = l e
 set_cases (y ∷ xs) (suc r) k zero x e P h l = l e
 set_cases (y ∷ xs) (suc r) k (suc q) x e P h l = set_cases xs r k q x e P h l
 
--- the forms of registers are held after one with a held form is noted
+-- after a register with a held form is noted, the forms of all registers are held
 pub registers_held_set : (fs : List Normal) (xs : List (Option RegForm)) (r : ℕ) (k : RegForm) → HoldsRegisters fs xs →
     IsInteger fs k.form → HoldsRegisters fs (set xs r (Some k))
 registers_held_set fs xs r k h i q x e = set_cases xs r k q x e (λ y. IsInteger fs y.form) i (λ f. h q x f)
 
--- the registers name existing code types after one with an existing code type is noted
+-- after a register with an existing code type is noted, all registers name existing code types
 pub registers_typed_set : (types : ℕ) (xs : List (Option RegForm)) (r : ℕ) (k : RegForm) → RegistersNameTypes types xs →
     IsBase types k.basic.base → RegistersNameTypes types (set xs r (Some k))
 registers_typed_set types xs r k h i q x e = set_cases xs r k q x e (λ y. IsBase types y.basic.base) i (λ f. h q x f)

@@ -59,7 +59,7 @@ impl Context {
         Context::start_over(alloc, program, t, &mut own, forms, steps)
     }
 
-    /// The same context, over variables that earlier blocks may have used.
+    /// The same context as `start` makes, over variables that earlier blocks may have used.
     pub fn start_over<P: Program, L: Ledger>(
         alloc: Global,
         program: &P,

@@ -83,7 +83,7 @@ module _ (o : Object) (b k : ℕ) (spelled : IsSpellable o) (acc : IsAccepted o)
   at : Placed o b k p.first p.second
   at = placed o b k p
 
-  -- both have fixed instructions at the same addresses
+  -- both objects have fixed instructions at the same addresses
   meets_same : (st : Status) (a : ℕ) → meets_by st (instr_at s' a) ≡ meets_by st (instr_at o a)
   meets_same Done a = refl
   meets_same Detected a = refl

@@ -244,7 +244,8 @@ fewer : (q : Pending) → nat_lt (length q) 8 ≡ true → nat_lt (length (drop 
 fewer [] h = h
 fewer (e ∷ q) h = lt-ltb (length q) 8 (let l = ltb-true (suc (length q)) 8 h in omega arith)
 
--- in either order, the two lead to the same core; the first has the same output, and the second has none
+-- both orders of the two lead to the same core; the first instruction has the same output in both, and the second has
+-- none
 pub record Meets (m m1 m2 : Core) (first second : Instr) (x y : Option Output) : Type 0 where
   pub last : Core
   pub second_last : Does second m1 last None

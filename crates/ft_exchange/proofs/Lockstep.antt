@@ -178,7 +178,7 @@ module _ (o : Object) (b k : ℕ) (spelled : IsSpellable o) (acc : IsAccepted o)
   at : Placed o b k p.first p.second
   at = placed o b k p
 
-  -- at any other address, both have the same instruction
+  -- at any other address, both objects have the same instruction
   same_instr : (a : ℕ) → a ≢ suc n0 → a ≢ suc (suc n0) → instr_at s' a ≡ instr_at o a
   same_instr zero h l = refl
   same_instr (suc i) h l = get_other o.instrs n0 i (λ e. h (ap suc e)) (λ e. l (ap suc e))
@@ -260,7 +260,7 @@ module _ (o : Object) (b k : ℕ) (spelled : IsSpellable o) (acc : IsAccepted o)
         not_fetched = λ go i f. cc;
       })))
 
-  -- a state that is not running is such a shared state
+  -- a state that is not running is `Clear`
   clear_stopped : (x : State) → x.status ≢ Running → Clear n0 x
   clear_stopped x h = record { not_between = λ go e. h go; not_fetched = λ go i f e. h go }
 

@@ -106,7 +106,7 @@ pub not_written : (i : Instr) (w : Option ℕ) (q r : ℕ) → w ≡ Some r → 
 not_written i w q r e f h = subst (λ u. is_register u r
     ≡ false) f (or_right_false (reads i r) (is_register (written i) r) (subst (λ u. leaves_alone i u ≡ true) e h))
 
--- so each register that it reads is another one
+-- so each register that it reads is a different one
 pub read_other : (i : Instr) (r q : ℕ) → reads i r ≡ false → reads i q ≡ true → (q == r) ≡ false
 read_other i r q no_read h = by_test (q == r) refl
   where

@@ -15,7 +15,8 @@ use Rattle.ft_typing.specs.RowTests.{known, others}
 use Rattle.ft_typing.proofs.TypingRows.{Holds, row_holds}
 use Rattle.ft_exchange.specs.Exchange.{queue_after}
 
--- the static queues before and after an instruction have the lengths that counting stores gives
+-- counting stores from the static queue before an instruction or from the one after it leads to the same length,
+-- whatever instructions follow
 abbrev pub Counts : Context → Instr → Context → Type 0
 Counts c i d = (is : List Instr) → queue_after (length c.queue) (i ∷ is) ≡ queue_after (length d.queue) is
 
@@ -28,7 +29,7 @@ queue_after_row q (Goes c) = c.queue
 queue_after_row q Ends = q
 queue_after_row q (Fails p) = q
 
--- without its oldest pair a static queue is shorter by one
+-- a static queue that is not empty is shorter by one without its oldest pair
 length-others : (q : List FormPair) → not (is_empty q) ≡ true → length q ≡ suc (length (others q))
 unfolding is_empty
 length-others [] h = cc

@@ -71,7 +71,7 @@ pub record Gave (r : ℕ) (c : Context) (u : Option Typed) (x : Outcome) : Type 
   pub failing : Premise
   pub row_is : x ≡ write_row r c u failing
 
--- a write whose row continues only if a test passes is such a row
+-- a row that gives register r a type if a test passes, and fails otherwise, is such a row
 gave_if : (r : ℕ) (c : Context) (p : Premise) (t : Typed) (b : Bool) →
     Gave r c (if b then Some t else None) (if b then Goes (with_type r t c) else Fails p)
 unfolding write_row

@@ -17,7 +17,7 @@ pub fn exchanges_keep_acceptance()
     ensures accepted { (o : Object) (b k : ℕ) → IsSpellable o → IsAccepted o → IsPermitted o b k → IsAccepted (after_exchange o b k) }
 {}
 
-/// So do any number of permitted exchanges, one after another.
+/// Any number of permitted exchanges, one after another, keep an accepted object spellable and accepted.
 pub fn schedules_are_accepted()
     ensures spellable { (o s : Object) → IsSpellable o → IsAccepted o → ComesFrom o s → IsSpellable s }
     ensures accepted { (o s : Object) → IsSpellable o → IsAccepted o → ComesFrom o s → IsAccepted s }

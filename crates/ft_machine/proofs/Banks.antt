@@ -27,7 +27,7 @@ first test t u old new e holds h = record {
       ap (λ v. if v then t (doing old g b f) w else u (doing old g b f) w) (holds g b f) ∙ h.does g b f w;
 }
 
--- if it fails, the choice does what its second case does
+-- if the condition fails, the choice does what its second case does
 pub second : (test : State → Bool) (t u : State → List Wild → Stepping) (old new : Bank) (e : Effect) →
     ((g b : ℕ) (f : Option Instr) → test (doing old g b f) ≡ false) → DoesQuietly u old new e
     → DoesQuietly (λ s w. if test s then t s w else u s w) old new e

@@ -116,7 +116,7 @@ module _ {T : Type 0} (outlet : Ghosts T) where
       subst (λ zs. outlet.heard first zs b t2) (append_assoc before xs ys)
       (k first (before ++ xs) (h first before given))
 
-  -- after a step without an output, the outlet is unchanged and the machine still running
+  -- after a quiet step, the outlet is unchanged and the machine is still running
   pub passes_quiet : (t : T) → PassesOn outlet Quiet t t pauses.Running
   passes_quiet t = record { status_is = refl; given = λ e. absurd (cc); hears = hears_none t; still = λ x h. h }
 

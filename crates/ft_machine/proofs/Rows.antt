@@ -21,7 +21,7 @@ takes_first : (b : Bool) (t u : List Wild → Stepping) (s : State) (answer : St
     TakesQuietly t s answer → TakesQuietly (λ w. if b then t w else u w) s answer
 takes_first b t u s answer holds h = subst (λ v. TakesQuietly (λ w. if v then t w else u w) s answer) (sym holds) h
 
--- if it fails, the choice takes the step of its second case
+-- if the condition fails, the choice takes the step of its second case
 takes_second : (b : Bool) (t u : List Wild → Stepping) (s : State) (answer : Stepped) → b ≡ false →
     TakesQuietly u s answer → TakesQuietly (λ w. if b then t w else u w) s answer
 takes_second b t u s answer fails h = subst (λ v. TakesQuietly (λ w. if v then t w else u w) s answer) (sym fails) h

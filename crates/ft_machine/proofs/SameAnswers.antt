@@ -1,4 +1,4 @@
--- Equal answers to wild loads.
+-- The code's test for equal answers to wild loads is exact.
 use Rattle.std.proofs.Common.{◌≡◌, Bool, List, refl, ap, Decides}
 use Rattle.std.proofs.lemmas.Bool.Decides.{Decides-eqb, Decides-like}
 use Rattle.std.proofs.lemmas.Slice.Eq.{slice_eq-Decides}

@@ -168,7 +168,7 @@ pub run_first : (o : Object) (strike : Option Strike) (w w0 : List Wild) (s0 : S
 run_first o strike w w0 s0 m begun answers h = run_start o strike w m h ∙ ap (λ s. span o m s w) (sym begun)
     ∙ ap (λ v. span o m s0 v) (sym answers)
 
--- after its strike, it is a span from a state equal to the struck one
+-- after its strike, a run is a span from a state equal to the struck one
 pub run_second : (o : Object) (strike : Option Strike) (w : List Wild) (s1 s2 : State) (w1 : List Wild) (before m : ℕ) →
     s1 ≡ (run o strike w before).state → w1 ≡ (run o strike w before).wild
     → s2 ≡ struck_before strike before s1 → ((j : ℕ) → before < j → Spares strike j) → 0 < m →

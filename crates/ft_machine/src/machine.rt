@@ -103,7 +103,7 @@ impl Machine {
         self.bank.cells.same_as(&other.bank.cells)
     }
 
-    /// Whether another machine agrees in all but its registers, queue and cells.
+    /// Whether another machine agrees with this one in all but its registers, queue and cells.
     fn stands_as(&self, other: &Machine) -> bool
         ensures { Decides result (Stands self.now other.now) }
     {

@@ -5,7 +5,7 @@ ghost use Rattle.ft_machine.specs.Hears.{Hears};
 
 use ft_isa::Output;
 
-/// What happens at each output of a run. The loop that runs the machine asks it whether the run goes on.
+/// Takes each output of a run, and tells the loop that runs the machine whether the run goes on.
 pub trait Outlet {
     // From the first state, the outlet took these outputs one by one and went on after each but the last. The `Bool`
     // says whether it went on after the last, too.

@@ -23,7 +23,7 @@ add_swap m n c d p l r w = known (add_term m c (add_term n d p)) (add_term n d (
     ∙ sym (weigh_add f s n d (add_term m c p) ∙ mods_both (f n d) (f n d) (weigh f (add_term m c p)) (f m c + weigh f p)
     refl (weigh_add f s m c p))))
 
--- two terms of one monomial may be added as one
+-- two terms with the same monomial may be added as one
 pub add_merge : (m : Monomial) (c d : ℕ) (p : Polynomial) → c < 2 ^ 64 → d < 2 ^ 64 → Rises p →
     add_term m ((c + d) % 2 ^ 64) p ≡ add_term m c (add_term m d p)
 add_merge m c d p l r w = known (add_term m ((c + d) % 2 ^ 64) p) (add_term m c (add_term m d p))
@@ -64,7 +64,7 @@ total_none p w = known (total p nought) p (rises_total p nought w tt) w
     (λ k. weigh_total (share k) (share_linear k) p nought
     ∙ ap (λ t. t % 2 ^ 64) (let e : weigh (share k) p + 0 ≡ weigh (share k) p = omega arith in e))
 
--- adding a term to the second factor adds its product to the sum
+-- adding a term to the second factor adds the product of both terms to the sum
 pub multiple_add : (m n : Monomial) (c d : ℕ) (q r : Polynomial) → d < 2 ^ 64 → Rises r →
     add_multiple m c (add_term n d q) r ≡ add_multiple m c q (add_term (join m n) ((c * d) % 2 ^ 64) r)
 multiple_add m n c d q r l v = known (add_multiple m c (add_term n d q) r)
@@ -84,7 +84,7 @@ multiple_add m n c d q r l v = known (add_multiple m c (add_term n d q) r)
     ∙ mods_both (times_terms f q m c) (times_terms f q m c) (weigh f (add_term (join m n) ((c * d) % 2 ^ 64) r))
     (z + weigh f r) refl (weigh_add f s (join m n) ((c * d) % 2 ^ 64) r))))
 
--- adding a term to the first factor adds its products to the sum
+-- adding a term to the first factor adds its products with the second factor to the sum
 pub products_add : (m : Monomial) (c : ℕ) (p q r : Polynomial) → Rises r → add_products (add_term m c p) q r
     ≡ add_products p q (add_multiple m c q r)
 products_add m c p q r v = known (add_products (add_term m c p) q r) (add_products p q (add_multiple m c q r))

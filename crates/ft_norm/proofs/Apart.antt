@@ -102,7 +102,7 @@ module _ (fs : List Form) (ps qs : List Term) (a : AreOver fs ps) (b : AreOver f
       let y = weigh_negation k (polynomial_form fs qs) in
       omega (arith, x, y)
 
-  -- the difference is that of the constants, if the others are the same
+  -- if the other terms are the same, the polynomials differ by the difference of the constants
   same_others : polynomial_form fs (others ps) ≡ polynomial_form fs (others qs)
       → difference ≡ add_term one ((constant_among ps + (2 ^ 64 - constant_among qs % 2 ^ 64) % 2 ^ 64) % 2 ^ 64) nought
   same_others s = known difference (add_term one e nought) difference_rises
@@ -188,7 +188,7 @@ module _ (fs : List Form) (ps qs : List Term) (a : AreOver fs ps) (b : AreOver f
       no_constant difference (λ e q. n (constants_differ e q) (others_same e q))
       ∙ ap is_not_zero (constant_sum (polynomial_form fs ps) (negation (polynomial_form fs qs)))
 
-  -- if the constants differ, comparing the others decides
+  -- if the constants differ, comparing the other terms decides
   pub by_others : (b : Bool) → constant_among ps ≢ constant_among qs → Decides b (others ps ≡ others qs) → b
       ≡ is_not_zero (constant_of (norm_sub (polynomial_form fs ps) (polynomial_form fs qs)))
   by_others true n d = apart n (d.0 refl)

@@ -99,7 +99,7 @@ forms_onto-kept fs (x ∷ es) k l =
     let m : k < length g = omega (arith, length-append fs (entry_form fs x ∷ [])) in
     forms_onto-kept g es k m ∙ get_front fs (entry_form fs x ∷ []) k l
 
--- each form is that of its entry, by its index among these entries
+-- the form of entry i of these is at index length fs + i, if the entry names only earlier forms
 forms_onto-at : (fs hs : List Form) (es : List Entry) (i : ℕ) (e : Entry) → i < length es →
     reach_of_entry hs (get_or es i e) ≤ length fs + i
     → slice_get (forms_onto fs es) (length fs + i) ≡ Some (entry_form (forms_onto fs es) (get_or es i e))
@@ -118,7 +118,7 @@ forms_onto-at fs hs (x ∷ es) (suc i) e l r =
     let s : length fs + suc i ≡ length g + i = omega arith in
     rw s h
 
--- the form in place i is that of entry i
+-- the form at index i is that of entry i
 pub form_at : (es : List Entry) (i : ℕ) (e : Entry) → NamesEarlier es → i < length es → slice_get (forms_of es) i
     ≡ Some (entry_form (forms_of es) (get_or es i e))
 form_at es i e h l = let z : 0 + i ≡ i = omega arith in
@@ -129,7 +129,7 @@ pub form_read : (es : List Entry) (i : ℕ) (e x : Entry) → NamesEarlier es �
     slice_get (forms_of es) i ≡ Some (entry_form (forms_of es) x)
 form_read es i e x h l r k = form_at es i e h l ∙ ap (λ (y : Entry). Some (entry_form (forms_of es) y)) (sym r ∙ k)
 
--- the polynomial in place i is that of the entry that the code has read there
+-- the polynomial at index i is that of the entry that the code has read there
 pub polynomial_read : (es : List Entry) (i : ℕ) (e x : Entry) → NamesEarlier es → i < length es → e ≡ get_or es i e → e
     ≡ x → polynomial_of (entry_form (forms_of es) x) ≡ polynomial_at (forms_of es) i
 polynomial_read es i e x h l r k = sym (ap (λ (o : Option Form). polynomial_of (unwrap_or o (integer_form nought)))
@@ -142,7 +142,7 @@ pub lone_read : (es : List Entry) (i : ℕ) (e : Entry) (a : Shape) → NamesEar
 lone_read es i e a h l r k = let p : polynomial_at (forms_of es) i ≡ alone (atom_form (forms_of es) a) =
     sym (polynomial_read es i e (Lone a) h l r k) in rw (add-one, p) refl
 
--- the updates in place i are those of the entry that the code has read there
+-- the updates at index i are those of the entry that the code has read there
 pub updates_read : (es : List Entry) (i : ℕ) (e x : Entry) → NamesEarlier es → i < length es → e ≡ get_or es i e → e
     ≡ x → updates_at (forms_of es) i ≡ updates_of (entry_form (forms_of es) x)
 updates_read es i e x h l r k = ap (λ (o : Option Form). updates_of (unwrap_or o (integer_form nought)))
@@ -174,7 +174,7 @@ reach_agree : (n m : ℕ) (fs gs : List Form) → Agree n fs gs → n ≤ length
 reach_agree n m fs gs h l k (Var i) r = r
 reach_agree n m fs gs h l k a r = omega (arith, integer_reach_agree n m fs gs h l k, memory_reach_agree n m fs gs h l k)
 
--- so does that of an atom's number
+-- so does the reach of an atom's number
 atom_reach_agree : (n m : ℕ) (fs gs : List Form) → Agree n fs gs → n ≤ length fs → m ≤ n → (x : ℕ) →
     atom_reach fs x ≤ m → atom_reach gs x ≤ m
 atom_reach_agree n m fs gs h l k zero r = r
@@ -185,21 +185,21 @@ atom_reach_agree n m fs gs h l k (suc i) r = go (is_atom_form (slice_get fs i)) 
     go true c e r = rw e r
     go false c e r = absurd (omega arith)
 
--- so does that of a monomial's atoms
+-- so does the reach of a monomial's atoms
 atoms_reach_agree : (n m : ℕ) (fs gs : List Form) → Agree n fs gs → n ≤ length fs → m ≤ n → (xs : List ℕ) →
     reach_of_atoms fs xs ≤ m → reach_of_atoms gs xs ≤ m
 atoms_reach_agree n m fs gs h l k [] r = r
 atoms_reach_agree n m fs gs h l k (x ∷ xs) r = let a = atom_reach_agree n m fs gs h l k x (omega arith) in
     let b = atoms_reach_agree n m fs gs h l k xs (omega arith) in omega arith
 
--- so does that of terms
+-- so does the reach of terms
 terms_reach_agree : (n m : ℕ) (fs gs : List Form) → Agree n fs gs → n ≤ length fs → m ≤ n → (ts : List Term) →
     reach_of_terms fs ts ≤ m → reach_of_terms gs ts ≤ m
 terms_reach_agree n m fs gs h l k [] r = r
 terms_reach_agree n m fs gs h l k (t ∷ ts) r = let a = atoms_reach_agree n m fs gs h l k t.atoms (omega arith) in
     let b = terms_reach_agree n m fs gs h l k ts (omega arith) in omega arith
 
--- so does that of an entry
+-- so does the reach of an entry
 entry_reach_agree : (n m : ℕ) (fs gs : List Form) → Agree n fs gs → n ≤ length fs → m ≤ n → (e : Entry) →
     reach_of_entry fs e ≤ m → reach_of_entry gs e ≤ m
 entry_reach_agree n m fs gs h l k (Lone a) r = reach_agree n m fs gs h l k a r

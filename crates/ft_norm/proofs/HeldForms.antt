@@ -43,12 +43,12 @@ pub made : {E : Type 0} (r : Result Form E) (gs : List Normal) (x y : Normal) �
 made (Ok f) gs x y e h = h ∙ ap Some e
 made (Err d) gs x y e h = tt
 
--- if the form in place i is that of a polynomial, `polynomial_at` returns this polynomial
+-- if the form at index i is that of a polynomial, `polynomial_at` returns this polynomial
 pub polynomial_found : (gs : List Normal) (i : ℕ) (p : Polynomial) → slice_get gs i ≡ Some (integer_form p) →
     polynomial_at gs i ≡ p
 polynomial_found gs i p h = ap (λ (o : Option Normal). polynomial_of (unwrap_or o (integer_form nought))) h
 
--- if the form in place i is that of updates, `updates_at` returns these updates
+-- if the form at index i is that of updates, `updates_at` returns these updates
 pub updates_found : (gs : List Normal) (i : ℕ) (u : Updates) → slice_get gs i ≡ Some (memory_form u) → updates_at gs i
     ≡ u
 updates_found gs i u h = ap (λ (o : Option Normal). updates_of (unwrap_or o (integer_form nought))) h
@@ -110,7 +110,7 @@ pub integer_seen : (es xs : List Entry) (fs : List Normal) (f : Form) → forms_
     IsIntegerAt (forms_of xs) f.0
 integer_seen es xs fs f v e h = let g : forms_of xs ≡ fs = ap forms_of e ∙ v in rw g h.found
 
--- so is a held memory
+-- a memory that is held is a memory among the forms of the entries
 pub memory_seen : (es xs : List Entry) (fs : List Normal) (f : Form) → forms_of es ≡ fs → xs ≡ es → IsMemory fs f →
     IsMemoryAt (forms_of xs) f.0
 memory_seen es xs fs f v e h = let g : forms_of xs ≡ fs = ap forms_of e ∙ v in rw g h.found

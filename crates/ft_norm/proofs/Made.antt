@@ -65,15 +65,15 @@ module _ (ps : List Polynomial) (u : Updates) (ns : List Node) (h : AreNodes ns)
   memory_tree n x f s = let e = node_form ps u ns n x h f in
       e ∙ (memory_shape ps u tree_forms x.shape s ∙ ap (λ y. memory_form (updates_of y)) (sym e))
 
-  -- the forms made so far are those of their trees
+  -- each form made so far is that of its node's tree
   pub record Stands (fs : List Normal) (look : ℕ → Option Form) : Type 0 where
     pub each : (j : ℕ) (f : Form) → look j ≡ Some f → held fs f ≡ Some (tree_form j)
 
-  -- they remain so when the list of forms grows
+  -- this still holds after the list of forms has grown
   pub stands_kept : (fs gs : List Normal) (look : ℕ → Option Form) → Keeps fs gs → Stands fs look → Stands gs look
   stands_kept fs gs look k s = record { each = λ (j : ℕ) (f : Form) e. k.forms_stay f (tree_form j) (s.each j f e) }
 
-  -- they remain so when one more form is made
+  -- this still holds after one more form is made
   pub stands_more : (fs : List Normal) (look more : ℕ → Option Form) (k : ℕ) (x : Form) → Stands fs look → held fs x
       ≡ Some (tree_form k) → ((q : ℕ) → more q ≡ cond (k == q) (Some x) (look q)) → Stands fs more
   stands_more fs look more k x s e m = record { each = λ (j : ℕ) (f : Form) g. go j f (k == j) refl (sym (m j) ∙ g) }

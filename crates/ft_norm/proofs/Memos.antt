@@ -39,12 +39,13 @@ pub remembers_same : (ns : List Node) (fs : List Normal) (ints : List Form) (mem
     IsUnchanged m.made l.made → Remembers ns fs ints memory m → Remembers ns fs ints memory l
 remembers_same ns fs ints memory m l u r = record { each = λ k f e. r.each k f (rw u at e) }
 
--- the forms that a memo remembers are those of their trees
+-- each form that a memo remembers is that of its node's tree
 pub stands_from : (ns : List Node) (fs : List Normal) (ints : List Form) (memory : Form) (m : Memo) (h : AreNodes ns) →
     Remembers ns fs ints memory m → Stands (polynomials fs ints) (updates_held fs memory) ns h fs (get nat_eq m.made)
 stands_from ns fs ints memory m h r = record { each = r.each }
 
--- conversely, if a memo's forms are those of their trees, what it remembers is right, even after the list has grown
+-- conversely, if each form in a memo is that of its node's tree, what the memo remembers is right, even after the list
+-- has grown
 pub remembered : (ns : List Node) (fs gs : List Normal) (ints : List Form) (memory : Form) (m : Memo) (h : AreNodes ns)
     → Keeps fs gs → AreIntegers fs ints → IsMemory fs memory →
     Stands (polynomials fs ints) (updates_held fs memory) ns h gs (get nat_eq m.made) → Remembers ns gs ints memory m

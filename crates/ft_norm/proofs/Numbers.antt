@@ -51,7 +51,7 @@ none_below xs l = four (λ ys. (size ys ≡ 0 → ⊥) → cmp_atoms none ys ≡
     go zero zero zero (suc k) n = rw (less k) refl
     go zero zero zero zero n = absurd (n refl)
 
--- a number other than 0 is that of an atom
+-- a number other than 0 is the number of an atom
 pub some_present : (x : ℕ) → 0 < x → present x ≡ 1
 some_present zero l = absurd (omega (arith, l))
 some_present (suc k) l = refl

@@ -181,7 +181,7 @@ module _ (fs : List Form) (d : IsDistinct fs) where
   one_memory p r a b e = d.one p r (memory_form (updates_at fs r)) (memory_reached fs (length fs) p (omega arith) a
       ∙ ap (λ x. Some (memory_form x)) e) (memory_reached fs (length fs) r (omega arith) b)
 
-  -- an atom is that of only one node
+  -- each atom is the atom of only one node
   pub one_node : (x y : Shape) → has_atom x ≡ true → has_atom y ≡ true → reach fs x ≤ length fs →
       reach fs y ≤ length fs → atom_form fs x ≡ atom_form fs y → x ≡ y
   one_node (Var i) (Var j) h k a b e = let t : i ≡ j = cc in ap Var t

@@ -83,7 +83,7 @@ pub older_reach : (es : List Entry) (m : ℕ) (e : Entry) (a v k : ℕ) → AreE
 older_reach es m e a v k h l r q = let x = link_sorts es m e a v k h.earlier l r q in let n = length-forms_of es in
     omega (arith, x, n)
 
--- an older memory has one fewer update
+-- the older memory of an update has one update fewer
 pub older_count : (es : List Entry) (m : ℕ) (e : Entry) (a v k : ℕ) → AreEntries es → m < length es → e
     ≡ get_or es m e → e ≡ Update a v k → updates (updates_at (forms_of es) m) ≡ updates (updates_at (forms_of es) k) + 1
 older_count es m e a v k h l r q = ap updates (link es m e a v k h.earlier l r q) ∙ omega arith

@@ -110,7 +110,7 @@ module _ (f : Monomial → ℕ → ℕ) (l : IsLinear f) where
   weigh_total nought q = rw zero-add refl
   weigh_total (plus m c p) q = let x = weigh_total p (add_term m c q) in let y = weigh_add m c q in omega (arith, x, y)
 
--- what a term contributes to one monomial is linear
+-- what a term contributes to one monomial is linear in its coefficient
 pub share_linear : (k : Monomial) → IsLinear (share k)
 share_linear k = record {
   none = λ m. order_split _ (cmp_monomial k m) (λ o. rw o refl) (λ o. rw o refl) (λ o. rw o refl);
@@ -139,7 +139,7 @@ sums_product c d e = mul-mod_first (c + d) e (2 ^ 64)
     (sym (mod-mod (c * e) (2 ^ 64))) (sym (mod-mod (d * e) (2 ^ 64))))
 
 module _ (f : Monomial → ℕ → ℕ) (l : IsLinear f) where
-  -- the product of two terms is linear in the second coefficient
+  -- what f gives for the product of two terms is linear in the second coefficient
   pub times_linear : (m : Monomial) (c : ℕ) → IsLinear (times_term f m c)
   times_linear m c = record {
     none = λ n. rw (mul-zero c) (l.none (join m n));
@@ -167,7 +167,7 @@ module _ (f : Monomial → ℕ → ℕ) (l : IsLinear f) where
       (times_terms f q m c + times_terms f q m d) y x
       ∙ ap (λ t. t % 2 ^ 64) (omega arith)
 
-  -- a term times a polynomial is linear in the term's coefficient
+  -- what f gives for the products of a term with a polynomial is linear in the term's coefficient
   pub terms_linear : (q : Polynomial) → IsLinear (times_terms f q)
   terms_linear q = record { none = no_times q; sum = sum_times q }
 

@@ -21,11 +21,11 @@ abbrev pub atom_of : Polynomial → Atom
 atom_of (plus (times a one) c nought) = a
 atom_of p = variable_atom 0
 
--- the atom that the form in place i consists of
+-- the atom that the form at index i consists of
 abbrev pub atom_at : List Form → ℕ → Atom
 atom_at fs i = atom_of (polynomial_at fs i)
 
--- a monomial times the atom with this number; 0 is no atom, and k + 1 is the atom in place k
+-- a monomial times the atom with this number; 0 is no atom, and k + 1 is the atom at index k
 abbrev pub with_atom : List Form → ℕ → Monomial → Monomial
 with_atom fs zero m = m
 with_atom fs (suc k) m = with_factor (atom_at fs k) m
@@ -91,7 +91,7 @@ abbrev pub is_atom_form : Option Form → Bool
 is_atom_form (Some (integer_form (plus (times a one) (suc zero) nought))) = true
 is_atom_form o = false
 
--- likewise for the number of an atom
+-- the number of an atom, or 0; more than the list's length if there is no atom with this number
 abbrev pub atom_reach : List Form → ℕ → ℕ
 atom_reach fs zero = 0
 atom_reach fs (suc k) = k + 1 + (if is_atom_form (slice_get fs k) then 0 else length fs)
@@ -128,15 +128,15 @@ reach_of_entry fs (entry.Update at value older) = max (max (integer_reach fs at)
 abbrev pub NamesEarlier : List Entry → Type 0
 NamesEarlier es = (k : ℕ) (e : Entry) → k < length es → reach_of_entry (forms_of es) (slice_index_or es k e) ≤ k
 
--- the form in this place is an integer's
+-- the form at this index is an integer's
 abbrev pub IsIntegerAt : List Form → ℕ → Type 0
 IsIntegerAt fs i = slice_get fs i ≡ Some (integer_form (polynomial_at fs i))
 
--- the form in this place consists of one atom
+-- the form at this index consists of one atom
 abbrev pub IsAtomAt : List Form → ℕ → Type 0
 IsAtomAt fs i = slice_get fs i ≡ Some (integer_form (alone (atom_at fs i)))
 
--- the form in this place is a memory's
+-- the form at this index is a memory's
 abbrev pub IsMemoryAt : List Form → ℕ → Type 0
 IsMemoryAt fs i = slice_get fs i ≡ Some (memory_form (updates_at fs i))
 

@@ -4,11 +4,11 @@ use Rattle.std.specs.Option.{unwrap_or}
 use Rattle.ft_static.specs.Form.{Form as Normal, integer_form, memory_form, polynomial_of, updates_of, Polynomial, Updates, nought}
 use Rattle.ft_norm.specs.declared.form.Form.{Form}
 
--- the polynomial in place i of a list
+-- the polynomial at index i of a list
 abbrev pub polynomial_at : List Normal → ℕ → Polynomial
 polynomial_at fs i = polynomial_of (unwrap_or (slice_get fs i) (integer_form nought))
 
--- the updates in place i of a list
+-- the updates at index i of a list
 abbrev pub updates_at : List Normal → ℕ → Updates
 updates_at fs i = updates_of (unwrap_or (slice_get fs i) (integer_form nought))
 

@@ -7,7 +7,7 @@ use Rattle.ft_norm.specs.declared.walk.Walk.TheVariants.{Value, Stop}
 use Rattle.ft_norm.specs.Held.{polynomial_at, updates_at}
 use Rattle.ft_norm.specs.Entries.{IsIntegerAt, memory_reach}
 
--- the polynomial that a walk for the address in place p finds
+-- the polynomial that a walk for the address at index p finds
 abbrev pub form_of_walk : List Form → ℕ → Walk → Polynomial
 form_of_walk fs p (Value v) = polynomial_at fs v
 form_of_walk fs p (Stop m) = alone (sel_atom (updates_at fs m) (polynomial_at fs p))

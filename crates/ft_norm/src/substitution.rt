@@ -70,8 +70,8 @@ impl Memo {
     }
 
     /// The form of node `n` after `ints[i]` is substituted for integer variable `i`, and `memory` for the memory
-    /// variable, as `Interner::under` gives it. Forms made before are reused. A variable, or a node whose form was
-    /// made before, takes no memory. After an error the forms made so far stay.
+    /// variable, as `Interner::under` gives it. Forms made before are reused. No memory is needed for a variable within
+    /// `ints` or for a node whose form was made before. After an error the forms made so far stay.
     #[inline]
     pub fn form<N: Nodes, L: Ledger>(
         &mut self,

@@ -51,7 +51,7 @@ fn place_of(sum: &[Term], atoms: Atoms) -> Result<usize, usize>
     Err(low)
 }
 
-/// Adds to the coefficient in place `i`; a term whose coefficient becomes 0 is dropped.
+/// Adds to the coefficient of term `i`; a term whose coefficient becomes 0 is dropped.
 fn raise(sum: &mut TermList, i: usize, coefficient: u64)
     requires within { i < length sum.old.items }
     requires terms { AreTerms sum.old.items }
@@ -69,7 +69,7 @@ fn raise(sum: &mut TermList, i: usize, coefficient: u64)
     }
 }
 
-/// Inserts a term in place `i`, unless its coefficient is 0.
+/// Inserts a term at index `i`, unless its coefficient is 0.
 fn insert(sum: &mut TermList, i: usize, atoms: Atoms, coefficient: u64) -> Result<(), AllocError>
     requires terms { AreTerms sum.old.items }
     requires place { IsPlace sum.old.items atoms i }

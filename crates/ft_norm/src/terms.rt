@@ -39,7 +39,7 @@ impl<'a> Terms<'a> {
         self.len() == 0
     }
 
-    /// The term in place `i`.
+    /// The term at index `i`.
     #[inline]
     pub fn term(self, i: usize) -> Term
         requires { i < length (terms_of self) }

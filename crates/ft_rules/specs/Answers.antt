@@ -15,7 +15,7 @@ use Rattle.ft_typing.specs.Context.{Context as Defined}
 use Rattle.ft_contexts.specs.Costs.{tree_cost}
 use Rattle.ft_contexts.specs.Contexts.{context_in, HoldsForms, NamesTypes}
 
--- what an error says about a row: a refusal names the first failing premise; running out of memory claims nothing
+-- what an error says about a row: a refusal names the first failing premise; `NoMemory` says nothing
 abbrev pub IsRefusal : Outcome → RuleError → Type 0
 IsRefusal x (Refused why) = x ≡ Fails why
 IsRefusal x NoMemory = Unit {0}

@@ -327,7 +327,7 @@ pub fn apply_rule<P: Program, L: Ledger>(
     apply_rule_over(ctx, &mut shared, forms, program, instr, steps)
 }
 
-/// The same, with the data that the blocks share, which other instructions may have used before.
+/// Like `apply_rule`, with the data that the blocks share, which other instructions may have used before.
 pub fn apply_rule_over<P: Program, L: Ledger>(
     ctx: &mut Context,
     shared: &mut Shared,

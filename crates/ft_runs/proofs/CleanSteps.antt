@@ -25,7 +25,7 @@ clean_same r s w u v h =
       output = ap (λ x. (step r.object x u).output) (h.state w) ∙ same.output;
     }
 
--- after one more step, it is still the machine of this run
+-- after one more step, the machine is still that of this run
 pub clean_next : (r : CleanRun) (s t : State) (v : List Wild) → IsClean r s → t ≡ (step r.object s v).state →
     IsClean (record r { taken = r.taken + 1 }) t
 clean_next r s t v h e = record {

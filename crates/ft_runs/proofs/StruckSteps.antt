@@ -82,7 +82,7 @@ struck_begins r s t site v w h found e =
       alike = alike_at_once r.object site v r.taken w t (e ∙ ap (λ u. struck_state u site v) (h.state w));
     }
 
--- after one more step, it is still the machine of this struck run
+-- after one more step, the machine is still that of this struck run
 pub struck_next : (r : StruckRun) (s t : State) (left left' : List Wild) → IsStruckRun r s left → t
     ≡ (step r.object s left).state → left' ≡ (step r.object s left).wild →
     IsStruckRun (record r { taken = r.taken + 1 }) t left'

@@ -9,7 +9,7 @@ use Rattle.std.proofs.lemmas.List.{get_or-set_same, get_or-set_other}
 use Rattle.ft_isa.specs.declared.instr.Instr.{Instr}
 use Rattle.ft_sched.specs.LastPlaces.{or_first, last_place}
 
--- one more instruction at the end becomes the last place if it passes the test, whatever holds of the first
+-- if an appended instruction passes the test, its place is the last one, whether or not the first instruction passes
 or_more : (n : ℕ) (t b : Bool) (m : ℕ) → or_first (cond t (suc n) m) b ≡ cond t (suc (suc n)) (or_first m b)
 or_more n true b m = refl
 or_more n false b m = refl

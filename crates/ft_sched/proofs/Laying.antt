@@ -151,7 +151,7 @@ module _ (rows start past : ℕ) (base : List Instr) where
         committed_is = t.committed_is;
       }
 
-  -- it is still arranged after a fixed instruction is written, if none waits
+  -- the block is still arranged after a fixed instruction is written, if none waits
   pub arranged_fixed : (i : Instr) (rest laid laid' : List Instr) (q q' c c' : ℕ) → is_fixed i ≡ true →
       Lays i laid laid' q q' c c' → Arranges rows start past base (i ∷ rest) laid [] q c →
       IsArranged rows start past base rest laid' [] q' c'
@@ -180,7 +180,7 @@ module _ (rows start past : ℕ) (base : List Instr) where
         settled = subst (IsSettled start) (sym lays.laid_is) (settled_by start laid i (fixed_trails i h));
       }
 
-  -- it is still arranged after a leading instruction is written, if nothing holds that instruction back
+  -- the block is still arranged after a leading instruction is written, if nothing holds that instruction back
   pub arranged_leading : (i : Instr) (rest laid laid' ws : List Instr) (q q' c c' : ℕ) → is_leading i ≡ true →
       holds_back (q - c) ws i ≡ false → Lays i laid laid' q q' c c' → Leading i rows start past base rest laid ws q c →
       IsArranged rows start past base rest laid' ws q' c'

@@ -77,7 +77,7 @@ full_by true false true h e f = cc
 full_by g n false h e f = cc
 full_by false n b h e f = cc
 
--- if nothing holds the instruction back, it passes all
+-- a leading instruction passes all waiting ones if nothing holds it back
 pub passes_all : (q c : ℕ) (ws : List Instr) (i : Instr) → list_all is_trailing ws ≡ true → is_leading i ≡ true →
     holds_back (q - c) ws i ≡ false → Passes q c ws i
 passes_all q c ws i t l h =
@@ -108,7 +108,7 @@ conflict_free true true h k = refl
 conflict_free true false h k = cc
 conflict_free false b h k = cc
 
--- the last waiting instruction that holds it back may not be passed
+-- an instruction may not pass the last waiting one that holds it back
 pub stuck_behind : (q c : ℕ) (w : Instr) (ws : List Instr) (i : Instr) → holds_back (q - c) (w ∷ ws) i ≡ true →
     holds_back (q - (c + cond (is_blue_store w) 1 0)) ws i ≡ false → may_exchange (q - c) w i ≡ true → ⊥
 stuck_behind q c w ws i h k may =
@@ -198,7 +198,7 @@ none_behind rows start front i rest n h k p =
     absurd (cc))
     (cases_lt (suc k) (length front))
 
--- no exchange is left up to a leading instruction and those that it passed
+-- no exchange is left up to and including a leading instruction and those that it passed
 pub none_passed : (rows start : ℕ) (front ws : List Instr) (i : Instr) (rest : List Instr) → list_all is_trailing ws
     ≡ true → is_leading i ≡ true → Stuck rows start front i →
     HasNone rows start (length front + length ws) (front ++ (ws ++ i ∷ rest)) →

@@ -9,7 +9,7 @@ abbrev pub writes : Option ℕ → Instr → Bool
 writes None i = false
 writes (Some r) i = is_register (written i) r
 
--- whether it reads or writes it
+-- whether an instruction reads or writes a register, if one is given
 abbrev pub meets : Option ℕ → Instr → Bool
 meets None i = false
 meets (Some r) i = touches i r

@@ -6,7 +6,7 @@ abbrev pub iterate : {S : Type 0} → (S → S) → ℕ → S → S
 iterate step zero s = s
 iterate step (suc k) s = iterate step k (step s)
 
--- the additional step may be taken last
+-- k + 1 steps are k steps and then one more
 pub iterate_last : {S : Type 0} (step : S → S) (k : ℕ) (s : S) → iterate step (suc k) s ≡ step (iterate step k s)
 iterate_last step zero s = refl
 iterate_last step (suc k) s = iterate_last step k (step s)

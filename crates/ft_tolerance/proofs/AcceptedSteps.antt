@@ -65,7 +65,7 @@ applies_on : (o : Object) (d c : Context) (i : Instr) (is : List Instr) → Appl
 applies_on o d c i _ (last_row e) g = cc
 applies_on o d c i is (next_row b e a) g = let same : b ≡ c = cc in subst (λ (z : Context). Applies o z is) same a
 
--- if there is a context after an instruction, there is one before it, and its row goes on
+-- if there is a context after an instruction, there is one before it, and the instruction's row goes on
 goes_of : (o : Object) (x : Option Instr) (y : Option Context) (c : Context) → context_after o x y ≡ Some c →
     (i : Instr) × (d : Context) × (x ≡ Some i) × (y ≡ Some d) × (row o d i ≡ Goes c)
 goes_of o None y c e = cc

@@ -96,7 +96,7 @@ struck_words x y true v e = record {
 }
 struck_words x y false v e = record { colour = refl; word = λ _. refl }
 
--- registers that differ in one word are alike, for the colour of that register
+-- changing the word of one register leaves the registers alike, for the colour of that register
 struck_register : (m : Registers) (r v : ℕ) → AreAlikeRegisters (held m r).colour m
     (with_held m r (record { colour = (held m r).colour; word = v }))
 unfolding AreAlikeRegisters

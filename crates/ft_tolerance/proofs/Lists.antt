@@ -1,4 +1,4 @@
--- What a list holds at a place that a test found.
+-- Elements that a test finds in a list.
 use Rattle.std.proofs.Common.{◌≡◌, ℕ, suc, Bool, true, false, cond, List, [], ◌∷◌, Some, slice_get, refl, ap, subst}
 use Rattle.std.specs.Prelude.{find}
 
@@ -8,7 +8,7 @@ pub record Found {X : Type 0} (test : X → Bool) (xs : List X) (x : X) : Type 0
   pub there : slice_get xs place ≡ Some x
   pub passes : test x ≡ true
 
--- cases: whether the first element passes the test
+-- the step of the next lemma, by whether the first element passes the test
 found_by : {X : Type 0} (test : X → Bool) (y : X) (ys : List X) (x : X) (b : Bool) → test y ≡ b →
     cond b (Some y) (find test ys) ≡ Some x → (find test ys ≡ Some x → Found test ys x) → Found test (y ∷ ys) x
 found_by test y ys x true is h rest = let same : y ≡ x = cc in

@@ -52,13 +52,13 @@ stopped_follows c o s t w v d h =
     subst (λ (x : Status). Follows c (step_at o x s w) (step o t v)) (sym d)
     (subst (λ (x : Status). Follows c (step_at o Done s w) (step_at o x t v)) (sym d ∙ h.status) (keeps_alike h refl))
 
--- so do steps from a state of the run without a fault and from an alike state
+-- steps from a state of the run without a fault and from an alike state keep them alike, or the second is detected
 pub follows_along : (c : Colour) (o : Object) (p : Place) (s t : State) (w v : List Wild) → IsSpellable o →
     IsAccepted o → EndsOrFits o p s → AreAlike c s t → Follows c (step o s w) (step o t v)
 follows_along c o p s t w v spelled acc (ended d) h = stopped_follows c o s t w v d h
 follows_along c o p s t w v spelled acc (running go at fits) h = step_follows c o p s t w v spelled acc at go fits h
 
--- a state that was detected stays detected
+-- a detected state stays detected
 detected_stays : (o : Object) (t : State) (v : List Wild) → t.status ≡ Detected → (step o t v).state.status ≡ Detected
 detected_stays o t v d = ap (λ (x : Stepping). x.state.status) (stays_at o t.status t v (subst HasStopped (sym d) tt))
     ∙ d
@@ -83,7 +83,7 @@ pub data AreTied (c : Colour) (r x : Ran) : Type 0 where
   together : AreAlike c r.state x.state → r.outputs ≡ x.outputs → AreTied c r x
   over : x.state.status ≡ Detected → IsPrefix x.outputs r.outputs → AreTied c r x
 
--- a prefix of a list is a prefix of any continuation of it
+-- a prefix of a list stays a prefix when the list is extended
 prefix_more : (a b rest : List Output) → IsPrefix a b → IsPrefix a (b ++ rest)
 prefix_more a b rest h = begins_on a b (b ++ rest) h (rest, refl)
 

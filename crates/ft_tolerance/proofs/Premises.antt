@@ -23,7 +23,7 @@ pub after_goes : (G : Context → Type 0) (E : Type 0) (c : Context) → G c →
 unfolding After
 after_goes G E c h = h
 
--- it ends the block
+-- the row ends the block
 pub after_ends : (G : Context → Type 0) (E : Type 0) → E → After G E Ends
 unfolding After
 after_ends G E h = h

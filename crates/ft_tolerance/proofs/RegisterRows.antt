@@ -191,7 +191,7 @@ pub updated : (m : Updates) (p : FormPair) (v : Valuation) (a : ℕ) → word_at
 updated m p v a = ap (λ z. word_at z a) (value_upd m p.0 p.1 v)
     ∙ word_at-with_word (value_updates m v) (value_polynomial p.0 v) (value_polynomial p.1 v) a
 
--- a load finds the newest entry's value, or otherwise the old word
+-- a load finds the value of the newest entry at its address, or otherwise the old word
 newest_fits : (o : Object) (v : Valuation) (a : ℕ) (b : Basic) → cell_type o a ≡ Some b →
     (ps : List FormPair) (q : Pending) (m : Updates) (old : ℕ) → FitsQueue o v ps q → old
     ≡ word_at (value_updates m v) a → HasType o old b →

@@ -44,7 +44,7 @@ use Rattle.ft_tolerance.proofs.StayingRows.{pass_fits}
 
 -- BLOCKS
 
--- a block whose first instruction is at a code address
+-- a block of code type t whose first instruction is at code address a
 pub record BlockAt (o : Object) (a t : ℕ) : Type 0 where
   pub block : Block
   pub found : block_at o a ≡ Some block
@@ -58,7 +58,7 @@ block_of_type o a t h = by_block (block_at o a) refl h
     by_block None e k = cc
     by_block (Some b) e k = record { block = b; found = e; code_type = (let same : b.code_type ≡ t = cc in same) }
 
--- such a block is one of the object's, and begins there
+-- block b is one of the object's, and begins at code address a
 pub record BlockThere (o : Object) (a : ℕ) (b : Block) : Type 0 where
   pub number : ℕ
   pub there : slice_get o.blocks number ≡ Some b
@@ -70,7 +70,7 @@ block_there o a b e =
     let f = found_there (λ (x : Block). a == code_address x.start) o.blocks b e in
     record { number = f.place; there = f.there; begins = eqb-true a (code_address b.start) f.passes }
 
--- no block is at address 0
+-- no block begins at code address 0
 not_zero : (o : Object) (a t : ℕ) → HasType o a (code t) → a ≡ 0 → ⊥
 not_zero o a t h z = let b = block_of_type o a t h in let f = block_there o a b.block b.found in
     let begins = f.begins in omega arith

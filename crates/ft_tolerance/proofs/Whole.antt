@@ -13,12 +13,12 @@ use Rattle.ft_tolerance.specs.Soundness.{EndsOrFits, ended, running, IsNeverDete
 use Rattle.ft_tolerance.proofs.AcceptedSteps.{keeps}
 use Rattle.ft_tolerance.proofs.Start.{start_is_place, start_fits}
 
--- where the run is after some steps, with all answers to wild loads left
+-- a state is done or fits a place, and all answers to wild loads are left
 pub record Along (o : Object) (p : Place) (s : State) (w v : List Wild) : Type 0 where
   pub after : EndsOrFits o p s
   pub wild : w ≡ v
 
--- one more step keeps this, for the next place
+-- this still holds after one more step, for the next place
 along_step : (o : Object) (p : Place) (s : State) (w v : List Wild) → IsSpellable o → IsAccepted o → EndsOrFits o p s →
     w ≡ v → Along o (next_place o s.fetched s p) (step o s w).state (step o s w).wild v
 along_step o p s w v spelled acc (ended d) e = subst (λ (x : Status).
@@ -39,7 +39,7 @@ along o w (suc n) spelled acc =
     let h = along o w n spelled acc in
     along_step o (place o w n) (state_after o None w n) (wild_after o None w n) w spelled acc h.after h.wild
 
--- a run of which this holds is as `FitsAfter` says
+-- so `FitsAfter` holds
 fits_by : (o : Object) (w : List Wild) (n : ℕ) → IsSpellable o → IsAccepted o →
     EndsOrFits o (place o w n) (state_after o None w n) → wild_after o None w n ≡ w → FitsAfter o w n
 fits_by o w n spelled acc (ended d) e = record {

@@ -1,7 +1,7 @@
 //! The main theorem: one fault is masked or detected.
 //!
 //! The crate promises, over the definitions only, that the run of an accepted object without a fault fits its types as
-//! long as it is running and is never detected, and that after each step a run that is struck once has committed
+//! long as it is running, and is never detected; and that after each step a run that is struck once has committed
 //! exactly what the run without the strike has, or has detected the fault and stopped after a prefix. Its definitions:
 //! the place of a run and the states that fit it (`specs/TypedState.antt`), what the laws say about each step
 //! (`specs/Soundness.antt`), and which states one fault leaves alike (`specs/Alike.antt`).
