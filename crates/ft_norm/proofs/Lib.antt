@@ -20,3 +20,4 @@ pub mod Made
 mod Distinct
 pub mod Apart
 pub mod Memos
+pub mod Constants

@@ -1,9 +1,9 @@
 //! Entries: how an interner keeps normal forms. A part that is itself a form is identified by its number. Terms are
 //! ordered by these numbers, so comparing two terms never looks into the forms that they refer to.
-ghost use Rattle.std.specs.Prelude.{◌≡◌, List, true};
+ghost use Rattle.std.specs.Prelude.{◌≡◌, List, [], ◌∷◌, IfSome, true};
 ghost use Rattle.ft_static.specs.Form.{Form as Normal, integer_form};
 ghost use Rattle.ft_static.specs.NormalForm.{constant};
-ghost use Rattle.ft_norm.specs.Entries.{entry_form, full, size};
+ghost use Rattle.ft_norm.specs.Entries.{entry_form, full, polynomial_form, size};
 
 use crate::packed::PackedTerm;
 use ft_static::Shape;
@@ -80,5 +80,29 @@ pub fn is_word(entry: &Entry, w: u64) -> bool
             _ => false,
         },
         _ => false,
+    }
+}
+
+/// The coefficient of a term without an atom.
+fn word_of_term(term: LinearTerm) -> Option<u64>
+    ensures { (fs : List Normal) → IfSome result (λ w. polynomial_form fs (full term ∷ []) ≡ constant w) }
+{
+    if term.atom == 0 {
+        Some(term.coefficient)
+    } else {
+        None
+    }
+}
+
+/// The word of an entry that has one term and no atom. `None` proves nothing.
+pub fn word_of(entry: &Entry) -> Option<u64>
+    ensures { (fs : List Normal) → IfSome result (λ w. entry_form fs entry.now ≡ integer_form (constant w)) }
+{
+    match entry {
+        Entry::Linear(terms) => match terms.as_slice() {
+            [term] => word_of_term(*term),
+            _ => None,
+        },
+        _ => None,
     }
 }

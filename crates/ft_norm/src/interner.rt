@@ -1,5 +1,5 @@
 //! The interner: a growing list of distinct normal forms.
-ghost use Rattle.std.specs.Prelude.{◌≡◌, ◌↔◌, ◌+◌, ◌*◌, ◌<◌, ◌≤◌, [], Some, IfOk, IsTrue, length, slice_get, true, false};
+ghost use Rattle.std.specs.Prelude.{◌≡◌, ◌↔◌, ◌+◌, ◌*◌, ◌<◌, ◌≤◌, [], Some, IfOk, IfSome, IsTrue, length, slice_get, true, false};
 ghost use Rattle.ft_static.specs.Expression.{Expression, HasWords, IsLawful, Valuation, denotation};
 ghost use Rattle.ft_static.specs.Form.{has_atom, integer_form, memory_form, unchanged, updates, variable_atom};
 ghost use Rattle.ft_static.specs.NodeRules.{AreNodes};
@@ -14,13 +14,13 @@ ghost use Rattle.ft_norm.specs.Parts.{HaveSorts, form_of_parts, updates_of_parts
 ghost use Rattle.ft_norm.specs.Terms.{AreOver, terms_of};
 
 use crate::built::{entry_of, place_of_atom};
-use crate::entry::{Entry, LinearTerm, Term, is_word};
+use crate::entry::{Entry, LinearTerm, Term, is_word, word_of};
 use crate::form::Form;
 use crate::keys::Keys;
 use crate::substitution::Memo;
 use crate::terms::{Terms, terms_at};
 use crate::walk::{Walk, below_newest, constant_in, walk_from};
-use ft_isa::{NoMemory, Op, Steps};
+use ft_isa::{NoMemory, Op, Steps, apply};
 use ft_static::{Nodes, Shape};
 use indexmap::IndexSet;
 use smallvec::SmallVec;
@@ -126,11 +126,11 @@ impl Interner {
         ensures form { IfOk result (λ f. held self.new f ≡ Some (integer_form (norm_op op (polynomial self.old a) (polynomial self.old b)))) }
         ensures sort { IfOk result (λ f. IsInteger self.new f) }
     {
-        let form = match op {
-            Op::Add => self.add(a, b)?,
-            Op::Sub => self.sub(a, b)?,
-            Op::Mul => self.mul(a, b)?,
-            _ => self.folded(op, a, b)?,
+        let c = self.word_at(a);
+        let d = self.word_at(b);
+        let form = match (c, d) {
+            (Some(c), Some(d)) => self.constant(apply(op, c, d))?,
+            _ => self.computed(op, a, b)?,
         };
         Ok(form)
     }
@@ -246,6 +246,34 @@ impl Interner {
         }
         let (number, _) = self.entries.insert_full(entry)?;
         Ok(Form(number as u32))
+    }
+
+    /// The form of an operation, computed from the terms of both operands.
+    fn computed(&mut self, op: Op, a: Form, b: Form) -> Result<Form, AllocError>
+        requires first { IsInteger self.old a }
+        requires second { IsInteger self.old b }
+        ensures kept { Keeps self.old self.new }
+        ensures form { IfOk result (λ f. held self.new f ≡ Some (integer_form (norm_op op (polynomial self.old a) (polynomial self.old b)))) }
+    {
+        match op {
+            Op::Add => self.add(a, b),
+            Op::Sub => self.sub(a, b),
+            Op::Mul => self.mul(a, b),
+            _ => self.folded(op, a, b),
+        }
+    }
+
+    /// The word whose form this is. `None` proves nothing.
+    fn word_at(&self, form: Form) -> Option<u64>
+        ensures { IfSome result (λ w. held self.now form ≡ Some (integer_form (constant w))) }
+    {
+        let entries = self.entries.as_slice();
+        let place = form.0 as usize;
+        if place < entries.len() {
+            word_of(&entries[place])
+        } else {
+            None
+        }
     }
 
     /// Whether the entry in this place is that of the word `w`. `false` proves nothing.
