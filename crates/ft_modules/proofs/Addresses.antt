@@ -21,7 +21,7 @@ use Rattle.ft_tolerance.proofs.AcceptedSteps.{here}
 
 -- FINDING
 
--- tests with the same results find the same element
+-- searches whose tests agree on the elements of the list find the same element
 pub find_same : {X : Type 0} (p q : X → Bool) (xs : List X) → ((n : ℕ) (x : X) → slice_get xs n ≡ Some x → p x ≡ q x) →
     find p xs ≡ find q xs
 find_same p q [] h = refl
@@ -44,7 +44,7 @@ same_tests true b h k = sym (h refl)
 same_tests false true h k = k refl
 same_tests false false h k = refl
 
--- the index of an element of the first k is below k
+-- the index of one of the first k elements is below k
 take_length : {X : Type 0} (xs : List X) (k n : ℕ) (x : X) → slice_get (take k xs) n ≡ Some x → n < k
 take_length [] zero n x e = cc
 take_length [] (suc k) n x e = cc
@@ -63,7 +63,7 @@ within_blocks end least (b ∷ bs) zero y h e = let same : b ≡ y = cc in
 within_blocks end least (b ∷ bs) (suc n) y h e = let w = within_blocks end (suc b.start) bs n y h.2 e in
     (omega (arith, h.0, w.0), w.1)
 
--- blocks that begin at the same place are one block
+-- blocks that begin at the same place have the same number
 pub one_number : (end least : ℕ) (bs : List Block) (n m : ℕ) (y z : Block) → AreBlocks end least bs → slice_get bs n
     ≡ Some y → slice_get bs m ≡ Some z → y.start ≡ z.start → n ≡ m
 one_number end least bs n m y z h e f s =
@@ -87,7 +87,7 @@ number_less end least bs n m y z h e f s =
     (cases_lt m n))
     (cases_lt n m)
 
--- a list of blocks finds a block by its own address
+-- a search in a list of blocks for a block's own address finds this block
 find_start : (end least : ℕ) (bs : List Block) (n : ℕ) (y : Block) → AreBlocks end least bs → slice_get bs n ≡ Some y →
     find (λ (b : Block). code_address y.start == code_address b.start) bs ≡ Some y
 find_start end least [] n y h e = cc
@@ -102,7 +102,7 @@ find_start end least (b ∷ bs) (suc n) y h e =
     (ne_eqb (code_address y.start) (code_address b.start) (λ i. omega (arith, i, w.0)))
     ∙ find_start end (suc b.start) bs n y h.2 e
 
--- an object finds a block by its own address
+-- looking up a block's own address in an object finds this block
 pub block_at_own : (o : Object) (n : ℕ) (y : Block) → IsSpellable o → slice_get o.blocks n ≡ Some y →
     block_at o (code_address y.start) ≡ Some y
 unfolding block_at
@@ -126,7 +126,7 @@ end_least end least bs n m y z e h f g lt =
 range_length : (is : List Instr) (a b n : ℕ) (i : Instr) → slice_get (slice_range is a b) n ≡ Some i → n < b - a
 range_length is a b n i e = take_length (drop a is) (b - a) n i e
 
--- no block begins at an instruction of a block other than the first
+-- no block begins at an instruction that is not the first of its block
 pub no_block_inside : (o : Object) (p : Place) (j m : ℕ) (z : Block) → IsSpellable o → IsAccepted o →
     (at : IsPlace o p) → p.index ≡ suc j → slice_get o.blocks m ≡ Some z → code_address (instr_number p)
     ≡ code_address z.start → ⊥

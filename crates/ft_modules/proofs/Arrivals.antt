@@ -66,7 +66,7 @@ load_silent : (c : Colour) (rd : Reg) (u : Option ℕ) (s : State) → (load c r
 load_silent c rd None s = refl
 load_silent c rd (Some v) s = refl
 
--- a choice between two steps without output has none
+-- a choice between two steps without output has no output
 if_silent : (b : Bool) (x y : Stepping) → x.output ≡ None → y.output ≡ None → (if b then x else y).output ≡ None
 if_silent true x y h k = h
 if_silent false x y h k = k

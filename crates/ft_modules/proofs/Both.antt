@@ -28,7 +28,8 @@ pub both_end : (R : Context → Context → Type 0) → Both R Ends Ends
 unfolding Both
 both_end R = tt
 
--- `Both` holds behind a premise if its test passes in the second rule whenever it passes in the first
+-- `Both` holds of rules that begin with the same premise if, whenever its test passes in the first rule, it passes in
+-- the second too, and `Both` holds of the rest
 pub both_need : (R : Context → Context → Type 0) (p : Premise) (b b' : Bool) (x x' : Outcome) →
     (b ≡ true → (b' ≡ true) × Both R x x') → Both R (need p b x) (need p b' x')
 unfolding Both need

@@ -107,7 +107,7 @@ modules_pass earlier m cells (y ∷ ys) e zero o f =
 modules_pass earlier m cells (y ∷ ys) e (suc n) o f = let a = or_parts _ _ e in
     modules_pass (earlier ++ y ∷ []) (suc m) cells ys a.1 n o f
 
--- likewise, the totals of all are within their limits
+-- likewise, the totals of all modules are within their limits
 modules_few : (earlier : List Object) (m : ℕ) (cells : List Cell) (o : Object) (os : List Object) →
     modules_refusal earlier m cells (o ∷ os) ≡ None → AreFew (earlier ++ o ∷ os)
 unfolding modules_refusal

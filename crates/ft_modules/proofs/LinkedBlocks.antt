@@ -91,7 +91,7 @@ both_ends R Ends Ends h e = refl
 both_ends R Ends (Fails p) h e = absurd h
 both_ends R (Fails p) z h e = cc
 
--- the second rule continues, with a context to which R relates the first rule's
+-- the second rule continues, with a context to which R relates the first rule's context
 pub record GoesBeside (R : Context → Context → Type 0) (c : Context) (z : Outcome) : Type 0 where
   pub context : Context
   pub goes : z ≡ Goes context

@@ -93,7 +93,7 @@ sent_by_change k o w (Some c) = (c.to, c.code_type)
 abbrev pub sent_to : List Change → Before → Object → ℕ → ℕ × ℕ
 sent_to cs k o w = sent_by_change k o w (change_at cs (k.instrs + w))
 
--- a raised `mov` of a code address, changed, moves the address to which this is sent
+-- a `mov` of a code address, raised and changed, moves the address to which that code address is sent
 changed_is : (k : Before) (o : Object) (rd : Reg) (v : Coloured) (t : ℕ) (c : Option Change) → code_type_at o v.word
     ≡ Some t → changed_by rd (record { colour = v.colour; word = k.instrs + v.word }) (code (k.types + t)) c
     ≡ moves_to rd v (sent_by_change k o v.word c).0 (sent_by_change k o v.word c).1

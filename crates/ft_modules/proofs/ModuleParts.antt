@@ -107,7 +107,7 @@ map_twice : (cs : List Change) (k : Before) (is : List Instr) → map (changed_i
 map_twice cs k [] = refl
 map_twice cs k (i ∷ is) = ap (λ (z : List Instr). linked_instr cs k i ∷ z) (map_twice cs k is)
 
--- a list of blocks that begins at 0 has a first block, and this starts at 0
+-- a list of blocks that begins at 0 has a first block, which starts at 0
 pub first_block : (bs : List Block) → BeginAtZero bs → (y : Block) × (slice_get bs 0 ≡ Some y) × (y.start ≡ 0)
 first_block [] h = absurd h
 first_block (y ∷ ys) h = (y, refl, h)

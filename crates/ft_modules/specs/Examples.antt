@@ -35,7 +35,7 @@ storer = one_block 0 stores_five
 abbrev pub only_stub : Object
 only_stub = one_block 0 (Halt ∷ [])
 
--- an import and an export of the name `go`
+-- an import or an export of the name `go`, with this module, block and line
 abbrev pub go : ℕ → ℕ → ℕ → Ask
 go m b l = record { «module» = m; block = b; name = codes "go"; line = l }
 
@@ -61,7 +61,7 @@ stores_address =
     Mov r0 (green out) (ref int) ∷ Mov r1 (green 1) (code 0) ∷ Mov r32 (blue out) (ref int) ∷ Mov r33 (blue 1) (code 0)
     ∷ St Green r0 r1 ∷ St Blue r32 r33 ∷ Halt ∷ []
 
--- a map without exports and imports
+-- a map without exports or imports
 abbrev pub no_links : LinkMap
 no_links = record { files = codes "m" ∷ codes "a" ∷ []; exports = []; imports = [] }
 

@@ -63,7 +63,7 @@ is_plain_row r = is_int r.basic.base
 abbrev pub has_plain_rows : CodeType → Bool
 has_plain_rows t = list_all is_plain_row t.regs
 
--- the first of these blocks in which the walk fails, counted from b, and the index in it
+-- the number of the first of these blocks in which the walk fails, counted from b, and the index in it
 abbrev pub first_walk_fault : Object → ℕ → List Block → Option (ℕ × ℕ)
 first_walk_fault o b [] = None
 first_walk_fault o b (y ∷ ys) = option_or (option_map (λ i. (b, i)) (code_walk o finite.empty 0 (block_instrs o b))) (first_walk_fault o (suc b) ys)
@@ -106,7 +106,7 @@ has_block modules m b = nat_lt b (unwrap_or (option_map (λ (o : Object). length
 abbrev pub line_of : Ask → ℕ
 line_of a = a.line
 
--- the line of the first of these whose block does not exist
+-- the line of the first of these exports or imports whose block does not exist
 abbrev pub first_without : List Object → List Ask → Option ℕ
 first_without modules asks = option_map line_of (find (λ (a : Ask). not (has_block modules a.module a.block)) asks)
 

@@ -33,10 +33,10 @@ link_by i (Some e) = Some (record { module_of = i.module; block = i.block; to_mo
 unfoldable pub links : LinkMap → List Link
 links map = filter_map (λ (i : Ask). link_by i (export_of map.exports i.name)) map.imports
 
--- the index of the first instruction of block b of module m, 0 if it does not exist
+-- the index of the first instruction of block b of module m, or 0 if there is no such block
 abbrev pub start_in : List Object → ℕ → ℕ → ℕ
 start_in modules m b = unwrap_or (option_map (λ o. block_start o b) (slice_get modules m)) 0
 
--- the code type of block b of module m, 0 if it does not exist
+-- the code type of block b of module m, or 0 if there is no such block
 abbrev pub type_in : List Object → ℕ → ℕ → ℕ
 type_in modules m b = unwrap_or (option_map (λ o. block_type o b) (slice_get modules m)) 0
