@@ -28,7 +28,7 @@ made_more : (loads more : LoadList) (asked between asked' : Option LoadList) →
     HasMade more between asked' → HasMade (loads ++ more) asked asked'
 made_more loads more asked between asked' h g = g ∙ ap (asked_after more) h ∙ sym (asked_after-append loads more asked)
 
--- a call that ends early may make no load
+-- a call that ends early may make no loads at all
 no_loads : (told : Option Files) (modules : List Object) (names : List Word) →
     LoadsInTurn told (IsTrue true) modules names []
 no_loads told modules [] = refl

@@ -40,7 +40,7 @@ thirteen piece a is e = let s : 2 ≡ 13 = same_status 13 piece a is e in omega 
 
 -- OBJECTS
 
--- no answer for bytes has status 2 if no answer for an object has
+-- no answer for bytes has status 2 if no answer for an object does
 over_bytes : (Over : Object → Answer → Type 0) → ((o : Object) (a : Answer) → Over o a → 2 ≡ a.status → ⊥) →
     (bytes : List ℕ) (a : Answer) → OverBytes Over bytes a → 2 ≡ a.status → ⊥
 over_bytes Over none bytes a (inl x) e = none x.0 a x.1.1 e

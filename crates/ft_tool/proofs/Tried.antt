@@ -246,7 +246,7 @@ campaign_failed c bytes shelf between shelf' h same f =
       ),
     )
 
--- a campaign that does not get to its list, or ends early, may load its object alone
+-- a campaign that does not get to its list, or ends early, may load only its object
 pub object_alone : (c : Campaign) (told : Option Files) (Comes : Files →
     Type 0) (Early : Type 0) (asked asked' : Option LoadList) → OfFiles told (λ files. (Comes files → ⊥) ⊎ Early)
     → HasMade (object_load c.object ∷ []) asked asked' →
@@ -282,7 +282,7 @@ surveys_loaded c told bytes Early asked between asked' h first more =
     list_loaded c told (λ files. SpellsFile files c.object) Early asked between asked'
     (spells_file told c.object bytes h) first more
 
--- likewise for a campaign on an accepted object; otherwise, or if it ends early, it may load the object alone
+-- likewise for a campaign on an accepted object; otherwise, or if it ends early, it may load only the object
 pub campaigns_loaded : (c : Campaign) (told : Option Files) (bytes : List ℕ) (Early : Type 0)
     (asked between asked' : Option LoadList) → LoadsObject told c.object (Ok bytes) →
     HasMade (object_load c.object ∷ []) asked between
@@ -295,7 +295,7 @@ campaigns_loaded c told bytes Early asked between asked' h first (inr more) =
     list_loaded c told (λ files. SpellsAccepted files c.object) Early asked between asked'
     (spells_accepted told c.object bytes h more.0) first more.1
 
--- a survey or a campaign whose object was not loaded, or is not an object, may load that file alone
+-- a survey or a campaign that ends early, or whose object file spells no object, may load only that file
 pub survey_unloaded : (c : Campaign) (told : Option Files) (Early : Type 0) (asked asked' : Option LoadList) →
     OfFiles told (λ files. (SpellsFile files c.object → ⊥) ⊎ Early) → HasMade (object_load c.object ∷ []) asked asked'
     → OfFiles told (λ files. LoadsFor (Surveys c) told files Early asked asked')

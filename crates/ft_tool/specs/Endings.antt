@@ -37,7 +37,7 @@ part_end ListRefused = Concluded 11
 part_end TextRefused = Concluded 12
 part_end LinkRefused = Concluded 13
 
--- a load or a take failed, or memory ran out
+-- whether a load or a take failed, or memory ran out
 abbrev pub is_early_end : PartEnd → Bool
 is_early_end (Concluded status) = false
 is_early_end Unloaded = true
