@@ -87,7 +87,7 @@ of_each P zero e (suc k) l = absurd (omega arith)
 of_each P (suc n) e zero l = e.0
 of_each P (suc n) e (suc k) l = of_each (λ k. P (suc k)) n e.1 k (omega arith)
 
--- colours
+-- colours: a valid code is recovered from its colour, and a colour from its code; a colour's code is valid and small
 pub colour_again : (at n : ℕ) → colour_broken at n ≡ None → colour_code (colour_of n) ≡ n
 colour_again at n h = up_to (λ k. colour_code (colour_of k) ≡ k) 1 refl refl n (le_held n 1 (errors.Kind at) h)
 
@@ -123,7 +123,8 @@ op_has_again v at n h = (op_again v at n h).has
 pub op_fine : (v : Version) (at : ℕ) (o : Op) → SupportsOp v o → op_broken v at (op_code o) ≡ None
 op_fine v at o h = rw (le_true (op_code o) (last_op v) h) refl
 
--- registers
+-- registers: a valid number is recovered from its register, and a register from its number; a register's number is
+-- valid
 same_reg : (n : ℕ) (h : n < 64) (b : Bool) (e : nat_lt n 64 ≡ b) → b ≡ true → reg_if n b e
     ≡ Some (record { number = n; in_range = h })
 same_reg n h true e t = ap (λ p. Some (record { number = n; in_range = p })) (le_prop (ltb-true n 64 e) h)
@@ -140,7 +141,7 @@ register_back r = ap or_first (same_reg r.number r.in_range (nat_lt r.number 64)
 pub register_fine : (at : ℕ) (r : Reg) → register_broken at r.number ≡ None
 register_fine at r = rw (lt_true r.number 64 r.in_range) refl
 
--- basic types
+-- basic types: what holds of valid fields
 pub record BasicAgain (types refs base code_type : ℕ) : Type 0 where
   pub basic : IsBasic types (basic_type_of refs base code_type)
   pub code : base_code (base_of base code_type) ≡ base
@@ -203,7 +204,7 @@ pub type_fits : (b : Base) → FitsBase b → base_type b < 2 ^ 16
 type_fits Int h = omega arith
 type_fits (Code t) h = h
 
--- splitting a word into halves, and joining them
+-- splitting two joined halves gives the halves back, and joining the halves of a word gives the word back
 pub high_back : (high low : ℕ) → low < 2 ^ 32 → high_half (joined high low) ≡ high
 high_back high low h = omega arith
 

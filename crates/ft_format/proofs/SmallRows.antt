@@ -137,7 +137,7 @@ regs_fine types nodes ints least at (r ∷ rs) m k h up =
       fit = (reg_fit types nodes ints r m k h.0, after.fit);
     }
 
--- queue rows
+-- queue rows: a record is recovered from the pair that it encodes
 pub pair_again : (row : List ℕ) → Fit pair_layout row → queue_row (pair_of row) ≡ row
 pair_again (a ∷ b ∷ []) fit = refl
 pair_again [] fit = absurd fit
@@ -280,7 +280,7 @@ all_blocks_fine h at (b ∷ bs) m k z a t =
       fit = ((omega (arith, a.1), (omega (arith, t.0), tt)), after.fit);
     }
 
--- substitution rows
+-- substitution rows: valid records are recovered from the nodes that they encode, which are nodes of integers
 pub substs_again : (nodes : List Node) (at : ℕ) (rs : List (List ℕ)) → AreNarrowNodes nodes → AllFit subst_layout rs →
     subst_rows_broken nodes at rs ≡ None
     → (map subst_row (map subst_node_of rs) ≡ rs) × AllByRecursion (IsNodeIn nodes 128 false) (map subst_node_of rs)

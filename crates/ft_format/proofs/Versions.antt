@@ -53,7 +53,7 @@ pub few_name_bytes : (v : Version) → most_name_bytes v ≤ 40960
 few_name_bytes First = omega arith
 few_name_bytes Second = omega arith
 
--- both versions have these kinds
+-- both versions have the node kinds up to 5 and the instruction kinds up to 7
 pub has_node_kind : (v : Version) (kind : ℕ) → kind ≤ 5 → nat_le kind (last_node_kind v) ≡ true
 has_node_kind First kind h = grind (arith, nat_tests)
 has_node_kind Second kind h = grind (arith, nat_tests)
@@ -62,7 +62,7 @@ pub has_instr_kind : (v : Version) (kind : ℕ) → kind ≤ 7 → nat_le kind (
 has_instr_kind First kind h = grind (arith, nat_tests)
 has_instr_kind Second kind h = grind (arith, nat_tests)
 
--- the magic number
+-- the magic number of a version is below 2^64, and passes the test for magic numbers
 pub magic_small : (v : Version) → magic v < 2 ^ 64
 magic_small First = omega arith
 magic_small Second = omega arith
@@ -71,7 +71,7 @@ pub magic_is : (v : Version) → is_magic (magic v) ≡ true
 magic_is First = refl
 magic_is Second = refl
 
--- the version that a magic number names
+-- a magic number is that of the version that it names, and the magic number of a version names this version
 named_by : (n : ℕ) (first second : Bool) → (n == magic First) ≡ first → (n == magic Second) ≡ second → (first || second)
     ≡ true → n ≡ magic (if first then First else Second)
 named_by n true second p q h = grind (arith, nat_tests)
@@ -85,7 +85,7 @@ pub names_magic : (h : Header) (v : Version) → h.magic ≡ magic v → version
 names_magic h First e = rw e refl
 names_magic h Second e = rw e refl
 
--- the bytes of names
+-- a letter is allowed after a name's first byte, and each byte that is allowed there is a byte of names
 pub letter_follows : (v : Version) (b : ℕ) → is_letter b ≡ true → may_follow v b ≡ true
 letter_follows First b h = rw h refl
 letter_follows Second b h = rw h refl
