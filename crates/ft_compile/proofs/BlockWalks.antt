@@ -56,7 +56,7 @@ out_stays e r q h = entered_get e r None q ∙ either (q == r) (finite.get e q) 
     either true u g = refl
     either false u g = g
 
--- a register that is entered or removed has the new entry, or none
+-- after a register is entered or removed, it has the new entry or none, respectively
 taken_out : (e : Entered) (r : ℕ) (v : Option ℕ) → finite.get (entered_with r v e) r ≡ v
 taken_out e r v = entered_get e r v r ∙ ap (λ b. cond b v (finite.get e r)) (eq-eqb r r refl)
 
@@ -72,7 +72,7 @@ free_of e r h = ap (λ u. not (is_some u)) h
 abbrev two : ℕ → Option ℕ → Entered → Entered
 two p v e = entered_with (blue p).number v (entered_with (green p).number v e)
 
--- a pair that gets an integer becomes known, and is not entered
+-- the known pairs are unentered after one more pair gets an integer and becomes known
 unentered_learn : (k : Known) (e : Entered) (p : ℕ) → p < 32 → AreUnentered k e →
     AreUnentered (learn p k) (two p None e)
 unentered_learn k e p lt h = record {
@@ -126,7 +126,7 @@ unentered_forget k e p v lt h = record {
 still_known : (k : Known) (p q : ℕ) → q ≢ p → k q ≡ true → forget p k q ≡ true
 still_known k p q ne h = ap (λ b. cond b false (k q)) (ne_eqb q p ne) ∙ h
 
--- after both registers of a pair are entered or removed, the green one has the new entry, or none
+-- after both registers of a pair are entered or removed, the green one has the new entry or none, respectively
 entered_green : (e : Entered) (p : ℕ) (v : Option ℕ) → p < 32 → finite.get (two p v e) (green p).number ≡ v
 entered_green e p v lt = other_stays (entered_with (green p).number v e) (blue p).number (green p).number v
     (green_is_not_blue p p lt lt) ∙ taken_out e (green p).number v

@@ -195,7 +195,7 @@ module _ (vars : ℕ) (start : ℕ → ℕ) where
   abbrev row_start : ℕ → List (List Instr) → ℕ → ℕ
   row_start n rs b = unwrap_or (slice_get (offsets n rs) b) 0
 
-  -- the slice of a row's length at the row's place is the row
+  -- the slice that begins where a row begins and is as long as the row is the row itself
   cut_first : (front r rest : List Instr) (n e : ℕ) → n ≡ length front → e ≡ n + length r →
       slice_range (front ++ (r ++ rest)) n e ≡ r
   cut_first front r rest n e p q =

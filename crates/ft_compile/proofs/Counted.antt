@@ -129,7 +129,7 @@ rows_blocks vars b w (x ∷ xs) few = omega (
 
 -- BLOCKS
 
--- a block has an instruction
+-- a block has at least one instruction
 block_has_some : (is : List Step3) → IsBlock is → 0 < row_size is
 block_has_some [] h = absurd h
 block_has_some (i ∷ is) h = omega (arith, some i)
@@ -146,12 +146,12 @@ block_has_some (i ∷ is) h = omega (arith, some i)
     some (Go spare to) = omega arith
     some Stop = omega arith
 
--- each block has an instruction
+-- each block has at least one instruction
 abbrev pub HaveSome : Blocks → Type 0
 HaveSome [] = Unit {0}
 HaveSome (x ∷ xs) = (0 < row_size x) × HaveSome xs
 
--- each well-formed block has an instruction
+-- each well-formed block has at least one instruction
 pub fine_have_some : (vars cells blocks b : ℕ) (xs : Blocks) → RowsAreFine vars cells blocks b xs → HaveSome xs
 fine_have_some vars cells blocks b [] h = tt
 fine_have_some vars cells blocks b (x ∷ xs) h = (

@@ -96,7 +96,7 @@ module _ (F : List Node) where
     pub named : IsNamed scope k (length w.nodes) w.pairs w.memory
     pub fine : AreFine w.nodes
 
-  -- the invariant holds after one more node, which becomes a pair's
+  -- the invariant holds after one more node, which becomes the node of a pair
   one_node : (scope : ℕ) (k : Known) (w : Noted) (p : ℕ) (x : Shape) → scope ≤ 128 → p < 32 →
       Starts (with_pair_node scope p x w).nodes F → is_memory x ≡ false → IsShape F (length w.nodes) scope x →
       IsLawful scope k w → IsLawful scope (learn p k) (with_pair_node scope p x w)

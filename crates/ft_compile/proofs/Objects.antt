@@ -69,7 +69,7 @@ module _ (names : List (List ℕ)) (inits : List ℕ) (vars : ℕ) (bs : Blocks)
   fine : RowsAreFine vars (length inits) (length bs) 0 bs
   fine = well_rows vars (length inits) bs W
 
-  -- each block has an instruction
+  -- each block has at least one instruction
   some : HaveSome bs
   some = fine_have_some vars (length inits) (length bs) 0 bs fine
 

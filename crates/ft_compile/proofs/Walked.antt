@@ -330,7 +330,7 @@ scope_within vars zero few = omega arith
 scope_within vars (suc b) few = omega arith
 
 module _ (F : List Node) (R : List ℕ) where
-  -- the invariant between blocks holds after blocks
+  -- the invariant between blocks still holds after well-formed blocks
   blocks_sound : (vars cells blocks b : ℕ) (w : Noted) (xs : Blocks) → vars ≤ 32 → cells ≤ 1024 →
       RowsAreFine vars cells blocks b xs → Starts (at_first vars).nodes w.nodes →
       Starts (blocks_noted vars b w xs).nodes F → Starts (blocks_noted vars b w xs).rows R → IsSound F R w →
