@@ -68,7 +68,7 @@ range_ends text xs i end old all le h =
 
 -- INSTRUCTIONS
 
--- a word and rows, joined by spaces, are the word and then each row after a space
+-- a word and rows, joined by spaces, are the word followed by each row with a space before it
 spaced_rows : (w : List ℕ) (rows : List ℕ) → spaced (w ∷ map decimal rows) ≡ w ++ flat_map row_text rows
 spaced_rows w [] = sym (append-nil w)
 spaced_rows w (n ∷ ns) =

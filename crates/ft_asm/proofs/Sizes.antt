@@ -1,5 +1,5 @@
--- The rows of a text's tables and the bytes of its names are together at most as many as the bytes of the text. So its
--- counts are bounded, and its numbers fit.
+-- The number of rows in a text's tables plus the number of bytes in its names is at most the number of bytes of the text.
+-- So its counts are bounded, and its numbers fit.
 use Rattle.std.proofs.Common.{◌≡◌, ℕ, suc, ◌+◌, ◌^◌, ◌<◌, ◌≤◌, ◌==◌, Bool, true, false, List, [], ◌∷◌, ◌++◌, length}
 use Rattle.std.proofs.Common.{map, decimal, refl, ap, sym, ◌∙◌, subst, arith}
 use Rattle.std.specs.Prelude.{if◌then◌else◌}
@@ -138,7 +138,7 @@ cells_weigh : (cs : List Cell) → all_weights (map lines.Cell cs) ≡ length cs
 cells_weigh [] = omega arith
 cells_weigh (c ∷ cs) = let rest = cells_weigh cs in let long = length-append c.name (flat_map name_of cs) in omega arith
 
--- if each line weighs 1, the lines weigh as much as there are lines
+-- if each line weighs 1, the total weight of the lines is their number
 plain_weigh : {A : Type 0} (f : A → Line) → ((x : A) → weight (f x) ≡ 1) → (xs : List A) → all_weights (map f xs)
     ≡ length xs
 plain_weigh f one [] = omega arith

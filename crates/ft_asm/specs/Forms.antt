@@ -22,7 +22,7 @@ use Rattle.ft_asm.specs.declared.line.Line.{Line}
 abbrev pub number_of : List ℕ → Option ℕ
 number_of word = option_and_then (λ number. number) (state_after (λ number byte. option_map Some (with_digit number byte)) None word)
 
--- a number below a limit
+-- the number, if it is below a limit
 abbrev pub if_below : ℕ → ℕ → Option ℕ
 if_below limit n = if nat_lt n limit then Some n else None
 

@@ -3,7 +3,7 @@ use Rattle.std.specs.Prelude.{◌≡◌, ℕ, ◌<◌, Bool, true, false, ◌==�
 use Rattle.std.specs.List.{AllByRecursion}
 use Rattle.ft_text.specs.Lines.{with_byte}
 
--- a space or a tab
+-- whether a byte is a space or a tab
 abbrev pub is_blank : ℕ → Bool
 is_blank byte = (byte == 32) || (byte == 9)
 
