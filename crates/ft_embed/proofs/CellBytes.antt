@@ -27,7 +27,7 @@ use Rattle.ft_embed.specs.Cells.{begun_with, with_word, object_with_word}
 
 -- LISTS
 
--- replacing the eight bytes in the middle of a list by position leaves the parts before and after them
+-- replacing the eight bytes in the middle of a list, by their position, keeps the parts before and after them
 replaced : (before middle after new : List ℕ) (at : ℕ) → length before ≡ at → length middle ≡ 8 →
     take at (before ++ (middle ++ after)) ++ (new ++ drop (at + 8) (before ++ (middle ++ after))) ≡ before
     ++ (new ++ after)

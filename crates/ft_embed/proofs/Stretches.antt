@@ -58,8 +58,8 @@ module _ (o : Object) (s s1 : State) (w w1 : List Wild) (n from c1 : ℕ) (old m
   whole : (k : ℕ) → span o (n + k) s w ≡ joined (span o n s w).outputs (span o k s1 w1)
   whole k = span_then o n k s s1 w w1 a.state_is a.wild_is
 
-  -- the earlier outputs and those of all n + k steps are as many as the outputs in the array and those of the last k
-  -- steps
+  -- the number of earlier outputs plus the number of outputs of all n + k steps is the number of outputs in the array
+  -- plus the number of outputs of the last k steps
   counted : (k : ℕ) → from + length (span o (n + k) s w).outputs ≡ c1 + length (span o k s1 w1).outputs
   counted k =
       let more = ap (λ (r : Ran). length r.outputs) (whole k)
@@ -130,7 +130,7 @@ module _ (o : Object) (s s' : State) (w w' : List Wild) (most n at after : ℕ) 
     before = λ j less. quiet_room j (a.before j less);
   }
 
--- a call takes no more steps than it is allowed
+-- a call takes no more steps than it is allowed to take
 enough_few : (last : Stepped) (n most : ℕ) → IsEnough last n most → n ≤ most
 enough_few Quiet n most h = omega (arith, h)
 enough_few (Commit output) n most h = h.1

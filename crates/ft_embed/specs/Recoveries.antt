@@ -13,7 +13,7 @@ use Rattle.ft_embed.specs.Outputs.{cell_output, Ends, GoesUntil, SameAfter}
 use Rattle.ft_embed.specs.Plans.{IsFault, AreAnswers}
 use Rattle.ft_embed.specs.Verdicts.{IsAcceptedFile}
 
--- no restart is reported as 0 and 0, and a restart after n outputs as 1 and n
+-- what is reported about a restart: 0 and 0 if there was none, and 1 and n if there was one after n outputs
 abbrev pub IsRestart : Option ℕ → ℕ → ℕ → Type 0
 IsRestart None restarts again = (restarts ≡ 0) × (again ≡ 0)
 IsRestart (Some n) restarts again = (restarts ≡ 1) × (again ≡ n)

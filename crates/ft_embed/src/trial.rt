@@ -4,7 +4,8 @@ ghost use Rattle.ft_embed.specs.Trials.{detected_at, fault_totals, fault_verdict
 
 use ft_campaign::{Totals, Verdict};
 
-/// The verdict on a fault: 0 masked, 1 detected, 2 idle, 3 corrupt; and the step that detected the fault, otherwise 0.
+/// The verdict on a fault: 0 masked, 1 detected, 2 idle, 3 corrupt; and the step that detected the fault, or 0 if none
+/// did.
 #[repr(C)]
 #[derive(Clone, Copy)]
 pub struct FaultVerdict {
@@ -12,7 +13,7 @@ pub struct FaultVerdict {
     pub at: u64,
 }
 
-/// How many faults there are, and how many have each verdict but corrupt, which no fault of an accepted object has.
+/// How many faults there are, and how many have each verdict except corrupt, which no fault of an accepted object has.
 #[repr(C)]
 #[derive(Clone, Copy)]
 pub struct FaultTotals {
