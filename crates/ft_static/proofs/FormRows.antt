@@ -154,7 +154,8 @@ module _ (ps : List Polynomial) (u : Updates) (s : Valuation) (lawful : IsLawful
   abbrev pub MemoryDenotes : Memory → Type 0
   MemoryDenotes m = value_updates (norm_memory_under m ps u) s ≡ memory_value m (valuation_under ps u s)
 
-  -- the form of an expression under substituted forms denotes its value in the valuation that these forms give
+  -- the form of an expression under substituted forms denotes the expression's value in the valuation that these forms
+  -- give
   pub value_under : OfAll (λ e. AreWords e → Denotes e) (λ m. AreWordsOfMemory m → MemoryDenotes m)
   value_under = by_parts_where AreWords Denotes AreWordsOfMemory MemoryDenotes words_of_parts split whole stored
     where

@@ -17,7 +17,7 @@ use Rattle.ft_static.specs.declared.node.Shape.TheVariants as shape
 use Rattle.ft_static.proofs.NodeTrees.{OfAll, OfMemoryParts, OfParts, by_parts, by_parts_where}
 use Rattle.ft_static.proofs.Sums.{value_polynomial_is_word, value_updates_are_words}
 
--- an element of a mapped list; the function is also applied to the default
+-- looking up an element of a mapped list, with the image of a default as the default, gives the image of the element
 pub get_or-map : {A B : Type 0} (f : A → B) (xs : List A) (k : ℕ) (d : A) → get_or (map f xs) k (f d)
     ≡ f (get_or xs k d)
 get_or-map f [] k d = refl

@@ -68,7 +68,7 @@ constant_of nought = Some 0
 constant_of (plus one c nought) = Some (c % 2 ^ 64)
 constant_of p = None
 
--- there is a number, and it isn't 0
+-- whether there is a number other than 0
 abbrev pub is_not_zero : Option ℕ → Bool
 is_not_zero None = false
 is_not_zero (Some c) = if c == 0 then false else true
