@@ -90,7 +90,7 @@ range_past xs i j le = let n : j - i ≡ 0 = omega arith in rw n refl
 pub all_there : {X : Type 0} (P : X → Type 0) (xs : List X) (k : ℕ) (x : X) → All P xs → slice_get xs k ≡ Some x → P x
 all_there P xs k x h e = subst P (get_or_from_slice_get xs k x x e) (h k x (slice_get_within xs k x e))
 
--- what holds of a value holds of every element of the list that contains this value alone
+-- what holds of a value holds of every element of the list that contains only this value
 pub all_of_one : {X : Type 0} (P : X → Type 0) (x : X) → P x → All P (x ∷ [])
 all_of_one P x h = All-cons P x [] h (All-nil P)
 

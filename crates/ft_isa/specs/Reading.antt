@@ -19,7 +19,7 @@ abbrev pub state_after : {S : Type 0} → (S → ℕ → Option S) → S → Lis
 state_after next state [] = Some state
 state_after next state (byte ∷ bytes) = option_and_then (λ after. state_after next after bytes) (next state byte)
 
--- a decimal digit
+-- whether a byte is a decimal digit
 abbrev pub is_digit : ℕ → Bool
 is_digit byte = nat_le 48 byte && nat_le byte 57
 
