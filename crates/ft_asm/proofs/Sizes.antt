@@ -1,5 +1,5 @@
--- The number of rows in a text's tables plus the number of bytes in its names is at most the number of bytes of the text.
--- So its counts are bounded, and its numbers fit.
+-- The number of rows in a text's tables plus the number of bytes in its names is at most the number of bytes in the
+-- text. So its counts are bounded, and its numbers fit.
 use Rattle.std.proofs.Common.{◌≡◌, ℕ, suc, ◌+◌, ◌^◌, ◌<◌, ◌≤◌, ◌==◌, Bool, true, false, List, [], ◌∷◌, ◌++◌, length}
 use Rattle.std.proofs.Common.{map, decimal, refl, ap, sym, ◌∙◌, subst, arith}
 use Rattle.std.specs.Prelude.{if◌then◌else◌}

@@ -4,7 +4,7 @@ use Rattle.ft_format.specs.declared.header.Header.{Header}
 use Rattle.ft_format.specs.declared.places.Places.{Places}
 use Rattle.ft_format.specs.Broken.{IsSmall, nodes_at, types_at, regs_at, queue_at, blocks_at, instrs_at, substs_at, names_at, total}
 
--- these are the places that the counts of a header give
+-- these are the places computed from the counts of a header
 pub record ArePlaces (h : Header) (p : Places) : Type 0 where
   pub nodes : p.nodes ≡ nodes_at h
   pub types : p.types ≡ types_at h

@@ -22,6 +22,6 @@ reg_if-number n true e reg f = let same : record { number = n; in_range = ltb-tr
     sym (ap (λ (r : Reg). r.number) same)
 reg_if-number n false e reg f = absurd cc
 
--- the register that `reg_of` gives for a number has that number
+-- the register that `reg_of` returns for a number has that number
 pub number-reg_of : (n : ℕ) (reg : Reg) → reg_of n ≡ Some reg → reg.number ≡ n
 number-reg_of n reg f = reg_if-number n (nat_lt n 64) refl reg f

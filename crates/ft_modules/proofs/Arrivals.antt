@@ -178,8 +178,8 @@ module _ (modules : List Object) (joins : List Link) (x : Object) (spelled : IsS
     (world : World modules joins x) where
   -- ARRIVALS
 
-  -- if the module's machine is at the start of block y, and the linked object's where y is sent, their states
-  -- correspond
+  -- if the module's machine is at the start of block y, and the linked object's machine is where y is sent, their
+  -- states correspond
   pub arrives : (m : ℕ) (o : Object) (there : slice_get modules m ≡ Some o) (w : ℕ) (y : Block) → block_at o w
       ≡ Some y → (s t : State) (v u : Valuation) → v ≡ u → FitsContext o v (start_context o y.code_type) s → s.pc_green
       ≡ w → s.pc_blue ≡ w → s.fetched ≡ None → s.status ≡ Running → (b : Block) → block_at x ((world m o there).to w).0

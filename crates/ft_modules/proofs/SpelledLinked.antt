@@ -116,7 +116,7 @@ raised_code_type t u k ns ms y le few s h = record {
   memory = raised_name ns ms k (length ns) (length ms) y.ints true y.memory s few h.memory;
 }
 
--- if raising each code type keeps a count, raising all of them keeps the sum of their counts
+-- if raising a code type keeps its count, raising all code types keeps the sum of their counts
 pub raised_count : (f : CodeType → ℕ) (k : ℕ) (ts : List CodeType) → ((t : CodeType) → f (raised_type k t) ≡ f t) →
     sum_by f (map (raised_type k) ts) ≡ sum_by f ts
 raised_count f k [] h = refl
