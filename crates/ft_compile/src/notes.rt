@@ -30,8 +30,9 @@ pub struct Notes {
 }
 
 impl Notes {
-    /// Notes with only the memory variable and this many integer variables. There is room for the notes of this many
-    /// instructions: no step has more nodes than instructions, and a jump has four instructions.
+    /// Notes with only the memory variable and this many integer variables. Reserves room for one node per instruction,
+    /// and for one jump's substitution and rows per four instructions: no step adds more nodes than it has
+    /// instructions, and a jump has four instructions.
     pub fn new(alloc: Global, vars: u8, instrs: usize) -> Result<Notes, AllocError>
         ensures { IfOk result (λ n. noted_of n ≡ at_first vars) }
     {
