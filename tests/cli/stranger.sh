@@ -151,7 +151,7 @@ done <<'END'
 6^compile got^cell a.b = 0;\n^got:1:7: error: unexpected character `.`: a name has only letters, digits and `_`
 6^compile got^var a: int;\n^got:1:6: error: unexpected character `:`: a declaration is `var a;` or `cell a = 0;`, without a type
 6^compile got^cell a := 0;\n^got:1:8: error: unexpected character `:`: write `=` to assign
-6^compile got^cell a = 0;\na = 3;\n\x1a^got:3:1: error: unexpected Ctrl-Z (byte 0x1A), with which old editors end a file: remove it
+6^compile got^cell a = 0;\na = 3;\n\x1a^got:3:1: error: unexpected Ctrl-Z (byte 0x1A), which old editors put at the end of a file: remove it
 6^compile got^cell a = 0;\nreturn;\n^got:2:7: error: unexpected `;`: there is no `return`: a program ends after its last statement
 6^compile got^cell a = 0;\nprint a;\n^got:2:7: error: unexpected `a`: there are no calls or macros: an assignment to a cell is the output
 6^compile got^cell a = 0;\nprint "hello";\n^got:2:7: error: unexpected character `"`: there are no calls or macros: an assignment to a cell is the output
@@ -159,26 +159,29 @@ done <<'END'
 6^compile got^cell a = 0;\na = ++a;\n^got:2:5: error: unexpected `+`: write it as a separate statement, as in `a = a + 1;`
 6^compile got^cell a = 0;\na = +3;\n^got:2:5: error: unexpected `+`: numbers have no sign
 6^compile got^cell a = 0;\na = a * -3;\n^got:2:9: error: unexpected `-`: numbers have no sign: write `0 - 1` for `-1`
-6^compile got^```\ncell a = 0;\n```\n^got:1:1: error: this line is a code fence of Markdown: remove both fences
+0^exec got^var a;\na = 3;\n^got: note: no statement assigns to a cell, so there is no output
+0^mean got^cell a = 3;\n^got: note: no statement assigns to a cell, so there is no output
+0^exec got^cell a = 0;\na = 3;\n^
+6^compile got^```\ncell a = 0;\n```\n^got:1:1: error: this line is a Markdown code fence: remove both fences
 6^compile got^PK\x03\x04\x14^got: error: this is a zip archive, not a source: `unzip` unpacks it
 7^run got^\x1f\x8b\x08^got: error: this is compressed by gzip, not an object: `gunzip` unpacks it
 7^run got^\x7fELF\x02^got: error: this is an ELF file (code for a processor), not an object: `tools/cc` makes an object from C files
 11^campaign five.obj --faults got^\x7fELF\x02^got: error: this is an ELF file (code for a processor), not a fault list
 7^check got^TALFT\x02\x01\x01\x01\x05^got: error: the object has no zero bytes, because a text tool removed or replaced them: copy it in binary mode
-2^run five.obj --fault 4:r1:6,10:r1:6^^talft: error: invalid fault `4:r1:6,10:r1:6`: expected STEP:SITE:WORD; a run takes one fault; `talft campaign OBJECT --faults FILE` tries each of a list
+2^run five.obj --fault 4:r1:6,10:r1:6^^talft: error: invalid fault `4:r1:6,10:r1:6`: expected STEP:SITE:WORD; a run takes one fault; `talft campaign OBJECT --faults FILE` tries each fault of a list
 2^run five.obj --fault 4:R1:6^^talft: error: invalid fault `4:R1:6`: expected STEP:SITE:WORD; invalid site `R1`: write sites in lower case, as in `r1`
 2^run five.obj --fault 4:PCG:6^^talft: error: invalid fault `4:PCG:6`: expected STEP:SITE:WORD; invalid site `PCG`: write sites in lower case, as in `r1`
 2^run five.obj --fault 4:out:6^^talft: error: invalid fault `4:out:6`: expected STEP:SITE:WORD; invalid site `out`: a site is r0 to r63, d, pcg, pcb, qa0 to qa7 or qv0 to qv7
-2^run five.obj --wild 1, 2^^talft: error: invalid list `1,` for `--wild`: expected at most 4096 answers separated by commas, each a number or `stop`; write it without spaces, as `1,2`
-2^run five.obj --wild 1 2^^talft: error: unexpected argument `2` after the list of `--wild`: write the list without spaces, as `1,2`
+2^run five.obj --wild 1, 2^^talft: error: invalid list `1,` for `--wild`: expected at most 4096 answers separated by commas, each a number or `stop`; write it without spaces, as in `1,2`
+2^run five.obj --wild 1 2^^talft: error: unexpected argument `2` after the list of `--wild`: write the list without spaces, as in `1,2`
 2^mean fibonacci.src --steps 4^^talft: error: unknown option `--steps` for `mean`: it is an option of `run`, `recover`, `exec`, `trial`, `campaign` and `survey`; `mean` takes `--turns`
 2^run five.obj --turns 4^^talft: error: unknown option `--turns` for `run`: it is an option of `mean`; `run` takes `--steps`, `--fault` and `--wild`
 2^campaign five.obj --fault 4:r1:6^^talft: error: unknown option `--fault` for `campaign`: it is an option of `run`, `recover` and `trial`; `campaign` takes `--steps`, `--wild` and `--faults`
 2^check five.obj -o x^^talft: error: unknown option `-o` for `check`: it writes to standard output: add `>FILE`
 2^check^^talft: error: missing OBJECT after `check`; for standard input write `/dev/stdin`
 2^debug^^talft: error: missing OBJECT after `debug`
-11^campaign five.obj --faults got^4:r1:6\n\x1a^got:2:1: error: unexpected Ctrl-Z (byte 0x1A), with which old editors end a file: remove it
-11^campaign five.obj --faults got^```\n4:r1:6\n```\n^got:1:1: error: this line is a code fence of Markdown: remove both fences
+11^campaign five.obj --faults got^4:r1:6\n\x1a^got:2:1: error: unexpected Ctrl-Z (byte 0x1A), which old editors put at the end of a file: remove it
+11^campaign five.obj --faults got^```\n4:r1:6\n```\n^got:1:1: error: this line is a Markdown code fence: remove both fences
 0^campaign five.obj --faults five.faults --steps 12^^five.obj: note: the run without a fault was cut after 12 steps: raise `--steps`
 0^campaign five.obj --faults five.faults --steps 14^^
 3^link got^module a\\\\b.obj\n^got:1:8: error: `a\b.obj`: no such file; `/` separates folders
@@ -189,11 +192,11 @@ done <<'END'
 12^asm got^1: cell out int 0\n^got:1:1: error: unexpected `1:`: lines are not numbered: remove the numbers
 12^asm got^$ cell out int 0\n^got:1:1: error: unexpected `$`: this is the prompt of a shell: remove it
 12^asm got^> cell out int 0\n^got:1:1: error: unexpected `>`: this marks a prompt or a quotation: remove it
-12^asm got^```text\ncell out int 0\n```\n^got:1:1: error: this line is a code fence of Markdown: remove both fences
+12^asm got^```text\ncell out int 0\n```\n^got:1:1: error: this line is a Markdown code fence: remove both fences
 END
 for tool in build cc dap debugger ending explain faults lines plot report set wasm2asm; do
   report "the message about $tool as a command" \
-    "2: talft: error: unknown command \`$tool\`: this is a script of its own, \`tools/$tool\`: \`tools/$tool --help\`, \`man talft-$tool\`" \
+    "2: talft: error: unknown command \`$tool\`: that is a separate script, \`tools/$tool\`; see \`man talft-$tool\`" \
     "$(first_said "$tool")"
   report "the script $tool" '' "$(ls "$top/tools/$tool" "$top/man/talft-$tool.1" 2>&1 >/dev/null)"
 done

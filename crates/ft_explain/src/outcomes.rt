@@ -5,6 +5,7 @@ use crate::detections::say_detection;
 use crate::endless::note_endless;
 use crate::indices::note_indices;
 use crate::reruns::{Met, rerun};
+use crate::silent::note_silent;
 use ft_command::{Campaign, Command, Run};
 use ft_edge::Shelf;
 use ft_isa::{NoMemory, Plan, Site, Strike};
@@ -198,6 +199,12 @@ fn note_cut<S: Shelf>(page: &mut Page, asked: &Campaign, shelf: &mut S) -> Resul
     }
 }
 
+/// Notes what is notable about an accepted source.
+fn note_source<S: Shelf>(page: &mut Page, name: &str, shelf: &mut S) -> Result<(), NoMemory> {
+    note_indices(page, name, shelf)?;
+    note_silent(page, name, shelf)
+}
+
 /// Explains what happened in a call that ended with status 0, 1 or 9; it writes nothing about plain success.
 pub(crate) fn explain_outcome<S: Shelf>(
     page: &mut Page,
@@ -216,9 +223,9 @@ pub(crate) fn explain_outcome<S: Shelf>(
         Command::Mean(asked) if status == 9 => {
             say_cut_source(page, asked.source, asked.turns, "turns", shelf)
         }
-        Command::Compile(source) if status == 0 => note_indices(page, *source, shelf),
-        Command::Exec(asked) if status == 0 => note_indices(page, asked.source, shelf),
-        Command::Mean(asked) if status == 0 => note_indices(page, asked.source, shelf),
+        Command::Compile(source) if status == 0 => note_source(page, *source, shelf),
+        Command::Exec(asked) if status == 0 => note_source(page, asked.source, shelf),
+        Command::Mean(asked) if status == 0 => note_source(page, asked.source, shelf),
         _ => Ok(()),
     }
 }

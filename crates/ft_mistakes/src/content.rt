@@ -211,7 +211,7 @@ pub(crate) fn content_of_file(
     Ok(content)
 }
 
-/// What the first bytes of a file that is not a text say that it is.
+/// The first bytes of files that are not text, and what they show.
 const MAGICS: &[(&[u8], Content)] = &[
     (b"TALFT", Content::Object),
     (b"\0asm", Content::Wasm),
@@ -222,7 +222,7 @@ const MAGICS: &[(&[u8], Content)] = &[
     (b"\x7fELF", Content::Elf),
 ];
 
-/// What the first bytes of a file say that it is; `None` if they may begin a text.
+/// What the first bytes of a file show that it is; `None` if they may begin a text.
 fn content_of_magic(bytes: &[u8]) -> Option<Content> {
     for (magic, content) in MAGICS {
         if bytes.starts_with(*magic) {

@@ -166,7 +166,7 @@ pub(crate) fn lack_at(source: &[u8], at: usize) -> Option<Lack<'_>> {
     })
 }
 
-/// What to write instead of a word that is reserved in another language.
+/// What to write instead of a word that begins a statement in another language.
 fn habit_of_word(word: &[u8]) -> Option<&'static str> {
     match word {
         b"for" | b"do" | b"loop" | b"repeat" | b"until" => {
@@ -198,7 +198,7 @@ pub(crate) fn instead_of_macro(source: &[u8], at: usize) -> Option<&'static str>
     }
 }
 
-/// What to write instead of a statement of another language, which has a byte at a place that begins no token.
+/// What to write instead of a statement that begins with a word of another language; `None` for other statements.
 fn instead_of_statement(before: Before<'_>) -> Option<&'static str> {
     if before.first == Some(Kind::Name) && !before.assigned {
         habit_of_word(before.opening)
@@ -207,7 +207,7 @@ fn instead_of_statement(before: Before<'_>) -> Option<&'static str> {
     }
 }
 
-/// The message for a name in a declaration that continues with another character.
+/// The message for a name with a character that is not allowed in names.
 const NAMED: &str = "a name has only letters, digits and `_`";
 
 /// The message for a declaration with a type.

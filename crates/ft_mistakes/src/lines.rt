@@ -16,17 +16,17 @@ pub(crate) const NOT_UTF8: &str = "this line is not UTF-8: write it in ASCII";
 
 /// The message for a Ctrl-Z.
 pub(crate) const CTRL_Z: &str =
-    "unexpected Ctrl-Z (byte 0x1A), with which old editors end a file: remove it";
+    "unexpected Ctrl-Z (byte 0x1A), which old editors put at the end of a file: remove it";
 
 /// The message for a line that begins a block of code in Markdown, or ends one.
-pub(crate) const FENCE: &str = "this line is a code fence of Markdown: remove both fences";
+pub(crate) const FENCE: &str = "this line is a Markdown code fence: remove both fences";
 
 /// Whether a line is a code fence.
 pub(crate) fn begins_fence(line: &[u8]) -> bool {
     line.starts_with(b"```")
 }
 
-/// What is wrong with a line that a file has gained on its way, and where.
+/// A code fence or a Ctrl-Z, which copying and old editors add to files: its place in the line, and its message.
 pub(crate) fn wrong_extra(line: &[u8]) -> Option<(usize, &'static str)> {
     if begins_fence(line) {
         return Some((0, FENCE));

@@ -55,7 +55,7 @@ const LINE_FEED: &str =
 const NO_ZEROS: &str =
     "the object has no zero bytes, because a text tool removed or replaced them: copy it in binary mode\n";
 
-/// Whether an object has lost its zero bytes. One of them follows what it begins with.
+/// Whether an object has lost its zero bytes: in every object, one follows `TALFT`.
 fn has_lost_zeros(bytes: &[u8]) -> bool {
     bytes.len() > BEGINNING.len()
         && bytes.starts_with(BEGINNING)
@@ -68,7 +68,7 @@ fn has_line_feed(bytes: &[u8], wanted: usize) -> bool {
 }
 
 /// What to do about an object whose end is missing.
-const CUT_OFF: &str = ": it is cut off: copy it again\n";
+const CUT_OFF: &str = ": it is cut off; copy it again\n";
 
 /// Whether there are as many surplus bytes as CR LF pairs.
 fn is_as_text(bytes: &[u8], wanted: usize) -> bool {

@@ -130,7 +130,7 @@ fn explain_lines(page: &mut Page, script: &[u8], commands: &[Command<'_>]) -> Re
 /// The answer to a line that is not a command.
 const BAD: &[u8] = b"bad command";
 
-/// Explains a session whose script cannot be read again and that wrote this line last.
+/// Explains a session whose script cannot be read again, from the last line that it wrote.
 fn explain_last(page: &mut Page, line: &[u8]) -> Result<(), NoMemory> {
     if line.trim_ascii() != BAD {
         return Ok(());

@@ -59,7 +59,7 @@ fn say_of(page: &mut Page, token: &[u8], words: &str) -> Result<(), NoMemory> {
     page.say(words)
 }
 
-/// What is wrong with a byte that no source may contain, or that a file has gained on its way; `None` for any other.
+/// The message for a byte order mark, a code fence, a Ctrl-Z or a space that is not ASCII; `None` for anything else.
 fn wrong_byte(source: &[u8], at: usize, token: &[u8]) -> Option<&'static str> {
     if at == 0 && is_marked(source) {
         return Some(MARKED);

@@ -32,7 +32,7 @@ fn say_fault(page: &mut Page, value: &str) -> Result<bool, NoMemory> {
     page.say(": expected STEP:SITE:WORD; ")?;
     if second_fault(value).is_some() {
         page.say(
-            "a run takes one fault; `talft campaign OBJECT --faults FILE` tries each of a list",
+            "a run takes one fault; `talft campaign OBJECT --faults FILE` tries each fault of a list",
         )?;
         return Ok(true);
     }
@@ -56,7 +56,7 @@ fn say_wild(page: &mut Page, value: &str) -> Result<bool, NoMemory> {
         " for `--wild`: expected at most 4096 answers separated by commas, each a number or `stop`",
     )?;
     if is_spaced(value) {
-        page.say("; write it without spaces, as `1,2`")?;
+        page.say("; write it without spaces, as in `1,2`")?;
     }
     Ok(true)
 }
@@ -94,7 +94,7 @@ fn say_near_option(page: &mut Page, command: &'static str, word: &str) -> Result
     Ok(())
 }
 
-/// Whether an option is one of this program.
+/// Whether this is an option of some command.
 fn is_option(word: &str) -> bool {
     OPTIONS.iter().any(|option| first_word(*option) == word)
 }
@@ -109,7 +109,7 @@ fn count_takers(option: &str) -> usize {
     count
 }
 
-/// What comes before an item of a list with this many left, itself included.
+/// The separator before an item of a list, given how many items are left, this one included.
 fn separator(is_first: bool, left: usize) -> &'static str {
     match left {
         _ if is_first => "",
@@ -203,7 +203,7 @@ fn ends_with_list(before: &[String]) -> bool {
 fn say_split(page: &mut Page, word: &str) -> Result<(), NoMemory> {
     page.say("unexpected argument ")?;
     page.quote(word.as_bytes())?;
-    page.say(" after the list of `--wild`: write the list without spaces, as `1,2`")
+    page.say(" after the list of `--wild`: write the list without spaces, as in `1,2`")
 }
 
 /// Says that an argument follows the operand where only options may.
@@ -400,7 +400,7 @@ fn say_unknown(page: &mut Page, word: &str) -> Result<(), NoMemory> {
     page.quote(word.as_bytes())?;
     if is_tool(word) {
         return page.say(format_args!(
-            ": this is a script of its own, `tools/{word}`: `tools/{word} --help`, `man talft-{word}`\n"
+            ": that is a separate script, `tools/{word}`; see `man talft-{word}`\n"
         ));
     }
     say_near_command(page, word)?;
