@@ -184,7 +184,7 @@ done <<'END'
 11^campaign five.obj --faults got^```\n4:r1:6\n```\n^got:1:1: error: this line is a Markdown code fence: remove both fences
 0^campaign five.obj --faults five.faults --steps 12^^five.obj: note: the run without a fault was cut after 12 steps: raise `--steps`
 0^campaign five.obj --faults five.faults --steps 14^^
-3^link got^module a\\\\b.obj\n^got:1:8: error: `a\b.obj`: no such file; `/` separates folders
+3^link got^module a\\b.obj\n^got:1:8: error: `a\b.obj`: no such file; `/` separates folders
 3^link got^module ~/b.obj\n^got:1:8: error: `~/b.obj`: there is no folder `~`; `~` is not expanded here: write the whole path
 3^link got^module *.obj\n^got:1:8: error: `*.obj`: no such file; `*` and `?` are not expanded here: write the name of each file
 13^link got^module five.obj\nentry main\n^got:2:1: error: unexpected `entry`: a run begins at the entry of the first module; leave this line out
