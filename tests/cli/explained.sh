@@ -394,8 +394,8 @@ campaign five.obj --faults --steps 5|talft: error: missing FILE after `--faults`
 trial five.obj --fault --steps 5|talft: error: missing STEP:SITE:WORD after `--fault`
 run five.obj --steps --fault 4:r1:6|talft: error: missing N after `--steps`
 check -|-: error: no such file; for standard input write `/dev/stdin`
-check cut.obj|cut.obj: error: the object has 100 bytes, but its header requires 219: it is cut off: copy it again
-check head.obj|head.obj: error: the object has 20 bytes, fewer than the 48 of its header: it is cut off: copy it again
+check cut.obj|cut.obj: error: the object has 100 bytes, but its header requires 219: it is cut off; copy it again
+check head.obj|head.obj: error: the object has 20 bytes, fewer than the 48 of its header: it is cut off; copy it again
 link latin.map|latin.map:2:9: error: this line is not UTF-8: write it in ASCII
 link arrow.map|arrow.map:2:13: error: unexpected `->`: expected `import NAME B`
 link extra.map|extra.map:2:15: error: unexpected `first`: expected `export NAME B`

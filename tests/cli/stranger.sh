@@ -127,3 +127,100 @@ for words in "explain $top/examples/five.obj --fault 4:r1:6" "debugger $top/exam
     "$(timeout 20 "$top/tools/"$words 2>&1 >&- </dev/null)"
 done
 report 'standard input that is closed' 'at 0 running' "$("$top/tools/debugger" "$top/examples/five.obj" <&- 2>&1 | head -n 1)"
+
+# What strangers write. Each row has the status, the arguments, the text of the file `got`, and the first line of the message.
+mkdir stranger && cd stranger || exit 2
+cp "$top/examples/five.obj" "$top/examples/five.faults" "$top/examples/fibonacci.src" .
+first_said() {
+  "$top/talft" "$@" >answer 2>said </dev/null
+  printf '%d: %s' $? "$(head -n 1 said)"
+}
+while IFS='^' read -r status words text message; do
+  printf '%b' "$text" >got
+  # shellcheck disable=SC2086
+  report "the message about $words: ${text:0:60}" "$status: $message" "$(first_said $words)"
+done <<'END'
+6^compile got^cell a = 0;\nvar b;\nif (a && b) { a = 3; }\n^got:3:8: error: unexpected `&`: there is no `&&`: nest `if`, or write `(a < b) & (c == d)`; a comparison is 0 or 1
+6^compile got^cell a = 0;\nwhile (a || 1) { a = 3; }\n^got:2:11: error: unexpected `|`: there is no `||`: write `(a < b) | (c == d)`
+6^compile got^cell a = 0;\nif (!a) { a = 3; }\n^got:2:5: error: unexpected character `!`: write `(a == 0)` for `!a`
+6^compile got^cell a = 0;\nif (a != 3) { a = 3; }\n^got:2:7: error: unexpected character `!`: write `(a == b) == 0` for `a != b`
+6^compile got^cell a = 0;\nfor i in 0..3 { a = i; }\n^got:2:11: error: unexpected character `.`: loops are written `while (..) { .. }`
+6^compile got^cell a = 0;\nfor (i = 0; i < 3; i++) { a = i; }\n^got:2:5: error: unexpected `(`: loops are written `while (..) { .. }`
+6^compile got^var a; var b;\na = b = 3;\n^got:2:7: error: unexpected `=`: write one assignment per statement, as in `b = 3; a = b;`
+6^compile got^cell a-b = 0;\n^got:1:7: error: unexpected `-`: a name has only letters, digits and `_`
+6^compile got^cell a = 0;\na-b = 3;\n^got:2:2: error: unexpected `-`: a name has only letters, digits and `_`
+6^compile got^cell a.b = 0;\n^got:1:7: error: unexpected character `.`: a name has only letters, digits and `_`
+6^compile got^var a: int;\n^got:1:6: error: unexpected character `:`: a declaration is `var a;` or `cell a = 0;`, without a type
+6^compile got^cell a := 0;\n^got:1:8: error: unexpected character `:`: write `=` to assign
+6^compile got^cell a = 0;\na = 3;\n\x1a^got:3:1: error: unexpected Ctrl-Z (byte 0x1A), which old editors put at the end of a file: remove it
+6^compile got^cell a = 0;\nreturn;\n^got:2:7: error: unexpected `;`: there is no `return`: a program ends after its last statement
+6^compile got^cell a = 0;\nprint a;\n^got:2:7: error: unexpected `a`: there are no calls or macros: an assignment to a cell is the output
+6^compile got^cell a = 0;\nprint "hello";\n^got:2:7: error: unexpected character `"`: there are no calls or macros: an assignment to a cell is the output
+6^compile got^cell a = 0;\n++a;\n^got:2:1: error: unexpected `+`: write the assignment in full, as in `a = a + 1;`
+6^compile got^cell a = 0;\na = ++a;\n^got:2:5: error: unexpected `+`: write it as a separate statement, as in `a = a + 1;`
+6^compile got^cell a = 0;\na = +3;\n^got:2:5: error: unexpected `+`: numbers have no sign
+6^compile got^cell a = 0;\na = a * -3;\n^got:2:9: error: unexpected `-`: numbers have no sign: write `0 - 1` for `-1`
+0^exec got^var a;\na = 3;\n^got: note: no statement assigns to a cell, so there is no output
+0^mean got^cell a = 3;\n^got: note: no statement assigns to a cell, so there is no output
+0^exec got^cell a = 0;\na = 3;\n^
+6^compile got^```\ncell a = 0;\n```\n^got:1:1: error: this line is a Markdown code fence: remove both fences
+6^compile got^PK\x03\x04\x14^got: error: this is a zip archive, not a source: `unzip` unpacks it
+7^run got^\x1f\x8b\x08^got: error: this is compressed by gzip, not an object: `gunzip` unpacks it
+7^run got^\x7fELF\x02^got: error: this is an ELF file (code for a processor), not an object: `tools/cc` makes an object from C files
+11^campaign five.obj --faults got^\x7fELF\x02^got: error: this is an ELF file (code for a processor), not a fault list
+7^check got^TALFT\x02\x01\x01\x01\x05^got: error: the object has no zero bytes, because a text tool removed or replaced them: copy it in binary mode
+2^run five.obj --fault 4:r1:6,10:r1:6^^talft: error: invalid fault `4:r1:6,10:r1:6`: expected STEP:SITE:WORD; a run takes one fault; `talft campaign OBJECT --faults FILE` tries each fault of a list
+2^run five.obj --fault 4:R1:6^^talft: error: invalid fault `4:R1:6`: expected STEP:SITE:WORD; invalid site `R1`: write sites in lower case, as in `r1`
+2^run five.obj --fault 4:PCG:6^^talft: error: invalid fault `4:PCG:6`: expected STEP:SITE:WORD; invalid site `PCG`: write sites in lower case, as in `r1`
+2^run five.obj --fault 4:out:6^^talft: error: invalid fault `4:out:6`: expected STEP:SITE:WORD; invalid site `out`: a site is r0 to r63, d, pcg, pcb, qa0 to qa7 or qv0 to qv7
+2^run five.obj --wild 1, 2^^talft: error: invalid list `1,` for `--wild`: expected at most 4096 answers separated by commas, each a number or `stop`; write it without spaces, as in `1,2`
+2^run five.obj --wild 1 2^^talft: error: unexpected argument `2` after the list of `--wild`: write the list without spaces, as in `1,2`
+2^mean fibonacci.src --steps 4^^talft: error: unknown option `--steps` for `mean`: it is an option of `run`, `recover`, `exec`, `trial`, `campaign` and `survey`; `mean` takes `--turns`
+2^run five.obj --turns 4^^talft: error: unknown option `--turns` for `run`: it is an option of `mean`; `run` takes `--steps`, `--fault` and `--wild`
+2^campaign five.obj --fault 4:r1:6^^talft: error: unknown option `--fault` for `campaign`: it is an option of `run`, `recover` and `trial`; `campaign` takes `--steps`, `--wild` and `--faults`
+2^check five.obj -o x^^talft: error: unknown option `-o` for `check`: it writes to standard output: add `>FILE`
+2^check^^talft: error: missing OBJECT after `check`; for standard input write `/dev/stdin`
+2^debug^^talft: error: missing OBJECT after `debug`
+11^campaign five.obj --faults got^4:r1:6\n\x1a^got:2:1: error: unexpected Ctrl-Z (byte 0x1A), which old editors put at the end of a file: remove it
+11^campaign five.obj --faults got^```\n4:r1:6\n```\n^got:1:1: error: this line is a Markdown code fence: remove both fences
+0^campaign five.obj --faults five.faults --steps 12^^five.obj: note: the run without a fault was cut after 12 steps: raise `--steps`
+0^campaign five.obj --faults five.faults --steps 14^^
+3^link got^module a\\b.obj\n^got:1:8: error: `a\b.obj`: no such file; `/` separates folders
+3^link got^module ~/b.obj\n^got:1:8: error: `~/b.obj`: there is no folder `~`; `~` is not expanded here: write the whole path
+3^link got^module *.obj\n^got:1:8: error: `*.obj`: no such file; `*` and `?` are not expanded here: write the name of each file
+13^link got^module five.obj\nentry main\n^got:2:1: error: unexpected `entry`: a run begins at the entry of the first module; leave this line out
+12^asm got^     1\tcell out int 0\n^got:1:6: error: unexpected `1`: lines are not numbered: remove the numbers
+12^asm got^1: cell out int 0\n^got:1:1: error: unexpected `1:`: lines are not numbered: remove the numbers
+12^asm got^$ cell out int 0\n^got:1:1: error: unexpected `$`: this is the prompt of a shell: remove it
+12^asm got^> cell out int 0\n^got:1:1: error: unexpected `>`: this marks a prompt or a quotation: remove it
+12^asm got^```text\ncell out int 0\n```\n^got:1:1: error: this line is a Markdown code fence: remove both fences
+END
+for tool in build cc dap debugger ending explain faults lines plot report set wasm2asm; do
+  report "the message about $tool as a command" \
+    "2: talft: error: unknown command \`$tool\`: that is a separate script, \`tools/$tool\`; see \`man talft-$tool\`" \
+    "$(first_said "$tool")"
+  report "the script $tool" '' "$(ls "$top/tools/$tool" "$top/man/talft-$tool.1" 2>&1 >/dev/null)"
+done
+
+# An object that a text tool has changed, and a list that is too long.
+{ cat five.obj; echo; } >got
+first_said run got >answer
+report 'an object with a line feed at its end' \
+  '  a line feed follows its end, as an editor or a text tool adds one: copy the object in binary mode' "$(sed -n 2p said)"
+yes 4:r1:6 | head -n 65537 >got
+report 'a list that is too long' \
+  '11: got: error: the fault list is too long: at most 65536 lines and 4194304 bytes are allowed; `tools/campaign` splits longer lists' \
+  "$(first_said campaign five.obj --faults got)"
+
+# Scripts of the debugger: a file can be read again, and a pipe cannot.
+forms='`step N`, `go N`, `back N`, `zap SITE WORD`, `reg R`, `queue`, `cell NAME`, `where`, `break B I`'
+echo foo >got
+report 'an unknown command in a script' "standard input:1:1: error: unknown command \`foo\`: the commands are $forms" \
+  "$("$top/talft" debug five.obj 2>&1 >answer <got | head -n 1)"
+report 'an unknown command in a pipe' "standard input: error: the last line is not a command: the commands are $forms; \
+put the script into a file and add \`<FILE\` to see what is wrong with each line" \
+  "$(echo foo | "$top/talft" debug five.obj 2>&1 >answer)"
+report 'a fault list as a script' \
+  'standard input: error: this is a fault list, not a debugger script: pass it with `--faults`' \
+  "$("$top/talft" debug five.obj 2>&1 >answer <five.faults)"
+cd "$work" || exit 2

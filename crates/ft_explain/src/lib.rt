@@ -24,6 +24,7 @@ mod premises;
 mod reads;
 mod refusal;
 mod reruns;
+mod silent;
 mod telling;
 mod unread;
 

@@ -59,6 +59,9 @@ const WORDS: &[&str] = &["module", "export", "import"];
 fn say_unknown(page: &mut Page, first: &str) -> Result<(), NoMemory> {
     page.say("unexpected ")?;
     page.quote(first.as_bytes())?;
+    if first == "entry" {
+        return page.say(": a run begins at the entry of the first module; leave this line out");
+    }
     for word in WORDS {
         if is_near(page.alloc(), first, *word)? {
             return say_near(page, word.as_bytes());

@@ -5,7 +5,8 @@ use crate::detections::say_detection;
 use crate::endless::note_endless;
 use crate::indices::note_indices;
 use crate::reruns::{Met, rerun};
-use ft_command::{Command, Run};
+use crate::silent::note_silent;
+use ft_command::{Campaign, Command, Run};
 use ft_edge::Shelf;
 use ft_isa::{NoMemory, Plan, Site, Strike};
 use ft_machine::{Machine, Status};
@@ -165,6 +166,45 @@ fn explain_run<S: Shelf>(
     Ok(())
 }
 
+/// Says that the run of a campaign without a fault was cut, if it was.
+fn say_if_cut<P: Program>(page: &mut Page, program: &P, asked: &Campaign) -> Result<(), NoMemory>
+    requires { IsSpellable (P.object program.now) }
+{
+    let mut machine = Machine::new(page.alloc(), program)?;
+    let plan = Plan {
+        strike: None,
+        wild: asked.wild.as_slice(),
+    };
+    let met = rerun(&mut machine, program, plan, asked.steps.min(AGAIN));
+    match machine.status() {
+        Status::Running => {
+            begin(page, asked.object)?;
+            let taken = met.taken;
+            page.say(format_args!(
+                "note: the run without a fault was cut after {taken} steps: raise `--steps`\n"
+            ))
+        }
+        _ => Ok(()),
+    }
+}
+
+/// Notes that the runs of a campaign were cut, if the object's file can be read again.
+fn note_cut<S: Shelf>(page: &mut Page, asked: &Campaign, shelf: &mut S) -> Result<(), NoMemory> {
+    let Some(bytes) = load(page.alloc(), asked.object, OBJECT_LIMIT, shelf)? else {
+        return Ok(());
+    };
+    match View::over(bytes.as_slice()) {
+        Ok(view) => say_if_cut(page, &view, asked),
+        Err(_) => Ok(()),
+    }
+}
+
+/// Notes what is notable about an accepted source.
+fn note_source<S: Shelf>(page: &mut Page, name: &str, shelf: &mut S) -> Result<(), NoMemory> {
+    note_indices(page, name, shelf)?;
+    note_silent(page, name, shelf)
+}
+
 /// Explains what happened in a call that ended with status 0, 1 or 9; it writes nothing about plain success.
 pub(crate) fn explain_outcome<S: Shelf>(
     page: &mut Page,
@@ -176,15 +216,16 @@ pub(crate) fn explain_outcome<S: Shelf>(
         Command::Run(run) | Command::Trial(run) | Command::Recover(run) => {
             explain_run(page, run, status, shelf)
         }
+        Command::Campaign(asked) | Command::Survey(asked) => note_cut(page, asked, shelf),
         Command::Exec(asked) if status == 9 => {
             say_cut_source(page, asked.source, asked.steps, "steps", shelf)
         }
         Command::Mean(asked) if status == 9 => {
             say_cut_source(page, asked.source, asked.turns, "turns", shelf)
         }
-        Command::Compile(source) if status == 0 => note_indices(page, *source, shelf),
-        Command::Exec(asked) if status == 0 => note_indices(page, asked.source, shelf),
-        Command::Mean(asked) if status == 0 => note_indices(page, asked.source, shelf),
+        Command::Compile(source) if status == 0 => note_source(page, *source, shelf),
+        Command::Exec(asked) if status == 0 => note_source(page, asked.source, shelf),
+        Command::Mean(asked) if status == 0 => note_source(page, asked.source, shelf),
         _ => Ok(()),
     }
 }

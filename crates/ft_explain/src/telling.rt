@@ -329,7 +329,7 @@ fn outcome_of<S: Shelf, L: Look>(
 ) -> Result<(), NoMemory> {
     let (status, line) = told;
     if let Command::Debug(_) = command {
-        return explain_session(page, look.script(), shelf);
+        return explain_session(page, look.script(), line, shelf);
     }
     if let Some(named) = files_of(command)
         && named.holds != Holds::Map

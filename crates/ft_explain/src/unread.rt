@@ -66,6 +66,14 @@ fn advice_on(name: &str) -> &'static str {
         "; for standard input write `/dev/stdin`"
     } else if name.starts_with(['"', '\'']) {
         "; names are written without quotes"
+    } else if name.contains('\\') {
+        "; `/` separates folders"
+    } else if name.starts_with("~") {
+        "; `~` is not expanded here: write the whole path"
+    } else if name.contains(['*', '?']) {
+        "; `*` and `?` are not expanded here: write the name of each file"
+    } else if name.starts_with("$") {
+        "; variables are not expanded here: write the whole path"
     } else {
         ""
     }

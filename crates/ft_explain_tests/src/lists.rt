@@ -111,7 +111,7 @@ const TOLD: &[(&str, u8, &str, &str)] = &[
         "campaign file --faults list",
         11,
         "list 2 65536\n",
-        "list: error: the fault list is too long: at most 65536 lines and 4194304 bytes are allowed\n",
+        "list: error: the fault list is too long: at most 65536 lines and 4194304 bytes are allowed; `tools/campaign` splits longer lists\n",
     ),
     (
         "debug file",

@@ -58,10 +58,10 @@ fn refused_objects_are_explained(rt: HostRuntime) -> Result<(), Fail> {
 #[test]
 fn lengths_are_explained(rt: HostRuntime) -> Result<(), Fail> {
     let text =
-        "file: error: the object has 3 bytes, fewer than the 48 of its header: it is cut off: copy it again\n";
+        "file: error: the object has 3 bytes, fewer than the 48 of its header: it is cut off; copy it again\n";
     check_said(&rt, "trial file", &[("file", &A[..3])], text)?;
     let text =
-        "file: error: the object has 218 bytes, but its header requires 219: it is cut off: copy it again\n";
+        "file: error: the object has 218 bytes, but its header requires 219: it is cut off; copy it again\n";
     check_said(&rt, "upgrade file", &[("file", &A[..218])], text)?;
     let text = "file: error: the object is too long: at most 67108864 bytes are allowed\n";
     check_told(&rt, "dis file", 7, "object 2 67108864\n", &[], text)

@@ -151,7 +151,7 @@ const HABITS: &[(&str, &str)] = &[
     ),
     (
         "var a; return a;",
-        "file:1:15: error: unexpected `a`: a statement is an assignment, `while` or `if` with `else`\n var a; return a;\n               ^\n",
+        "file:1:15: error: unexpected `a`: there is no `return`: a program ends after its last statement\n var a; return a;\n               ^\n",
     ),
     (
         "cell a = 0; a == 1;",

@@ -6,11 +6,11 @@ use std::test::Fail;
 const WORDS: &[(&str, &str)] = &[
     (
         "check",
-        "talft: error: missing OBJECT after `check`\nusage: talft check OBJECT\n",
+        "talft: error: missing OBJECT after `check`; for standard input write `/dev/stdin`\nusage: talft check OBJECT\n",
     ),
     (
         "check a --steps 3",
-        "talft: error: unknown option `--steps` for `check`\nusage: talft check OBJECT\n",
+        "talft: error: unknown option `--steps` for `check`: it is an option of `run`, `recover`, `exec`, `trial`, `campaign` and `survey`; `check` takes no options\nusage: talft check OBJECT\n",
     ),
     (
         "check a b",
@@ -62,7 +62,7 @@ const WORDS: &[(&str, &str)] = &[
     ),
     (
         "link map --steps 3",
-        "talft: error: unknown option `--steps` for `link`\nusage: talft link MAP\n",
+        "talft: error: unknown option `--steps` for `link`: it is an option of `run`, `recover`, `exec`, `trial`, `campaign` and `survey`; `link` takes no options\nusage: talft link MAP\n",
     ),
     (
         "demo 10922",

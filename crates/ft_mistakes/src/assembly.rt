@@ -1,7 +1,7 @@
 //! Explains why assembly texts are refused.
 use crate::content::{Content, say_other_kind};
 use crate::excerpt::Place;
-use crate::lines::{MARKED, NOT_UTF8, RETURN, first_not_utf8, is_marked};
+use crate::lines::{MARKED, NOT_UTF8, RETURN, first_not_utf8, is_marked, wrong_extra};
 use crate::listing::{cell_of, line_with};
 use crate::mnemonics::{form_of, operand_of, say_unknown};
 use crate::operands::{Operand, is_register, meaning_of, say_rule, word_at, word_start};
@@ -95,6 +95,9 @@ fn wrong_byte(line: &[u8]) -> Option<(usize, &'static str)> {
     }
     if line.ends_with(b"\r") {
         return Some((line.len().saturating_sub(1), RETURN));
+    }
+    if let Some(wrong) = wrong_extra(line) {
+        return Some(wrong);
     }
     if let Some(at) = first_not_utf8(line) {
         return Some((at, NOT_UTF8));

@@ -30,6 +30,12 @@ pub enum Content {
     Wasm,
     /// A text in UTF-16.
     Wide,
+    /// A file compressed by gzip.
+    Gzip,
+    /// A zip archive.
+    Zip,
+    /// An ELF file: an executable, an object file or a library for a processor.
+    Elf,
     /// An empty file.
     Empty,
     /// Any other bytes that are not text.
@@ -51,6 +57,9 @@ impl Content {
             Content::C => "a C program",
             Content::Wasm => "a WebAssembly module",
             Content::Wide => "UTF-16 text",
+            Content::Gzip => "compressed by gzip",
+            Content::Zip => "a zip archive",
+            Content::Elf => "an ELF file (code for a processor)",
             Content::Empty => "empty",
             Content::Binary => "a binary file",
             Content::Unknown => "plain text",
@@ -77,6 +86,10 @@ impl Content {
             Content::C => ": `tools/cc FILE -o OBJECT` makes an object",
             Content::Wasm => ": `tools/cc FILE -o OBJECT` makes an object",
             Content::Wide => ": save it as ASCII text",
+            Content::Gzip => ": `gunzip` unpacks it",
+            Content::Zip => ": `unzip` unpacks it",
+            Content::Elf if wanted == Content::Object =>
+                ": `tools/cc` makes an object from C files",
             _ => "",
         }
     }
@@ -87,9 +100,9 @@ pub fn begins_as_object(bytes: &[u8]) -> bool {
     bytes.starts_with(b"TALFT")
 }
 
-/// Whether a byte may occur in a text file.
+/// Whether a byte may occur in a text file. Old editors end one with Ctrl-Z.
 fn is_of_text(byte: u8) -> bool {
-    matches!(byte, b'\t' | b'\n' | 0x0c | b'\r' | 0x1b | b' '..=b'~' | 0x80..)
+    matches!(byte, b'\t' | b'\n' | 0x0c | b'\r' | 0x1a | 0x1b | b' '..=b'~' | 0x80..)
 }
 
 /// Whether bytes are text.
@@ -198,23 +211,40 @@ pub(crate) fn content_of_file(
     Ok(content)
 }
 
+/// The first bytes of files that are not text, and what they show.
+const MAGICS: &[(&[u8], Content)] = &[
+    (b"TALFT", Content::Object),
+    (b"\0asm", Content::Wasm),
+    (b"\xff\xfe", Content::Wide),
+    (b"\xfe\xff", Content::Wide),
+    (b"\x1f\x8b", Content::Gzip),
+    (b"PK\x03\x04", Content::Zip),
+    (b"\x7fELF", Content::Elf),
+];
+
+/// What the first bytes of a file show that it is; `None` if they may begin a text.
+fn content_of_magic(bytes: &[u8]) -> Option<Content> {
+    for (magic, content) in MAGICS {
+        if bytes.starts_with(*magic) {
+            return Some(*content);
+        }
+    }
+    None
+}
+
 /// What bytes are, judging by their beginning.
 fn content_of(alloc: Global, bytes: &[u8]) -> Result<Content, NoMemory> {
     let bytes = bytes.get(..LOOKED_AT).unwrap_or(bytes);
-    let content = if bytes.is_empty() {
-        Content::Empty
-    } else if begins_as_object(bytes) {
-        Content::Object
-    } else if bytes.starts_with(b"\0asm") {
-        Content::Wasm
-    } else if bytes.starts_with(b"\xff\xfe") || bytes.starts_with(b"\xfe\xff") {
-        Content::Wide
-    } else if !is_text(bytes) {
-        Content::Binary
-    } else {
-        return content_of_line(alloc, first_said(bytes));
-    };
-    Ok(content)
+    if bytes.is_empty() {
+        return Ok(Content::Empty);
+    }
+    if let Some(content) = content_of_magic(bytes) {
+        return Ok(content);
+    }
+    if !is_text(bytes) {
+        return Ok(Content::Binary);
+    }
+    content_of_line(alloc, first_said(bytes))
 }
 
 /// Says what a file is, what was expected, and what to do.

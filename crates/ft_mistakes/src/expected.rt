@@ -7,6 +7,8 @@ use ft_lexer::{Kind, Lexer, Token};
 struct Before<'s> {
     /// The first token of the statement, declaration or test there.
     first: Option<Kind>,
+    /// The text of that token.
+    opening: &'s [u8],
     /// How many tokens of it precede the place.
     count: usize,
     /// Whether one of them is `=`.
@@ -59,6 +61,11 @@ impl<'s> Before<'s> {
         }
         Before {
             first: Some(self.first.unwrap_or(token.kind)),
+            opening: if self.count == 0 {
+                token.text
+            } else {
+                self.opening
+            },
             count: self.count.saturating_add(1),
             assigned: self.assigned || token.kind == Kind::Assign,
             open: opened(self.open, token.kind),
@@ -71,6 +78,7 @@ impl<'s> Before<'s> {
 /// The state before the first token.
 const START: Before<'static> = Before {
     first: None,
+    opening: &[],
     count: 0,
     assigned: false,
     open: 0,
@@ -158,13 +166,14 @@ pub(crate) fn lack_at(source: &[u8], at: usize) -> Option<Lack<'_>> {
     })
 }
 
-/// What to write instead of a word that is reserved in another language.
+/// What to write instead of a word that begins a statement in another language.
 fn habit_of_word(word: &[u8]) -> Option<&'static str> {
     match word {
         b"for" | b"do" | b"loop" | b"repeat" | b"until" => {
             Some("loops are written `while (..) { .. }`")
         }
-        b"return" | b"break" | b"continue" | b"goto" | b"switch" | b"else" | b"elif" => {
+        b"return" => Some("there is no `return`: a program ends after its last statement"),
+        b"break" | b"continue" | b"goto" | b"switch" | b"else" | b"elif" => {
             Some("a statement is an assignment, `while` or `if` with `else`")
         }
         b"def" | b"fn" | b"func" | b"function" | b"void" => Some("there are no functions"),
@@ -189,6 +198,63 @@ pub(crate) fn instead_of_macro(source: &[u8], at: usize) -> Option<&'static str>
     }
 }
 
+/// What to write instead of a statement that begins with a word of another language; `None` for other statements.
+fn instead_of_statement(before: Before<'_>) -> Option<&'static str> {
+    if before.first == Some(Kind::Name) && !before.assigned {
+        habit_of_word(before.opening)
+    } else {
+        None
+    }
+}
+
+/// The message for a name with a character that is not allowed in names.
+const NAMED: &str = "a name has only letters, digits and `_`";
+
+/// The message for a declaration with a type.
+const UNTYPED: &str = "a declaration is `var a;` or `cell a = 0;`, without a type";
+
+/// What is wrong with a text that follows a name in its declaration; `None` if its first bytes do not show that.
+fn instead_in_declaration(rest: &[u8]) -> Option<&'static str> {
+    match rest {
+        [b':', b'=', ..] => None,
+        [b':', ..] => Some(UNTYPED),
+        [b'.' | b'$' | b'@' | b'?' | b'\'', ..] => Some(NAMED),
+        _ => None,
+    }
+}
+
+/// What is wrong at a place with a byte that begins no token, judging by what precedes it; `None` if that shows nothing.
+pub(crate) fn instead_of_byte_at(source: &[u8], at: usize) -> Option<&'static str> {
+    let before = read_before(source, at);
+    if before.count == 2
+        && matches!(before.first, Some(Kind::Cell | Kind::Var))
+        && let Some(words) = instead_in_declaration(part(source, at, source.len()))
+    {
+        return Some(words);
+    }
+    instead_of_statement(before)
+}
+
+/// Whether a name that contains a hyphen is assigned to: whether a name and `=` follow the hyphen at a place.
+fn is_hyphenated(source: &[u8], at: usize) -> bool {
+    let mut lexer = Lexer::new(part(source, at.saturating_add(1), source.len()));
+    let second = lexer.next();
+    let third = lexer.next();
+    matches!(
+        second,
+        Some(Ok(Token {
+            kind: Kind::Name,
+            ..
+        }))
+    ) && matches!(
+        third,
+        Some(Ok(Token {
+            kind: Kind::Assign,
+            ..
+        }))
+    )
+}
+
 /// What to write instead of the idiom that this token suggests after the first name of a statement.
 fn habit_after_first(word: &[u8], next: Kind) -> Option<&'static str> {
     if next != Kind::Assign
@@ -198,14 +264,37 @@ fn habit_after_first(word: &[u8], next: Kind) -> Option<&'static str> {
     }
     match next {
         Kind::Plus | Kind::Minus | Kind::Star | Kind::And | Kind::Or | Kind::Xor => {
-            Some("write the assignment in full, as in `a = a + 1;`")
+            Some(IN_FULL)
         }
-        Kind::Name => Some("a declaration is `var a;` or `cell a = 0;`, without a type"),
+        Kind::Name => Some(UNTYPED),
         Kind::LParen => Some("there are no calls or macros, and the only loop is `while`"),
         Kind::EqEq => Some("write `=` to assign"),
         _ => None,
     }
 }
+
+/// What to write for `a++` or `++a` inside an expression.
+const STEPPED: &str = "write it as a separate statement, as in `a = a + 1;`";
+
+/// What to write for `a += 1`.
+const IN_FULL: &str = "write the assignment in full, as in `a = a + 1;`";
+
+/// What to write instead of `++` or a sign before a term, after a token of this kind.
+fn habit_before_term(source: &[u8], at: usize, last: Kind) -> &'static str {
+    match part(source, at, at.saturating_add(2)) {
+        b"++" | b"--" if begins_statement(last) => IN_FULL,
+        b"++" | b"--" => STEPPED,
+        [b'+', ..] => "numbers have no sign",
+        _ => "numbers have no sign: write `0 - 1` for `-1`",
+    }
+}
+
+/// What to write for `a && b`. Comparisons bind less tightly than `&`.
+const BOTH: &str =
+    "there is no `&&`: nest `if`, or write `(a < b) & (c == d)`; a comparison is 0 or 1";
+
+/// What to write for `a || b`.
+const EITHER: &str = "there is no `||`: write `(a < b) | (c == d)`";
 
 /// What to write for `a <= b`.
 const AT_MOST: &str = "write `(b < a) == 0` for `a <= b`";
@@ -221,17 +310,14 @@ fn habit_after(last: Kind, next: Kind) -> Option<&'static str> {
         Kind::If if last == Kind::Else => Some("write `else { if (..) { .. } }`"),
         Kind::Assign if last == Kind::Less => Some(AT_MOST),
         Kind::Star if last == Kind::Star => Some("there is no power operator: multiply"),
-        Kind::Plus if last == Kind::Plus => Some(
-            "write it as a separate statement, as in `a = a + 1;`",
-        ),
+        Kind::Plus if last == Kind::Plus => Some(STEPPED),
         Kind::Semi if begins_statement(last) => Some("there are no empty statements"),
         Kind::LBrace if begins_statement(last) => Some(
             "a block follows `while (..)`, `if (..)` or `else`",
         ),
-        Kind::And if last == Kind::And => Some("write `&` for `&&`"),
-        Kind::Or if last == Kind::Or => Some("write `|` for `||`"),
+        Kind::And if last == Kind::And => Some(BOTH),
+        Kind::Or if last == Kind::Or => Some(EITHER),
         Kind::LParen if last == Kind::Name => Some("there are no calls or macros"),
-        Kind::Minus if !ends_term(last) => Some("numbers have no sign: write `0 - 1`"),
         Kind::Var | Kind::Cell if begins_statement(last) => {
             Some("declarations come before the first statement")
         }
@@ -268,6 +354,10 @@ fn habit_inside(before: Before<'_>, next: Kind) -> Option<&'static str> {
         }
         (Some(Kind::Cell | Kind::Var), Kind::Cell | Kind::Var | Kind::While | Kind::If | Kind::Else)
             if before.count == 1 => Some("a reserved word is not a name"),
+        (Some(Kind::Cell | Kind::Var), Kind::Minus) if before.count == 2 => Some(NAMED),
+        (Some(Kind::Name), Kind::Assign) if before.assigned && before.open == 0 => {
+            Some("write one assignment per statement, as in `b = 3; a = b;`")
+        }
         (Some(Kind::Var), Kind::LBracket) => Some("only cells can be arrays: `cell a[4] = 0;`"),
         (Some(Kind::Cell), Kind::Semi) if !before.assigned => {
             Some("a cell needs an initial value, as in `cell a = 0;` or `cell a[4] = 0;`")
@@ -301,11 +391,17 @@ pub(crate) fn habit(source: &[u8], at: usize) -> Option<&'static str> {
     {
         return Some("numbers are decimal");
     }
+    if before.count == 1 && next == Kind::Minus && is_hyphenated(source, at) {
+        return Some(NAMED);
+    }
     if before.count == 1 && last.kind == Kind::Name {
         return habit_after_first(last.text, next);
     }
     match habit_inside(before, next) {
         Some(words) => Some(words),
+        None if matches!(next, Kind::Plus | Kind::Minus) && !ends_term(last.kind) => {
+            Some(habit_before_term(source, at, last.kind))
+        }
         None => habit_after(last.kind, next),
     }
 }

@@ -14,6 +14,27 @@ pub(crate) const MARKED: &str = "the file begins with a byte order mark: save it
 /// The message for a line that is not UTF-8.
 pub(crate) const NOT_UTF8: &str = "this line is not UTF-8: write it in ASCII";
 
+/// The message for a Ctrl-Z.
+pub(crate) const CTRL_Z: &str =
+    "unexpected Ctrl-Z (byte 0x1A), which old editors put at the end of a file: remove it";
+
+/// The message for a line that begins a block of code in Markdown, or ends one.
+pub(crate) const FENCE: &str = "this line is a Markdown code fence: remove both fences";
+
+/// Whether a line is a code fence.
+pub(crate) fn begins_fence(line: &[u8]) -> bool {
+    line.starts_with(b"```")
+}
+
+/// A code fence or a Ctrl-Z, which copying and old editors add to files: its place in the line, and its message.
+pub(crate) fn wrong_extra(line: &[u8]) -> Option<(usize, &'static str)> {
+    if begins_fence(line) {
+        return Some((0, FENCE));
+    }
+    let at = line.iter().position(|byte| *byte == 0x1a)?;
+    Some((at, CTRL_Z))
+}
+
 /// The place of the first byte of a line that is not UTF-8.
 pub(crate) fn first_not_utf8(line: &[u8]) -> Option<usize> {
     match str::from_utf8(line) {
@@ -48,6 +69,9 @@ pub(crate) fn wrong_line(line: &[u8]) -> Option<(usize, &'static str)> {
     }
     if line.ends_with(b"\r") {
         return Some((last, RETURN));
+    }
+    if let Some(wrong) = wrong_extra(line) {
+        return Some(wrong);
     }
     if line.trim_ascii().is_empty() {
         return Some((0, "empty lines are not allowed in this file"));

@@ -34,7 +34,7 @@ fn first_of(text: &str) -> &str {
 }
 
 /// The place of the second of two faults that share a line.
-fn second_fault(line: &str) -> Option<usize> {
+pub(crate) fn second_fault(line: &str) -> Option<usize> {
     let (first, rest) = line.split_once(SEPARATORS)?;
     let second = rest.trim_start_matches(SEPARATORS);
     if is_fault(first) && is_fault(first_of(second)) {
@@ -49,7 +49,7 @@ fn say_whole(page: &mut Page, number: u64, told: u64) -> Result<(), NoMemory> {
     match number {
         1 => page.say(format_args!("line {told} is not a fault: expected STEP:SITE:WORD")),
         2 => page.say(
-            "the fault list is too long: at most 65536 lines and 4194304 bytes are allowed",
+            "the fault list is too long: at most 65536 lines and 4194304 bytes are allowed; `tools/campaign` splits longer lists",
         ),
         3 => page.say(format_args!(
             "the campaign is too long: faults times steps is {told}, and at most 1000000000 is allowed; give fewer faults or a smaller `--steps`"

@@ -112,9 +112,21 @@ pub(crate) fn is_line(alloc: Global, line: &[u8]) -> Result<bool, NoMemory> {
     }
 }
 
-/// Advice on a first word that other assembly languages use; empty if there is none.
+/// Whether a word is a line number, perhaps with a colon.
+fn is_line_number(word: &[u8]) -> bool {
+    let digits = word.strip_suffix(b":").unwrap_or(word);
+    !digits.is_empty() && digits.iter().all(|byte| byte.is_ascii_digit())
+}
+
+/// Advice on a first word that other assembly languages use, or that was copied along; empty if there is none.
 fn habit_of(word: &[u8]) -> &'static str {
-    if begins_comment(word) || word.starts_with(b"--") {
+    if is_line_number(word) {
+        "lines are not numbered: remove the numbers"
+    } else if word == b"$".as_slice() {
+        "this is the prompt of a shell: remove it"
+    } else if word.starts_with(b">") {
+        "this marks a prompt or a quotation: remove it"
+    } else if begins_comment(word) || word.starts_with(b"--") {
         "a comment begins with `#`, on a line of its own"
     } else if word.ends_with(b":") {
         "there are no labels: `block TYPE` begins a block, and blocks are numbered from 0"

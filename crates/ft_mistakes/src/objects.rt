@@ -47,8 +47,28 @@ pub fn rule(number: u64) -> &'static str {
 const AS_TEXT: &str =
     "  each line feed has a carriage return before it, as after a copy in text mode: copy the object in binary mode\n";
 
+/// The message for an object with a line feed after its end.
+const LINE_FEED: &str =
+    "  a line feed follows its end, as an editor or a text tool adds one: copy the object in binary mode\n";
+
+/// The message for an object without zero bytes, which each header has.
+const NO_ZEROS: &str =
+    "the object has no zero bytes, because a text tool removed or replaced them: copy it in binary mode\n";
+
+/// Whether an object has lost its zero bytes: in every object, one follows `TALFT`.
+fn has_lost_zeros(bytes: &[u8]) -> bool {
+    bytes.len() > BEGINNING.len()
+        && bytes.starts_with(BEGINNING)
+        && bytes.iter().all(|byte| *byte != 0)
+}
+
+/// Whether a line feed, perhaps with a carriage return, follows an object of this many bytes.
+fn has_line_feed(bytes: &[u8], wanted: usize) -> bool {
+    matches!(part(bytes, wanted, bytes.len()), b"\n" | b"\r\n")
+}
+
 /// What to do about an object whose end is missing.
-const CUT_OFF: &str = ": it is cut off: copy it again\n";
+const CUT_OFF: &str = ": it is cut off; copy it again\n";
 
 /// Whether there are as many surplus bytes as CR LF pairs.
 fn is_as_text(bytes: &[u8], wanted: usize) -> bool {
@@ -71,10 +91,14 @@ fn say_length(page: &mut Page, bytes: &[u8]) -> Result<(), NoMemory> {
                 "the object has {length} bytes, but its header requires {wanted}"
             ))?;
             page.say(if length < wanted { CUT_OFF } else { "\n" })?;
-            if is_as_text(bytes, wanted) {
-                page.say(AS_TEXT)?;
+            if has_line_feed(bytes, wanted) {
+                return page.say(LINE_FEED);
             }
-            Ok(())
+            page.say(if is_as_text(bytes, wanted) {
+                AS_TEXT
+            } else {
+                ""
+            })
         }
         None => {
             page.say(format_args!(
@@ -161,6 +185,9 @@ pub fn explain_object(
         return say_kind(page, name, content, Content::Object);
     }
     page.head(name)?;
+    if has_lost_zeros(bytes) {
+        return page.say(NO_ZEROS);
+    }
     if number == 2 {
         return say_length(page, bytes);
     }

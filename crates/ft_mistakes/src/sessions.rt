@@ -1,4 +1,5 @@
 //! Explains which lines of a debugger script are not commands.
+use crate::content::{Content, say_other_kind};
 use crate::elsewhere::of_debugger;
 use crate::excerpt::Place;
 use crate::forms::first_word;
@@ -29,6 +30,17 @@ const COMMANDS: &[(&str, &str)] = &[
     ("where", "where"),
     ("break", "break B I"),
 ];
+
+/// Lists the commands of the debugger.
+fn say_commands(page: &mut Page) -> Result<(), NoMemory> {
+    let mut is_first = true;
+    for (_, form) in COMMANDS {
+        page.say(if is_first { "" } else { ", " })?;
+        page.quote(form.as_bytes())?;
+        is_first = false;
+    }
+    Ok(())
+}
 
 /// The form of the command that begins with this word.
 fn form_of(first: &str) -> Option<&'static str> {
@@ -84,7 +96,8 @@ fn say_bad(page: &mut Page, line: &str) -> Result<(), NoMemory> {
             return say_near(page, word.as_bytes());
         }
     }
-    Ok(())
+    page.say(": the commands are ")?;
+    say_commands(page)
 }
 
 /// Explains why a line is not a command.
@@ -114,18 +127,44 @@ fn explain_lines(page: &mut Page, script: &[u8], commands: &[Command<'_>]) -> Re
     Ok(())
 }
 
-/// Explains which lines of a session's script are not commands, if the script can be read again.
+/// The answer to a line that is not a command.
+const BAD: &[u8] = b"bad command";
+
+/// Explains a session whose script cannot be read again, from the last line that it wrote.
+fn explain_last(page: &mut Page, line: &[u8]) -> Result<(), NoMemory> {
+    if line.trim_ascii() != BAD {
+        return Ok(());
+    }
+    page.head("standard input")?;
+    page.say("the last line is not a command: the commands are ")?;
+    say_commands(page)?;
+    page.say("; put the script into a file and add `<FILE` to see what is wrong with each line\n")
+}
+
+/// Whether the first line of a script is not a command.
+fn begins_wrong(commands: &[Command<'_>]) -> bool {
+    matches!(commands.first(), Some(Command::Bad))
+}
+
+/// Explains which lines of a session's script are not commands, if the script can be read again. The session wrote
+/// `line` last.
 pub fn explain_session<S: Shelf>(
     page: &mut Page,
     name: Option<&'static str>,
+    line: &[u8],
     shelf: &mut S,
 ) -> Result<(), NoMemory> {
     let Some(name) = name else {
-        return Ok(());
+        return explain_last(page, line);
     };
     let Some(script) = load(page.alloc(), name, SCRIPT_LIMIT, shelf)? else {
         return Ok(());
     };
     let commands = read_script(page.alloc(), script.as_slice())?;
+    if begins_wrong(commands.as_slice())
+        && say_other_kind(page, "standard input", script.as_slice(), Content::Script)?
+    {
+        return Ok(());
+    }
     explain_lines(page, script.as_slice(), commands.as_slice())
 }

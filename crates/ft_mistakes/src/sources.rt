@@ -2,9 +2,10 @@
 use crate::content::{Content, say_other_kind};
 use crate::excerpt::{Place, letter_from, part};
 use crate::expected::{
-    Lack, habit, instead_of, instead_of_comma, instead_of_macro, lack_at, unclosed,
+    Lack, habit, instead_of, instead_of_byte_at, instead_of_comma, instead_of_macro, lack_at,
+    unclosed,
 };
-use crate::lines::{MARKED, is_marked};
+use crate::lines::{CTRL_Z, FENCE, MARKED, begins_fence, is_marked};
 use crate::near::{is_near, say_near};
 use crate::page::Page;
 use crate::spaces::space_of;
@@ -58,12 +59,23 @@ fn say_of(page: &mut Page, token: &[u8], words: &str) -> Result<(), NoMemory> {
     page.say(words)
 }
 
+/// The message for a byte order mark, a code fence, a Ctrl-Z or a space that is not ASCII; `None` for anything else.
+fn wrong_byte(source: &[u8], at: usize, token: &[u8]) -> Option<&'static str> {
+    if at == 0 && is_marked(source) {
+        return Some(MARKED);
+    }
+    if begins_fence(part(source, at, source.len())) {
+        return Some(FENCE);
+    }
+    if token == b"\x1a".as_slice() {
+        return Some(CTRL_Z);
+    }
+    space_of(token)
+}
+
 /// Says what is wrong with a byte that begins no token.
 fn say_byte(page: &mut Page, source: &[u8], at: usize, token: &[u8]) -> Result<(), NoMemory> {
-    if at == 0 && is_marked(source) {
-        return page.say(MARKED);
-    }
-    if let Some(words) = space_of(token) {
+    if let Some(words) = wrong_byte(source, at, token) {
         return page.say(words);
     }
     if token == b"!".as_slice()
@@ -71,8 +83,29 @@ fn say_byte(page: &mut Page, source: &[u8], at: usize, token: &[u8]) -> Result<(
     {
         return page.say(format_args!("unexpected character `!`: {words}"));
     }
+    say_character(page, source, at, token)
+}
+
+/// Whether a place has a `!` that negates what follows it.
+fn negates(source: &[u8], at: usize) -> bool {
+    source.get(at) == Some(&b'!') && source.get(at.saturating_add(1)) != Some(&b'=')
+}
+
+/// Says that a character is unexpected, and what to write instead.
+fn say_character(page: &mut Page, source: &[u8], at: usize, token: &[u8]) -> Result<(), NoMemory> {
+    if let Some(words) = instead_of_byte_at(source, at)
+        && let [byte, ..] = token
+        && !is_in_name(*byte)
+    {
+        page.say("unexpected character ")?;
+        page.quote(token)?;
+        return page.say(format_args!(": {words}"));
+    }
     match token {
         [byte, ..] if is_in_name(*byte) => page.say("a name has at most 32 bytes"),
+        [b'!'] if negates(source, at) => {
+            page.say("unexpected character `!`: write `(a == 0)` for `!a`")
+        }
         [b','] => {
             page.say("unexpected character `,`: ")?;
             page.say(instead_of_comma(source, at))

@@ -19,10 +19,27 @@ fn say_wrong_number(page: &mut Page, called: &str, word: &str) -> Result<(), NoM
     say_misfit(page, word.as_bytes(), u64::MAX)
 }
 
+/// Whether a word is a site except for capitals.
+fn is_site_in_capitals(site: &[u8]) -> bool {
+    match site {
+        [a, b, c] => read_site(&[
+            a.to_ascii_lowercase(),
+            b.to_ascii_lowercase(),
+            c.to_ascii_lowercase(),
+        ])
+        .is_some(),
+        [a, b] => read_site(&[a.to_ascii_lowercase(), b.to_ascii_lowercase()]).is_some(),
+        [a] => read_site(&[a.to_ascii_lowercase()]).is_some(),
+        _ => false,
+    }
+}
+
 /// Why a word is not a site.
 fn wrong_site(site: &str) -> &'static str {
     let blank = blank_in(site.as_bytes());
-    if blank.is_empty() {
+    if is_site_in_capitals(site.as_bytes()) {
+        "write sites in lower case, as in `r1`"
+    } else if blank.is_empty() {
         "a site is r0 to r63, d, pcg, pcb, qa0 to qa7 or qv0 to qv7"
     } else {
         blank

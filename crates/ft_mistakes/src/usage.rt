@@ -5,6 +5,7 @@ use crate::help::{
     asks_for_help, asks_for_version, is_help, say_commands, say_form, say_help, say_help_of,
     say_version,
 };
+use crate::lists::second_fault;
 use crate::near::{is_near, say_near};
 use crate::numbers::{is_number, say_misfit};
 use crate::page::Page;
@@ -29,8 +30,19 @@ fn say_fault(page: &mut Page, value: &str) -> Result<bool, NoMemory> {
     page.say("invalid fault ")?;
     page.quote(value.as_bytes())?;
     page.say(": expected STEP:SITE:WORD; ")?;
+    if second_fault(value).is_some() {
+        page.say(
+            "a run takes one fault; `talft campaign OBJECT --faults FILE` tries each fault of a list",
+        )?;
+        return Ok(true);
+    }
     say_wrong_part(page, value)?;
     Ok(true)
+}
+
+/// Whether a list is written with spaces, so that the shell may have split it.
+fn is_spaced(list: &str) -> bool {
+    list.ends_with(',') || list.contains(' ')
 }
 
 /// Says what is wrong with the value of `--wild`; returns false if nothing is.
@@ -43,6 +55,9 @@ fn say_wild(page: &mut Page, value: &str) -> Result<bool, NoMemory> {
     page.say(
         " for `--wild`: expected at most 4096 answers separated by commas, each a number or `stop`",
     )?;
+    if is_spaced(value) {
+        page.say("; write it without spaces, as in `1,2`")?;
+    }
     Ok(true)
 }
 
@@ -79,6 +94,83 @@ fn say_near_option(page: &mut Page, command: &'static str, word: &str) -> Result
     Ok(())
 }
 
+/// Whether this is an option of some command.
+fn is_option(word: &str) -> bool {
+    OPTIONS.iter().any(|option| first_word(*option) == word)
+}
+
+/// How many commands take an option.
+fn count_takers(option: &str) -> usize {
+    let mut count: usize = 0;
+    for command in COMMANDS {
+        let is_taker = value_of(*command, option).is_some();
+        count = count.saturating_add(usize::from(is_taker));
+    }
+    count
+}
+
+/// The separator before an item of a list, given how many items are left, this one included.
+fn separator(is_first: bool, left: usize) -> &'static str {
+    match left {
+        _ if is_first => "",
+        1 => " and ",
+        _ => ", ",
+    }
+}
+
+/// Lists the commands that take an option.
+fn say_takers(page: &mut Page, option: &str) -> Result<(), NoMemory> {
+    let mut left = count_takers(option);
+    let mut is_first = true;
+    for command in COMMANDS {
+        if value_of(*command, option).is_some() {
+            page.say(separator(is_first, left))?;
+            page.quote(first_word(*command).as_bytes())?;
+            is_first = false;
+            left = left.saturating_sub(1);
+        }
+    }
+    Ok(())
+}
+
+/// How many options a command takes.
+fn count_taken(command: &'static str) -> usize {
+    let mut count: usize = 0;
+    for option in OPTIONS {
+        let is_taken = value_of(command, first_word(*option)).is_some();
+        count = count.saturating_add(usize::from(is_taken));
+    }
+    count
+}
+
+/// Lists the options that a command takes.
+fn say_taken(page: &mut Page, command: &'static str) -> Result<(), NoMemory> {
+    let name = first_word(command);
+    let mut left = count_taken(command);
+    if left == 0 {
+        return page.say(format_args!("`{name}` takes no options"));
+    }
+    page.say(format_args!("`{name}` takes "))?;
+    let mut is_first = true;
+    for option in OPTIONS {
+        if value_of(command, first_word(*option)).is_some() {
+            page.say(separator(is_first, left))?;
+            page.quote(first_word(*option).as_bytes())?;
+            is_first = false;
+            left = left.saturating_sub(1);
+        }
+    }
+    Ok(())
+}
+
+/// Says which commands take an option that this one does not take, and what this one takes.
+fn say_elsewhere(page: &mut Page, command: &'static str, option: &str) -> Result<(), NoMemory> {
+    page.say(": it is an option of ")?;
+    say_takers(page, option)?;
+    page.say("; ")?;
+    say_taken(page, command)
+}
+
 /// Whether a word is the option that names the output file in other programs.
 fn is_of_output(word: &str) -> bool {
     matches!(word.as_bytes(), b"-o" | b"--out" | b"--output")
@@ -93,7 +185,25 @@ fn say_unknown_option(page: &mut Page, command: &'static str, word: &str) -> Res
     if is_of_output(word) {
         return page.say(": it writes to standard output: add `>FILE`");
     }
+    if is_option(word) {
+        return say_elsewhere(page, command, word);
+    }
     say_near_option(page, command, word)
+}
+
+/// Whether the last option among these words is `--wild`, with its value.
+fn ends_with_list(before: &[String]) -> bool {
+    match before {
+        [.., option, _] => option.as_str() == "--wild",
+        _ => false,
+    }
+}
+
+/// Says that an argument follows the list of `--wild`, which the shell has probably split.
+fn say_split(page: &mut Page, word: &str) -> Result<(), NoMemory> {
+    page.say("unexpected argument ")?;
+    page.quote(word.as_bytes())?;
+    page.say(" after the list of `--wild`: write the list without spaces, as in `1,2`")
 }
 
 /// Says that an argument follows the operand where only options may.
@@ -141,6 +251,10 @@ fn say_option(
     option: &str,
     value: Option<&str>,
 ) -> Result<bool, NoMemory> {
+    if ends_with_list(before) && !option.is_empty() && !option.starts_with("-") {
+        say_split(page, option)?;
+        return Ok(true);
+    }
     let Some(called) = value_of(command, option) else {
         say_untaken(page, command, option)?;
         return Ok(true);
@@ -230,12 +344,21 @@ pub fn explain_option_as_file(page: &mut Page, words: &[String]) -> Result<bool,
     Ok(true)
 }
 
+/// How to name standard input.
+const INPUT: &str = "; for standard input write `/dev/stdin`";
+
+/// Whether the operand of a command may be standard input.
+fn reads_input(command: &'static str) -> bool {
+    !matches!(first_word(command).as_bytes(), b"demo" | b"debug")
+}
+
 /// Says what is wrong with the words after a command.
 fn say_words(page: &mut Page, command: &'static str, rest: &[String]) -> Result<(), NoMemory> {
     let called = operand_of(command);
     let [operand, options @ ..] = rest else {
         let name = first_word(command);
-        return page.say(format_args!("missing {called} after `{name}`"));
+        page.say(format_args!("missing {called} after `{name}`"))?;
+        return page.say(if reads_input(command) { INPUT } else { "" });
     };
     if operand.as_str().starts_with("--") {
         return say_misplaced(page, command, operand.as_str());
@@ -260,10 +383,26 @@ fn say_near_command(page: &mut Page, word: &str) -> Result<(), NoMemory> {
     Ok(())
 }
 
+/// The scripts in the folder `tools`.
+const TOOLS: &[&str] = &[
+    "build", "campaign", "cc", "dap", "debugger", "ending", "explain", "faults", "lines", "plot",
+    "report", "set", "wasm2asm",
+];
+
+/// Whether a word is the name of a script in the folder `tools`.
+fn is_tool(word: &str) -> bool {
+    TOOLS.iter().any(|tool| *tool == word)
+}
+
 /// Says that there is no such command.
 fn say_unknown(page: &mut Page, word: &str) -> Result<(), NoMemory> {
     page.say("talft: error: unknown command ")?;
     page.quote(word.as_bytes())?;
+    if is_tool(word) {
+        return page.say(format_args!(
+            ": that is a separate script, `tools/{word}`; see `man talft-{word}`\n"
+        ));
+    }
     say_near_command(page, word)?;
     page.say("\n")?;
     say_commands(page)?;
