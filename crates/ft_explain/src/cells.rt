@@ -69,7 +69,7 @@ fn say_unlike_cell<P: Program, Q: Program>(
     let wanted = first.counts().cells;
     page.say("  it has ")?;
     page.count(count, "cell")?;
-    page.say(format_args!(", and the first module has {wanted}\n"))
+    page.say(format_args!(", but the first module has {wanted}\n"))
 }
 
 /// Says in which cell an object differs from the first one, or else how many cells each has.

@@ -195,7 +195,7 @@ fn say_counts<P: Program>(
     if number == 16 {
         page.say("  the substitution has ")?;
         page.count(row_count(instr), "row")?;
-        page.say(format_args!(", and code type {t} has "))?;
+        page.say(format_args!(", but code type {t} has "))?;
         page.count(u32::from(head.ints), "integer variable")?;
         return page.say("\n");
     }
@@ -325,7 +325,7 @@ fn explain_entry<P: Program>(page: &mut Page, program: &P, name: &str) -> Result
     } else {
         return page.say("requires a memory other than the initial one\n");
     }
-    page.say(", and must have none\n")
+    page.say(", but it must have none\n")
 }
 
 /// Explains that a cell's initial word does not have the cell's type.

@@ -115,7 +115,7 @@ fn say_found(page: &mut Page, machine: &Machine, instr: Instr) -> Result<(), NoM
         Instr::St {
             colour: Colour::Green,
             ..
-        } => page.say("the queue is full: it has eight stores"),
+        } => page.say("the queue is full: it holds eight stores"),
         Instr::St {
             colour: Colour::Blue,
             rd,
@@ -124,7 +124,7 @@ fn say_found(page: &mut Page, machine: &Machine, instr: Instr) -> Result<(), NoM
         Instr::JmpG { .. } | Instr::BzG { .. } => {
             let d = machine.d();
             page.say(format_args!(
-                "d is {d}, and must be 0: another green jump or branch waits for its blue half"
+                "d is {d} but must be 0: another green jump or branch is still waiting for its blue half"
             ))
         }
         Instr::JmpB { rd, .. } => say_target(page, machine, rd),

@@ -187,7 +187,7 @@ fn code_words(instr: Instr) -> &'static str {
             "its target register does not hold a block address from a `mov` in this block, or it tests such an address",
         Instr::JmpB { .. } | Instr::BzB { .. } =>
             "its target register does not hold a block address from a `mov` in this block, or it passes such an address on",
-        _ => "it reads the address of a block, but is not a jump or branch to it",
+        _ => "it reads the address of a block but does not jump or branch to that block",
     }
 }
 

@@ -17,16 +17,32 @@ use ft_view::View;
 /// How many steps are repeated to see what happened in a run.
 const AGAIN: u64 = 1_000_000;
 
+/// The largest `--steps` and `--turns`.
+const MOST: u64 = 1_000_000_000;
+
+/// The largest `--steps` of a command that takes a fault list.
+const MOST_LISTED: u64 = 1_000_000;
+
 /// Begins a line about a file.
 fn begin(page: &mut Page, name: &str) -> Result<(), NoMemory> {
     page.name(name)?;
     page.say(": ")
 }
 
+/// Says that a limit can be raised, or that it is already the highest allowed.
+fn say_limit(page: &mut Page, count: u64, most: u64, what: &str) -> Result<(), NoMemory> {
+    if count < most {
+        page.say(format_args!(": raise `--{what}`\n"))
+    } else {
+        page.say(format_args!(", the most that `--{what}` allows\n"))
+    }
+}
+
 /// Says that a call was stopped at its limit of steps or turns.
 fn say_cut(page: &mut Page, name: &str, count: u64, what: &str) -> Result<(), NoMemory> {
     begin(page, name)?;
-    page.say(format_args!("still running after {count} {what}: raise `--{what}`\n"))
+    page.say(format_args!("still running after {count} {what}"))?;
+    say_limit(page, count, MOST, what)
 }
 
 /// Says that a source was stopped at its limit of steps or turns, and which loop never ends.
@@ -97,9 +113,7 @@ fn say_detected<P: Program>(
 /// Says that a fault was detected at an unknown place.
 fn say_detected_late(page: &mut Page, run: &Run) -> Result<(), NoMemory> {
     begin(page, run.object)?;
-    page.say(
-        "detected after more than 1000000 steps; `talft campaign` or `talft debug` shows the step\n",
-    )
+    page.say("detected after more than 1000000 steps; `talft debug` shows the step\n")
 }
 
 /// Explains what happened in a run that this machine has repeated.
@@ -180,9 +194,8 @@ fn say_if_cut<P: Program>(page: &mut Page, program: &P, asked: &Campaign) -> Res
         Status::Running => {
             begin(page, asked.object)?;
             let taken = met.taken;
-            page.say(format_args!(
-                "note: the run without a fault was cut after {taken} steps: raise `--steps`\n"
-            ))
+            page.say(format_args!("note: the run without a fault was cut after {taken} steps"))?;
+            say_limit(page, taken, MOST_LISTED, "steps")
         }
         _ => Ok(()),
     }

@@ -34,7 +34,7 @@ fn states(instr: Instr) -> &'static str {
         Instr::JmpB { .. } => "no `jmp_G` is pending",
         Instr::BzB { .. } => "no `bz_G` is pending",
         Instr::Halt => "a green jump or branch is still waiting for its blue one",
-        _ => "another green jump or branch waits for its blue one",
+        _ => "another green jump or branch is still waiting for its blue one",
     }
 }
 

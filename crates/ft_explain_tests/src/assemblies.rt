@@ -155,7 +155,7 @@ const TABLES: &[(&str, &str)] = &[
     ),
     (
         "node 0 memory\nnode 0 add 1 1\ntype 0 0\nblock 0\nhalt\nentry 0\n",
-        "file:2:12: error: invalid `1`: this is node 1, and a node refers to earlier nodes only\n node 0 add 1 1\n            ^\n",
+        "file:2:12: error: invalid `1`: this is node 1, and a node may refer only to earlier nodes\n node 0 add 1 1\n            ^\n",
     ),
     (
         "node 0 word 1\ntype 0 0\nblock 0\nhalt\nentry 0\n",

@@ -217,7 +217,7 @@ fn refused_modules_are_explained(rt: HostRuntime) -> Result<(), Fail> {
 fn an_instruction_that_is_not_linked_is_shown(rt: HostRuntime) -> Result<(), Fail> {
     let files: &[(&str, &[u8])] = &[("map", MAP.as_bytes()), ("m", A2)];
     let text =
-        "m: error: block 0, instruction 3: it reads the address of a block, but is not a jump or branch to it\n  add r33 r1 B 0\n";
+        "m: error: block 0, instruction 3: it reads the address of a block but does not jump or branch to that block\n  add r33 r1 B 0\n";
     check_told(&rt, "link map", 13, "link 5 0 0 3\n", files, text)?;
     let text = "map: error: cannot be read\n";
     check_told(&rt, "link map", 3, "", &[], text)

@@ -8,7 +8,7 @@ const REFUSED: &[Refused] = &[
     (
         A,
         &[(92, 1)],
-        "file: error: a run cannot begin in block 0: its code type 0 has 1 integer variable, and must have none\n",
+        "file: error: a run cannot begin in block 0: its code type 0 has 1 integer variable, but it must have none\n",
     ),
     (
         P5,
@@ -53,7 +53,7 @@ const REFUSED: &[Refused] = &[
     (
         P16,
         &[],
-        "file: error: block 0, instruction 5: its substitution does not fit the integer variables of the target or of this block (premise 16)\n  jmp_B r33 0\n  r33: B code:1\n  the substitution has 0 rows, and code type 1 has 1 integer variable\n",
+        "file: error: block 0, instruction 5: its substitution does not fit the integer variables of the target or of this block (premise 16)\n  jmp_B r33 0\n  r33: B code:1\n  the substitution has 0 rows, but code type 1 has 1 integer variable\n",
     ),
     (
         P17,

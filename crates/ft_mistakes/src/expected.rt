@@ -174,7 +174,7 @@ fn habit_of_word(word: &[u8]) -> Option<&'static str> {
         }
         b"return" => Some("there is no `return`: a program ends after its last statement"),
         b"break" | b"continue" | b"goto" | b"switch" | b"else" | b"elif" => {
-            Some("a statement is an assignment, `while` or `if` with `else`")
+            Some("a statement is an assignment, a `while`, or an `if` with or without `else`")
         }
         b"def" | b"fn" | b"func" | b"function" | b"void" => Some("there are no functions"),
         b"print" | b"println" | b"printf" | b"puts" | b"write" | b"echo" => Some(OUTPUT),

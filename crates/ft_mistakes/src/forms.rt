@@ -12,7 +12,7 @@ talft compile fibonacci.src >fibonacci.obj",
 report whether the typing rules accept an object
 talft check five.obj",
     "run OBJECT [--steps N] [--fault STEP:SITE:WORD] [--wild LIST]
-check an object and run it, with a fault or without
+check an object and run it, with or without a fault
 talft run five.obj --fault 4:r1:6",
     "recover OBJECT [--steps N] [--fault STEP:SITE:WORD] [--wild LIST]
 run an object; if a fault is detected, run it again without the fault

@@ -230,7 +230,8 @@ fn rule(number: u64) -> &'static str {
         2 => "a character is not part of the language, or a name has more than 32 bytes",
         3 => "a number is too large",
         4 => "unexpected token",
-        5 => "it is nested too deeply, or has too many operators",
+        5 =>
+            "brackets or braces are nested too deeply, or an assignment or test has too many operators",
         6 => "a name is declared twice",
         7 => "a name is not declared",
         11 => "an array has no index, or something else has one",

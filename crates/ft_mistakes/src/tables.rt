@@ -185,7 +185,7 @@ fn say_index(page: &mut Page, breach: &Breach<'_>) -> Result<(), NoMemory> {
     let own = breach.record.number as u64;
     if breach.record.part == Part::Node && value >= own {
         return page.say(format_args!(
-            "this is node {own}, and a node refers to earlier nodes only"
+            "this is node {own}, and a node may refer only to earlier nodes"
         ));
     }
     if what == "cell" {

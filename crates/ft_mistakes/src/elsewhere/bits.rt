@@ -16,7 +16,7 @@ pub(super) const ROWS: &[Row] = &[
     ("srl srli lsr", "write `shr`"),
     (
         "sra srai sar asr",
-        "`shr` fills with zeros, and no shift keeps a sign",
+        "`shr` fills with zeros: no shift preserves the sign",
     ),
     (
         "rol ror rotl rotr",
