@@ -292,7 +292,7 @@ code_again code h =
     ∙ ap (λ j. Some (j, rows)) h.apart)
     ∙ rows_again (subst_of i) i code.rows h.rows
 
--- the words of a line are read as that line
+-- the words of a line that fits are read as that line
 pub line_again : (line : Line) → FitsLine line → line_in (line_words line) ≡ Some line
 line_again (lines.Node n) h = node_again n h
 line_again (lines.Code code) h = code_again code h

@@ -109,7 +109,7 @@ made_sound {A} (k ∷ ks) made (w ∷ ws) a rest h e =
       words = ap (λ x. x ∷ ws) own.1 ∙ ap (λ xs. operand_word (operand_of k read.0) ∷ xs) others.words;
     })
 
--- the word of an operand is read as its value
+-- the word of an operand that fits is read as its value
 pub taken_again : {A : Type 0} (o : Operand) → FitsOperand o → (next : Value (kind_of o) × List (List ℕ) → Option A)
     (ws : List (List ℕ)) → option_and_then next (taken (value_in (kind_of o)) (operand_word o ∷ ws))
     ≡ next (value_of o, ws)

@@ -185,7 +185,7 @@ line_operands (lines.Node n) h = (
 line_operands (lines.Code code) h = instr_operands code.instr h.instr
 line_operands line h = assumption
 
--- the words of a line are words
+-- the words of a line that fits are words
 pub line_are_words : (line : Line) → FitsLine line → AreWords (line_words line)
 line_are_words (lines.Code code) h = all_append IsAnyWord (form_words (instr_form code.instr)) (map decimal code.rows)
     (form_are_words (instr_form code.instr) (instr_begins code.instr) (instr_operands code.instr h.instr))
@@ -250,7 +250,7 @@ first_line (b ∷ bs) rest h =
 abbrev pub bare : Line → List ℕ
 bare line = spaced (line_words line)
 
--- splitting written lines gives those lines
+-- splitting the text of lines that fit gives those lines
 pub lines_again : (ls : List Line) → AllByRecursion FitsLine ls → lines_of (flat_map line_text ls) ≡ map bare ls
 lines_again [] h = refl
 lines_again (l ∷ ls) h =
@@ -270,7 +270,7 @@ line_said (lines.Code code) =
     first_said f.first (map operand_word f.operands ++ map decimal code.rows) (instr_begins code.instr)
 line_said line = refl
 
--- what written lines say is their words
+-- what written lines that fit say is their words
 pub said_again : (ls : List Line) → AllByRecursion FitsLine ls → said_in (map bare ls) ≡ map line_words ls
 said_again [] h = refl
 said_again (l ∷ ls) h =

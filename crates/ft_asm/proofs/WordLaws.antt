@@ -104,7 +104,7 @@ word_ends text x xs at e f g =
     ∙ kept_word (take at text) (words_of (drop (at + 1) text)) (omega arith)
     ∙ ap (λ l. take at text ∷ words_of l) (sym (take_rest text (at + 1)))
 
--- a text without a blank is one word
+-- a nonempty text without a blank is one word
 pub word_only : (text : List ℕ) (x : ℕ) (xs : List ℕ) → text ≡ x ∷ xs → position is_blank text ≡ None → words_of text
     ≡ text ∷ words_of []
 word_only text x xs e g =

@@ -66,7 +66,7 @@ pub(crate) fn run_machine<P: Program>(
 }
 
 /// The status of a run that took `taken` of `steps` steps: 0 if it is done, 1 if it is detected, 9 if it took them all,
-/// and 14 if the array is full.
+/// and otherwise 14, since the array is full.
 #[tactic(auto, using(crate::proofs::Ends::done_at, crate::proofs::Ends::detected_at, crate::proofs::Ends::cut_at, crate::proofs::Ends::full_at))]
 pub(crate) fn end_of(status: Status, taken: u64, steps: u64) -> u32
     ensures ends { (count room : ℕ) → count ≤ room → taken ≤ steps → (status ≡ Status.Running → count < room → taken ≡ steps) → Ends result steps taken count room status }

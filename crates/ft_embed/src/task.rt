@@ -100,7 +100,7 @@ impl Task {
 
     /// Takes at most `steps` steps, and fewer if the run is done or detected, or the array is full. Puts their outputs
     /// into the array. The status is 0 for a run that is done, 1 for one that is detected, 9 if all steps were taken or
-    /// the run has taken 2^64 - 1 in all, and 14 if the array is full.
+    /// the run has taken 2^64 - 1 in all, and otherwise 14, since the array is full.
     pub fn advance(&mut self, steps: u64, out: &mut [CellOutput]) -> RunAnswer
         ensures went { WentOn self.old self.new result.status steps result.ran.steps result.ran.count out.new }
         ensures once { IsOnce result.ran }

@@ -137,7 +137,7 @@ pub goes_to : (o : Object) (c : Context) (i : Instr) (G : Context → Type 0) �
     GoesTo o c i G
 goes_to o c i G a p = goes_to_by o c i G (row o c i) refl a p
 
--- a rule that never continues ends the block, and its claim holds
+-- if the premises of a rule that never continues hold, the rule ends the block, and its claim holds
 pub ends_by : (o : Object) (c : Context) (i : Instr) (E : Type 0) (x : Outcome) → row o c i ≡ x → After (λ _. ⊥) E x →
     Passes o c i → (row o c i ≡ Ends) × E
 unfolding After

@@ -30,7 +30,7 @@ use Rattle.ft_modules.proofs.LinkedContexts.{entered_get}
 
 -- TESTS
 
--- the test that two numbers are different is symmetric
+-- if a tests as different from b, then b tests as different from a
 turned : (a b : ℕ) → (a == b) ≡ false → (b == a) ≡ false
 turned a b h = by_test (b == a) refl
   where
@@ -52,7 +52,7 @@ free_same e f (Some p) None same = λ j. not (is_some (same p (eq-eqb p p refl) 
 free_same e f None (Some q) same = λ j. not (is_some (same q (eq-eqb q q refl) j))
 free_same e f None None same = refl
 
--- whether an instruction passes depends only on the registers that it reads
+-- whether an instruction that is not fixed passes depends only on the registers that it reads
 traced_same : (o : Object) (e f : Entered) (i : Instr) → is_fixed i ≡ false →
     ((r : ℕ) → reads i r ≡ true → finite.get e r ≡ finite.get f r) → is_traced o e i ≡ is_traced o f i
 traced_same o e f (JmpG rd) h same = cc
@@ -88,7 +88,7 @@ entered_twice e p q v w other = finite.same_map nat_cmp_total nat_cmp-IsAntisymm
 
 -- TWO NEIGHBOURS
 
--- whether an instruction passes is the same before and after a write that it does not depend on
+-- whether an instruction that is not fixed passes is the same before and after a write that it does not depend on
 pass_over : (o : Object) (e : Entered) (i w : Instr) (r : ℕ) → is_fixed i ≡ false → written w ≡ Some r →
     leaves_alone i (written w) ≡ true → is_traced o (entered_after w e) i ≡ is_traced o e i
 pass_over o e i w r free wr alone =
@@ -177,13 +177,13 @@ walk_exchanged o e k (i ∷ j ∷ is) zero q a b ea eb m h =
 
 -- TABLES
 
--- the walk looks only at the object's code types
+-- whether a target is free does not depend on the object's instructions
 target_same : (o : Object) (xs : List Instr) (e : Entered) (u : Option ℕ) → is_free_target (with_instrs o xs) e u
     ≡ is_free_target o e u
 target_same o xs e None = refl
 target_same o xs e (Some t) = refl
 
--- so whether an instruction passes does not depend on the object's code
+-- so whether an instruction passes does not depend on them either
 traced_there : (o : Object) (xs : List Instr) (e : Entered) (i : Instr) → is_traced (with_instrs o xs) e i
     ≡ is_traced o e i
 traced_there o xs e (JmpB rd u) = target_same o xs e (finite.get e rd.number)

@@ -1,4 +1,4 @@
--- Shapes whose parts are replaced by their numbers are equal exactly when the trees are.
+-- Shapes whose parts are replaced by their numbers are equal exactly when their trees are.
 use Rattle.std.proofs.Common.{◌≡◌, ℕ, ◌<◌, ◌≤◌, Bool, true, false, List, [], ◌∷◌, map, drop}
 use Rattle.std.proofs.Common.{get_or, slice_get, Some, refl, sym, ap, ◌∙◌, arith, true≢false}
 use Rattle.std.specs.Prelude.{◌↔◌}

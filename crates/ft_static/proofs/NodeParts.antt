@@ -72,7 +72,7 @@ pub one_tree : (ts us : List Expression) (x y : Shape) → outline x ≡ outline
     ≡ map (part_tree us) (parts y) → tree_of ts x ≡ tree_of us y
 one_tree ts us x y e f = tree-outline ts x ∙ (λ i. tree_of (f i) (e i)) ∙ sym (tree-outline us y)
 
--- renamed nodes are equal exactly when their outlines and their renamed parts are equal
+-- renamed nodes are equal if their outlines are equal and their renamed parts are equal
 pub one_renamed : (f g : ℕ → ℕ) (x y : Shape) → outline x ≡ outline y → map (part_with f) (parts x)
     ≡ map (part_with g) (parts y) → renamed f x ≡ renamed g y
 one_renamed f g x y e h = renamed-outline f x ∙ (λ i. renamed (number_at (h i)) (e i))
