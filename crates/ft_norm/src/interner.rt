@@ -129,7 +129,7 @@ impl Interner {
         let c = self.word_at(a);
         let d = self.word_at(b);
         let form = match (c, d) {
-            (Some(c), Some(d)) => self.constant(apply(op, c, d))?,
+            (Some(c), Some(d)) => self.word(apply(op, c, d))?,
             _ => self.computed(op, a, b)?,
         };
         Ok(form)
