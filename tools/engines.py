@@ -1,14 +1,19 @@
 """Runs the parts of a campaign on this machine, with GNU parallel or with Slurm, and reports progress."""
+import collections
 import os
 import re
+import selectors
 import signal
 import subprocess
 import sys
 import time
+from concurrent.futures import ThreadPoolExecutor
 
 from parts import remove, write
 
 MOST_TASKS = 1_000
+# How many answers are taken at once, and for how many seconds at most the local engine waits without telling progress.
+TAKERS, PATIENCE = 4, 0.5
 
 
 class Progress:
@@ -59,28 +64,35 @@ def built(name):
 
 
 def local(campaign, asked, progress):
-    """Runs several parts at once on this machine. The next part begins before the last answer is taken."""
-    waiting, running, ended, jobs = campaign.left(), {}, [], asked.jobs or os.cpu_count()
-    campaign.called = built(campaign.called)
-    try:
-        while waiting or running or ended:
-            for part in [part for part, process in running.items() if process.poll() is not None]:
-                ended.append((part, running.pop(part).returncode))
-            while waiting and len(running) < jobs:
-                part = waiting.pop(0)
-                running[part] = subprocess.Popen(["sh", "-c", campaign.job(f"{part:06}")], cwd=campaign.folder,
-                                                 start_new_session=True)
-            if ended:
-                part, status = ended.pop(0)
-                campaign.failures[part] = f"no answer (shell status {status})"
-                campaign.take(part)
-            else:
-                time.sleep(0.002)
-            progress.tell()
-    finally:
-        for process in running.values():
-            end(process)
-            process.wait()
+    """Runs several parts at once on this machine. Threads take the answers, so that no job waits for a comparison or a
+    disk."""
+    waiting, running, jobs = collections.deque(campaign.left()), {}, asked.jobs or os.cpu_count()
+    campaign.called, taken = built(campaign.called), collections.deque()
+    with ThreadPoolExecutor(TAKERS) as pool, selectors.DefaultSelector() as ends:
+        try:
+            while waiting or running:
+                while waiting and len(running) < jobs:
+                    part = waiting.popleft()
+                    # Nothing is written to the pipe: it closes when the job ends.
+                    running[part] = subprocess.Popen(["sh", "-c", campaign.job(f"{part:06}")], cwd=campaign.folder,
+                                                     stdout=subprocess.PIPE, start_new_session=True)
+                    ends.register(running[part].stdout, selectors.EVENT_READ, part)
+                for key, _ in ends.select(PATIENCE):
+                    ends.unregister(key.fileobj)
+                    with running.pop(key.data) as process:
+                        process.wait()
+                    campaign.failures[key.data] = f"no answer (shell status {process.returncode})"
+                    taken.append(pool.submit(campaign.take, key.data))
+                while taken and taken[0].done():
+                    taken.popleft().result()
+                progress.tell()
+            for answer in taken:
+                answer.result()
+        finally:
+            pool.shutdown(wait=False, cancel_futures=True)
+            for process in running.values():
+                end(process)
+                process.wait()
 
 
 def spread(campaign, progress, command, stop, grace=0):

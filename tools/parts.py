@@ -12,7 +12,7 @@ MOST_FAULTS, MOST_PRODUCT = 65_536, 1_000_000_000
 # How many faults make a call of the program worthwhile.
 WORTH = 4_096
 FAULT = re.compile(r"(0|[1-9]\d{0,19}):(?:%s):(0|[1-9]\d{0,19})" % "|".join(SITES))
-VERDICT_OF_LINE = re.compile(rb" (?:masked|idle|corrupt|detected \d{1,20})$", re.MULTILINE)
+DETECTED = re.compile(rb" detected \d{1,20}\n")
 # How many files are written at once: a disk syncs several together.
 AT_ONCE = 8
 
@@ -111,6 +111,13 @@ def without_last(answer):
 def answers(answer, part):
     """Whether an answer has the verdicts of a part's faults, in order, and their totals."""
     lines, last = without_last(answer)
-    counts = [lines.count(b"\n")] + [lines.count(b" " + verdict.encode()) for verdict in VERDICTS]
-    return (last == b"faults %d masked %d detected %d idle %d corrupt %d\n" % tuple(counts)
-            and VERDICT_OF_LINE.sub(b"", lines) == part)
+    left, detected = DETECTED.subn(b"\n", lines)
+    counts, count = {"detected": detected}, lines.count(b"\n")
+    for verdict in ("masked", "idle", "corrupt"):
+        end = b" %s\n" % verdict.encode()
+        counts[verdict] = lines.count(end)
+        left = left.replace(end, b"\n") if counts[verdict] else left
+    # Each line ends in one verdict, and a second verdict in a line would be one space too many.
+    return (left == part and sum(counts.values()) == count and lines.count(b" ") == count + detected
+            and last == b"faults %d masked %d detected %d idle %d corrupt %d\n"
+            % (count, *(counts[verdict] for verdict in VERDICTS)))

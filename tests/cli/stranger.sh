@@ -224,3 +224,45 @@ report 'a fault list as a script' \
   'standard input: error: this is a fault list, not a debugger script: pass it with `--faults`' \
   "$("$top/talft" debug five.obj 2>&1 >answer <five.faults)"
 cd "$work" || exit 2
+
+# Inputs of the wrong kind: pipes, folders, `-` for standard input, and a list that is for another object.
+printf '4:r1:6 detected 11\nfaults 1 masked 0 detected 1 idle 0 corrupt 0\n' >stranger.lines
+mkdir stranger.folder
+piped() { "$top/tools/$1" <(cat "$top/examples/five.obj") "${@:2}" 2>&1 | sed 's,/dev/fd/[0-9]*,PIPE,'; }
+for script in faults ending; do
+  report "an object from a pipe: $script" \
+    "$script: PIPE: is a pipe, and an object is read more than once: give a file" "$(piped $script)"
+done
+report 'an object from a pipe: campaign' \
+  'campaign: PIPE: is a pipe, and an object is read more than once: give a file' \
+  "$(piped campaign --faults cut.faults --dir piped.kept)"
+report 'an object from a pipe, read once' 'out 0' "$(piped set --list)"
+for script in plot report; do
+  words=(); [ $script = plot ] || words=(--object "$top/examples/five.obj")
+  refuses "a folder for the lines of $script" \
+    "$script: stranger.folder: is a folder; give the file with the lines that \`campaign\` wrote to standard output" \
+    $script stranger.folder "${words[@]}"
+done
+of='lines are read more than once: give a file'
+report 'lines from a pipe: report' "report: /dev/stdin: is a pipe, and the $of" \
+  "$(cat stranger.lines | "$top/tools/report" /dev/stdin --object "$top/examples/five.obj" --out stranger.html 2>&1)"
+report 'lines from a pipe: plot' "plot: /dev/stdin: is a pipe, and with --dir the $of" \
+  "$(cat stranger.lines | "$top/tools/plot" /dev/stdin --dir cut.kept 2>&1)"
+if has gnuplot 'a picture of lines from a pipe'; then
+  report 'a picture of lines from a pipe' '0 piped.svg' \
+    "$(cat stranger.lines | "$top/tools/plot" /dev/stdin --out piped.svg 2>&1; echo $? piped.svg)"
+fi
+refuses 'a page without a name' 'report: /dev/stdin: name the page with `--out FILE`' \
+  report /dev/stdin --object "$top/examples/five.obj"
+refuses 'a dash for standard input' \
+  'plot: -: no such file; `-` does not mean standard input here: give the name of a file' plot -
+refuses 'a dash for the list' \
+  'campaign: -: no such file; `-` does not mean standard input here: give the name of a file' \
+  campaign "$top/examples/five.obj" --faults - --dir dash.kept
+refuses 'lines of another object' "report: stranger.lines:1: \`4:r1:6 detected 11\`: on $top/examples/reload.obj this fault is \
+masked; give the object of this campaign, and its --wild" report stranger.lines --object "$top/examples/reload.obj"
+echo 999:r1:6 >idle.faults
+tool 'a list for another object' 0 '999:r1:6 idle\nfaults 1 masked 0 detected 0 idle 1 corrupt 0\n' \
+  campaign "$top/examples/five.obj" --faults idle.faults --steps 100 --dir idle.kept
+report 'the note about it' 'campaign: note: idle.faults: no fault struck anything: is the list for another object, or does '\
+'it strike at --steps or later?' "$(tail -n 1 said)"
