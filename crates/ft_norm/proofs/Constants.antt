@@ -58,7 +58,7 @@ total_words c d p q v w (one_term l e) (no_term z f) =
     (sym (ap (λ n. n % 2 ^ 64) s ∙ mod-eq_of_lt v)))
 total_words c d p q v w (one_term l e) (one_term m f) = ap (λ r. total r q) e ∙ ap (total (plus one c nought)) f
 
--- it has at most one term
+-- the form of a word has at most 64 terms
 few_terms : (c : ℕ) → nat_le (terms (led_by one c nought)) 64 ≡ true
 few_terms c = if_cases (λ q. nat_le (terms q) 64 ≡ true) (c == 0) nought (plus one c nought) (λ e. refl) (λ e. refl)
 
@@ -73,7 +73,7 @@ negated d q w (one_term l e) =
     let n : (2 ^ 64 - d) % 2 ^ 64 ≡ 2 ^ 64 - d = mod-eq_of_lt (omega (arith, l)) in
     one_term (omega (arith, n, w)) (ap negation e ∙ ap (λ n. plus one ((2 ^ 64 - n) % 2 ^ 64) nought) (mod-eq_of_lt w))
 
--- a product of 0 is 0
+-- if a product is 0, its form is the zero polynomial
 no_product : (n : ℕ) → n ≡ 0 → nought ≡ led_by one (n % 2 ^ 64) nought
 no_product n e = rw e refl
 
@@ -139,7 +139,7 @@ word_entry fs e ys (x ∷ []) d None h i l m k = tt
 word_entry fs e ys (x ∷ []) d (Some w) h i l m k = h
     ∙ ap integer_form (ap (λ zs. polynomial_form fs (map full zs)) (sym i) ∙ k)
 
--- the word of an entry is that of its place
+-- if the form x is at index i and is known to be that of a word, that word's form is at index i
 pub word_seen : (o : Option ℕ) (fs : List Normal) (i : ℕ) (x : Normal) → slice_get fs i ≡ Some x →
     IfSome o (λ w. x ≡ integer_form (constant w)) → IfSome o (λ w. slice_get fs i ≡ Some (integer_form (constant w)))
 word_seen (Some w) fs i x e h = e ∙ ap Some h
