@@ -24,7 +24,7 @@ module _ (s : State) (P : (List Wild → Stepping) → Type 0) (quiets : (t : St
   by_test true x y p q = p refl
   by_test false x y p q = q
 
-  -- P holds of a step that has no output if a test holds, and otherwise goes to Detected
+  -- P holds of a step that depends on a test: a quiet one if the test passes, one to Detected if it fails
   checked : (b : Bool) (t : State) → t.cells ≡ s.cells → P (λ w. if b then quiet t w else detected s w)
   checked b t e = by_test b (quiet t) (detected s) (λ _. quiets t e) (quiets _ refl)
 
