@@ -35,7 +35,7 @@ taken_within (suc n) (y ∷ xs) (suc k) x e = let h = taken_within n xs k x e in
 range_is : {X : Type 0} (xs : List X) (first m : ℕ) → slice_range xs first (first + m) ≡ take m (drop first xs)
 range_is xs first m = let n : first + m - first ≡ m = omega arith in rw n refl
 
--- type k of a run is the type of the cell at its address
+-- type k of a run is the type of the cell at the address of cell `first` + k
 type_there : (o : Object) (first m k : ℕ) → k < m → slice_get (types_of_run o first m) k
     ≡ cell_type o (cell_address (first + k))
 type_there o first m k l =
