@@ -23,8 +23,7 @@ pub of_map : {A B : Type 0} (f : A → B) (o : Option A) (y : B) → option_map 
 of_map f None y e = absurd cc
 of_map f (Some x) y e = (x, (refl, cc))
 
--- P holds of a byte and its result under a test for the letter c, if P holds of c and its result, and of the byte and
--- the result of the other branch
+-- P holds of a byte and the result of a conditional that tests whether the byte is c, if it does so in both branches
 pub of_letter : {A : Type 0} (P : ℕ → A → Type 0) (b c : ℕ) (made after : A) (o : Option A) → P c made →
     (o ≡ Some after → P b after) → (if eqb b c then Some made else o) ≡ Some after → P b after
 of_letter {A} P b c made after o here other e =
@@ -39,8 +38,7 @@ of_letter {A} P b c made after o here other e =
 pub same_word : (w v : List ℕ) → bytes_eq w v ≡ true → w ≡ v
 same_word w v e = (bytes_eq-Decides w v).0 e
 
--- P holds of a word and its result under a test for the word v, if P holds of v and its result, and of the word and
--- the result of the other branch
+-- P holds of a word and the result of a conditional that tests whether the word is v, if it does so in both branches
 pub chosen : {A : Type 0} (P : List ℕ → A → Type 0) (v w : List ℕ) (x y : Option A) → ((a : A) → x ≡ Some a → P v a) →
     ((a : A) → y ≡ Some a → P w a) → (a : A) → (if bytes_eq w v then x else y) ≡ Some a → P w a
 chosen P v w x y h i a e = elim (of_branch (bytes_eq w v) x y a e) [
