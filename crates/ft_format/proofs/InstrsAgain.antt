@@ -180,7 +180,7 @@ module _ (h : Header) (nodes : List Node) (first at a b c x high low : ℕ) (nar
     instr_6,
   )
 
-  -- each kind; the search reads the rules, so it covers new kinds too
+  -- `Again` holds for each kind; the proof search reads the rules, so it covers new kinds too
   each_again : Each (λ kind. kind ≤ last_instr_kind v → Again kind) instr_kinds
   each_again = search again parts 12
 

@@ -66,7 +66,7 @@ module _ (v : Version) (earlier : List Node) (at op scope pad a b c : ℕ) (few 
   Again kind = kind ≤ last_node_kind v → node_op_broken v (at + 1) kind op ≡ None →
       parts_broken earlier at kind scope a b c ≡ None → NodeAgain v earlier (kind ∷ op ∷ scope ∷ pad ∷ a ∷ b ∷ c ∷ [])
 
-  -- each kind; the search reads the rules, so it covers new kinds too
+  -- `Again` holds for each kind; the proof search reads the rules, so it covers new kinds too
   each_again : Each Again node_kinds
   each_again = search fields_again parts 12
 
