@@ -33,7 +33,7 @@ apart_more whole a b xs more h k p = k (subst (λ t.
 pub not_running : (v : Status) → HasStopped v → v ≡ Running → ⊥
 not_running v h e = subst HasStopped e h
 
--- one more output at an outlet that compares
+-- if `Heeds true` holds of some outputs and `Heeds r` of the next one, `Heeds r` holds of all of them
 pub heeds_next : (r : Bool) (whole : List Output) (first old new : ℕ) (before : List Output) (x : Output) →
     Heeds true whole first old before → Heeds r whole old new (x ∷ []) → Heeds r whole first new (before ++ x ∷ [])
 heeds_next true whole first old new before x h k = continues_more whole first old new before (x ∷ []) h k

@@ -246,7 +246,7 @@ module _ (o : Object) (x : Strike) (w : List Wild) (n s : ℕ) (q : State) (l : 
         pub steps_on : ((e : ℕ) → Meets o x w e → e < n → m ≤ e) → (e : ℕ) → IsEnd o x w n e → m ≤ e
         steps_on unmet = end_far o x w n m m on_running (omega arith) on_within unmet
 
-  -- a run that is still running after its last step has ended
+  -- if a run is still running after its last step, `HasEnded` holds
   pub ended_running : (b : ℕ) → n ≤ s → is_struck o (Some x) w n ≡ true → HasEnded o x w n at Running b
   ended_running b past struck =
       let e : s ≡ n = (let le = h.within in omega (arith, past, le)) in

@@ -21,8 +21,8 @@ pub record Meets (o : Object) (x : Strike) (w : List Wild) (m : ℕ) : Type 0 wh
   pub state : state_after o (Some x) w m ≡ state_after o None w m
   pub wild : wild_after o (Some x) w m ≡ wild_after o None w m
 
--- the struck run need not be followed beyond its first e steps: these are all n, it has stopped, or it meets the other
--- run
+-- the struck run need not be followed beyond its first e steps: either e is n, or the run has stopped by then, or it
+-- meets the other run there
 pub data IsEnd (o : Object) (x : Strike) (w : List Wild) (n e : ℕ) : Type 0 where
   last : e ≡ n → IsEnd o x w n e
   stopped : ¬ (status_after o (Some x) w e ≡ Running) → IsEnd o x w n e

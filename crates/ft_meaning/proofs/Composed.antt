@@ -29,7 +29,7 @@ use Rattle.ft_simulation.proofs.Lists.{begins_itself}
 use Rattle.ft_meaning.proofs.Longer.{Grows}
 use Rattle.ft_meaning.proofs.Sinks.{breaks_longer}
 
--- if `whole` does what `go` does, perhaps with more work done before it, a run of `go` is a run of `whole`
+-- if `whole` does what `go` does from a state that differs only in the work done, a run of `go` is a run of `whole`
 pub runs_from : (go whole : State → Outcome) (f : ℕ → ℕ) (names : List (List ℕ)) (r q : Run) (before after : SinkLog)
     (res : Result (Unit {0}) Stop) →
     ((o : List Output) (w : ℕ) → whole (state r o w) ≡ go (state r o (f w))) → RunsTo go names r q before after res →

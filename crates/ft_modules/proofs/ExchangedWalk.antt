@@ -52,7 +52,7 @@ free_same e f (Some p) None same = λ j. not (is_some (same p (eq-eqb p p refl) 
 free_same e f None (Some q) same = λ j. not (is_some (same q (eq-eqb q q refl) j))
 free_same e f None None same = refl
 
--- whether an instruction that is not fixed passes depends only on the registers that it reads
+-- for an instruction that is not fixed, whether it passes depends only on the registers that it reads
 traced_same : (o : Object) (e f : Entered) (i : Instr) → is_fixed i ≡ false →
     ((r : ℕ) → reads i r ≡ true → finite.get e r ≡ finite.get f r) → is_traced o e i ≡ is_traced o f i
 traced_same o e f (JmpG rd) h same = cc
@@ -88,7 +88,7 @@ entered_twice e p q v w other = finite.same_map nat_cmp_total nat_cmp-IsAntisymm
 
 -- TWO NEIGHBOURS
 
--- whether an instruction that is not fixed passes is the same before and after a write that it does not depend on
+-- for an instruction that is not fixed, a write that it does not depend on does not change whether it passes
 pass_over : (o : Object) (e : Entered) (i w : Instr) (r : ℕ) → is_fixed i ≡ false → written w ≡ Some r →
     leaves_alone i (written w) ≡ true → is_traced o (entered_after w e) i ≡ is_traced o e i
 pass_over o e i w r free wr alone =

@@ -179,8 +179,8 @@ module _ (modules : List Object) (joins : List Link) (x : Object) (spelled : IsS
       (after_typed (λ _. C) C (typed c rz.number) _ (λ k ik. anyhow C _ (same_word rz k f ik)))
       (subst (Passes o c) e here_o.passes)
 
-  -- an entered target register holds the module's address in the module's state, and the address to which that is sent
-  -- in the linked object's state
+  -- in the module's state, an entered target register holds a code address of the module; in the linked object's state,
+  -- it holds the address to which that one is sent
   target_words : (k : Colour) (n w : ℕ) → (rd : Reg) → code_type_at o w ≡ Some n → typed c rd.number
       ≡ Some (addressed k n w) → typed b rd.number ≡ Some (addressed k (home.to w).1 (home.to w).0) → (word s rd ≡ w)
       × (word t rd ≡ (home.to w).0)

@@ -138,7 +138,7 @@ pub target_there : (o : Object) (to : ℕ → ℕ × ℕ) (e : Entered) (c b : C
     is_entered e r ≡ true → Target o to e c b r
 target_there o to e c b r h t = target_by o to e c b r (finite.get e r.number) refl (h.registers r.number) t
 
--- a free target is entered
+-- a target that passes the test `is_free_target` is entered
 pub free_target_entered : (o : Object) (e : Entered) (u : Option ℕ) → is_free_target o e u ≡ true → is_some u ≡ true
 free_target_entered o e None h = cc
 free_target_entered o e (Some t) h = refl

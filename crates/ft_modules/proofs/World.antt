@@ -49,8 +49,8 @@ before_of modules m = before_module nothing_before modules m
 abbrev pub at_address : ℕ → State → State
 at_address a s = record s { pc_green = a; pc_blue = a }
 
--- where a machine that arrives at block y of module m continues: at a block of some module, at address a in the linked
--- object, whose code type agrees with that of y
+-- where a machine that arrives at block y of module m continues: at a block of some module whose code type agrees with
+-- that of y; in the linked object, this block is at address a
 pub record Lands (modules : List Object) (joins : List Link) (x : Object) (m : ℕ) (o : Object) (a w : ℕ) (y : Block) :
     Type 0 where
   pub number : ℕ

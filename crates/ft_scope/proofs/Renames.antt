@@ -23,7 +23,7 @@ module _ (look : List ℕ → Option Slot) (b : StatementList Named) where
   abbrev then_b : StatementList Slot → Result (StatementList Slot) ℕ
   then_b x = renamed look b >>= λ y. Ok (follow x y)
 
-  -- building a statement from its rest commutes with appending b
+  -- if f commutes with `follow`, it also commutes with `then_b` on results
   rest_step : (whole rest : Result (StatementList Slot) ℕ) (f : StatementList Slot → StatementList Slot) → whole
       ≡ rest >>= then_b → ((r y : StatementList Slot) → f (follow r y) ≡ follow (f r) y) → whole >>= (λ r. Ok (f r))
       ≡ (rest >>= λ r. Ok (f r)) >>= then_b

@@ -45,7 +45,7 @@ module _ {A : Type 0} (Good : A → Type 0) (written : A → List ℕ) (found : 
       (λ x h. (x, (h.0, append_cancel_left piece rest (written x) (sym split ∙ h.1)))) (found rest)
   by_front false e = inr (λ x h. begins_not line piece e (written x) h.1)
 
-  -- it is decided whether a text is the piece and then a text of that kind
+  -- it is decidable whether a text is the piece and then a text of that kind
   pub after_piece : IsDecided (IsOf Good (λ x. piece ++ written x) line)
   after_piece = by_front (bytes_eq (take (length piece) line) piece) refl
 
@@ -90,7 +90,7 @@ module _ {A B : Type 0} (GoodA : A → Type 0) (a : A → List ℕ) (GoodB : B �
   by_space (Some at) e = by_words at e (found_a (take at text))
       (found_b (take (length text - (at + 1)) (drop (at + 1) text)))
 
-  -- it is decided whether a text is two such words
+  -- it is decidable whether a text is two such words
   pub two_words : IsDecided (IsOf (BothGood GoodA GoodB) (with_space a b) text)
   two_words = by_space (position is_space text) refl
 
@@ -114,7 +114,7 @@ word_by text None e = inr (λ n h. (let g : None ≡ Some n = sym (ap (option_an
     ∙ number_reader.complete text n h in absurd cc))
 word_by text (Some s) e = word_at text s s e refl
 
--- it is decided whether a text is a number
+-- it is decidable whether a text is a number
 pub word_found : (text : List ℕ) → IsDecided (IsOf IsWord decimal text)
 word_found text = word_by text (state_after next_number None text) refl
 
@@ -137,7 +137,7 @@ below_by : (limit : ℕ) (text : List ℕ) → limit ≤ 2 ^ 64 → IsDecided (I
 below_by limit text few (inl n) = below_at limit text n.0 (nat_lt n.0 limit) few n.1 refl
 below_by limit text few (inr none) = inr (λ m i. (let less : m < limit = i.0 in none m (omega arith, i.1)))
 
--- it is decided whether a text is a number below a limit
+-- it is decidable whether a text is a number below a limit
 pub below_found : (limit : ℕ) → limit ≤ 2 ^ 64 → (text : List ℕ) → IsDecided (IsOf (IsBelow limit) decimal text)
 below_found limit few text = below_by limit text few (word_found text)
 

@@ -4,7 +4,8 @@ use Rattle.ft_syntax.specs.Plain.{plain_expression}
 use Rattle.ft_scope.specs.Size.{same_slot}
 use Rattle.ft_meaning.proofs.run.+word.Given as goal
 
--- twice the number of an expression's nodes, and one more in the functions that take its parts
+-- twice the number of an expression's nodes; in the functions that take an expression's parts, twice the number of
+-- their nodes, plus one
 abbrev pub decreases-word_of : goal.decreases-word_of
 decreases-word_of l = 2 * expression_nodes (plain_expression same_slot l.e.now)
 
