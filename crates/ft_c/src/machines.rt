@@ -94,10 +94,10 @@ pub extern "C" fn talft_advance(
     answer.status
 }
 
-/// Strikes a site of the run that a handle holds before its next step, for tests: the text names the site, such as
-/// `r1`, `d`, `pcg` or `qv0`, and the word there becomes `value`. Returns 0 on success; 2 for a text that names no
-/// site; 18 if the run was struck before or has stopped, or if the site does not exist; or 17 for an empty handle.
-/// Unless it returns 0, the handle is unchanged.
+/// Strikes the run that a handle holds, before its next step, for tests: the text names a site, such as `r1`, `d`,
+/// `pcg` or `qv0`, and the word there becomes `value`. Returns 0 on success; 2 for a text that names no site; 18 if the
+/// run was struck before or has stopped, or if the site does not exist; or 17 for an empty handle. Unless it returns 0,
+/// the handle is unchanged.
 #[unsafe(no_mangle)]
 pub extern "C" fn talft_strike(alloc: Global, machine: &mut Handle, site: &[u8], value: u64) -> u32
     ensures struck { result ≡ 0 → IsStruckIn machine.old.task machine.new.task site.now value }

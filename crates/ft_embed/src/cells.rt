@@ -25,8 +25,8 @@ fn is_int(basic: Basic) -> bool
     }
 }
 
-/// Looks for a cell of type `int` in the object that bytes spell. The status is 0 if there is one; 7 for bytes that
-/// spell no object; 16 if there is no such cell; or 19 if it is of another type.
+/// Looks up a cell of the object that bytes spell, and tests whether it is of type `int`. The status is 0 if it is; 7
+/// for bytes that spell no object; 16 if there is no such cell; or 19 if the cell is of another type.
 fn find_int_cell(bytes: &[u8], cell: u32) -> Verdict
     ensures found { result.status ≡ 0 → HasIntCell bytes.now cell }
     ensures malformed { result.status ≡ 7 → IsMalformed bytes.now result.why }

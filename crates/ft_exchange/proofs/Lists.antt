@@ -99,7 +99,7 @@ all_exchanged P is n h k d lt =
     let f = from_exchanged is n k _ x in
     subst P (get_or_from_slice_get is f.0 _ d f.1) (h f.0 d (slice_get_within is f.0 _ f.1))
 
--- the substitutions are the same, if the two instructions carry none
+-- exchanging two instructions without substitutions leaves the list of substitutions unchanged
 pub substs_exchanged : (is : List Instr) (n : ℕ) (a b : Instr) → slice_get is n ≡ Some a → slice_get is (suc n)
     ≡ Some b → subst_of a ≡ None → subst_of b ≡ None → substs_of (exchanged is n) ≡ substs_of is
 substs_exchanged [] n a b ea eb na nb = refl

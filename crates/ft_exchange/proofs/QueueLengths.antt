@@ -15,8 +15,8 @@ use Rattle.ft_typing.specs.RowTests.{known, others}
 use Rattle.ft_typing.proofs.TypingRows.{Holds, row_holds}
 use Rattle.ft_exchange.specs.Exchange.{queue_after}
 
--- counting stores from the static queue before an instruction or from the one after it leads to the same length,
--- whatever instructions follow
+-- the length of the static queue after an instruction and any that follow it is the same whether it is computed from
+-- the queue before the instruction or from the queue after it
 abbrev pub Counts : Context → Instr → Context → Type 0
 Counts c i d = (is : List Instr) → queue_after (length c.queue) (i ∷ is) ≡ queue_after (length d.queue) is
 

@@ -279,7 +279,7 @@ trailing_waits i laid ws ws' q c l f same = λ rows start past base rest h a.
     subst (λ z. IsArranged rows start past base rest laid z q c) (sym same)
     (arranged_trailing rows start past base i rest laid ws q c l f a)
 
--- what follows from two facts about a call that succeeded, or from one, holds if the call succeeded
+-- if two facts hold when a call succeeds, so does what follows from them; likewise for one fact
 pub on_both : {A E P Q S : Type 0} (r : Result A E) → (P → Q → S) → OnOk r P → OnOk r Q → OnOk r S
 on_both (Ok x) f p q = f p q
 on_both (Err e) f p q = tt
