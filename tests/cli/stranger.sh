@@ -165,7 +165,7 @@ done <<'END'
 0^exec got^cell a = 0;\na = 3;\n^
 6^compile got^```\ncell a = 0;\n```\n^got:1:1: error: this line is a Markdown code fence: remove both fences
 6^compile got^PK\x03\x04\x14^got: error: this is a zip archive, not a source: `unzip` unpacks it
-7^run got^\x1f\x8b\x08^got: error: this is compressed by gzip, not an object: `gunzip` unpacks it
+7^run got^\x1f\x8b\x08^got: error: this is a gzip file, not an object: `gunzip` unpacks it
 7^run got^\x7fELF\x02^got: error: this is an ELF file (code for a processor), not an object: `tools/cc` makes an object from C files
 11^campaign five.obj --faults got^\x7fELF\x02^got: error: this is an ELF file (code for a processor), not a fault list
 7^check got^TALFT\x02\x01\x01\x01\x05^got: error: the object has no zero bytes, because a text tool removed or replaced them: copy it in binary mode
@@ -206,7 +206,7 @@ done
 { cat five.obj; echo; } >got
 first_said run got >answer
 report 'an object with a line feed at its end' \
-  '  a line feed follows its end, as an editor or a text tool adds one: copy the object in binary mode' "$(sed -n 2p said)"
+  '  a line feed follows its end; an editor or a text tool may have added it: copy the object in binary mode' "$(sed -n 2p said)"
 yes 4:r1:6 | head -n 65537 >got
 report 'a list that is too long' \
   '11: got: error: the fault list is too long: at most 65536 lines and 4194304 bytes are allowed; `tools/campaign` splits longer lists' \

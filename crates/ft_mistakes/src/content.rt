@@ -57,7 +57,7 @@ impl Content {
             Content::C => "a C program",
             Content::Wasm => "a WebAssembly module",
             Content::Wide => "UTF-16 text",
-            Content::Gzip => "compressed by gzip",
+            Content::Gzip => "a gzip file",
             Content::Zip => "a zip archive",
             Content::Elf => "an ELF file (code for a processor)",
             Content::Empty => "empty",

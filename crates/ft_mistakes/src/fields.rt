@@ -24,7 +24,7 @@ pub(crate) const HEADER: &[Field] = &[
 /// The fields of a cell.
 pub(crate) const CELL: &[Field] = &[
     (0, 4, "the end of its name"),
-    (4, 1, "the number of `ref` in its type"),
+    (4, 1, "the number of `ref`s in its type"),
     (5, 1, "the base of its type"),
     (6, 2, "the code type of its type"),
     (8, 8, "its initial word"),
@@ -44,7 +44,7 @@ pub(crate) const REG: &[Field] = &[
     (0, 1, "its register"),
     (1, 1, "its colour"),
     (2, 2, UNUSED),
-    (4, 1, "the number of `ref` in its type"),
+    (4, 1, "the number of `ref`s in its type"),
     (5, 1, "the base of its type"),
     (6, 2, "the code type of its type"),
     (8, 4, "the node of its expression"),
@@ -152,7 +152,7 @@ const INSTRS: &[&[Field]] = &[
         (1, 1, "its register rd"),
         (2, 1, UNUSED),
         (3, 1, "its colour"),
-        (4, 1, "the number of `ref` in its type"),
+        (4, 1, "the number of `ref`s in its type"),
         (5, 1, "the base of its type"),
         (6, 2, "the code type of its type"),
         (8, 8, "its word"),

@@ -49,7 +49,7 @@ const AS_TEXT: &str =
 
 /// The message for an object with a line feed after its end.
 const LINE_FEED: &str =
-    "  a line feed follows its end, as an editor or a text tool adds one: copy the object in binary mode\n";
+    "  a line feed follows its end; an editor or a text tool may have added it: copy the object in binary mode\n";
 
 /// The message for an object without zero bytes, which each header has.
 const NO_ZEROS: &str =
