@@ -21,7 +21,7 @@ use ft_norm::{Form, Interner};
 use ft_types::Program;
 use ft_typing::{Why, same_basic};
 
-/// The maximum number of `ref` in a basic type.
+/// The maximum number of `ref`s in a basic type.
 const REFS: u8 = 8;
 
 /// Whether the cells from `from` up to `past` are all of this basic type.
