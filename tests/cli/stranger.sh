@@ -292,6 +292,10 @@ for words in 'explain five.obj --fault 4:r1:6' 'debugger five.obj' 'lines sieve.
   report "standard output to a full disk: ${words:0:20}" "1 ${words%% *}: standard output: no space left on the device" \
     "$(full $words)"
 done
+asked='{"seq":1,"type":"request","command":"threads"}'
+report 'standard output to a full disk: dap' '1 dap: standard output: no space left on the device' \
+  "$(printf 'Content-Length: %d\r\n\r\n%s' ${#asked} "$asked" | "$top/tools/dap" 2>said >/dev/full
+    printf '%d %s' $? "$(tail -n 1 said)")"
 # Python may write at once, or when the tool ends.
 for script in build campaign cc dap debugger ending explain faults lines plot report set wasm2asm; do
   for unbuffered in '' 1; do
