@@ -80,7 +80,7 @@ done <<END
 1|report lines --object five.obj --out x.pdf|report: --out: x.pdf: the page is HTML: expected a name that ends in .html
 2|set out=5 five.obj|set: missing OBJECT before \`out=5\`
 1|plot nosuch|plot: nosuch: no such file
-1|plot folder|plot: folder: is a folder
+1|plot folder|plot: folder: is a folder; give a file with the standard output of \`campaign\`
 1|plot empty|plot: empty: is empty; expected the lines of a campaign
 1|plot /dev/null|plot: /dev/null: is empty; expected the lines of a campaign
 1|plot none|plot: none: has no faults to draw: its campaign had an empty list
