@@ -25,7 +25,7 @@
     ValueError: invalid fault or answers: fault '4:r1:6', wild 'x'
     >>> talft.run("five.obj")
     Traceback (most recent call last):
-    TypeError: expected the object's bytes, not a name
+    TypeError: expected the object's bytes, not a file name
     >>> talft.recover(data, fault="4:r1:6")[:2]
     ('done', [('out', 5)])
     >>> list(talft.stream(data))
@@ -38,7 +38,7 @@
     ('done', [('n', 42)])
     >>> talft.set_cell(counter, "n", 41)
     Traceback (most recent call last):
-    TypeError: the cell must be a number, from 0
+    TypeError: the cell must be given by its number, counted from 0
     >>> talft.set_cell(counter, 7, 0)
     Traceback (most recent call last):
     IndexError: no cell 7
@@ -52,7 +52,7 @@
     ('idle', 0)
     >>> talft.campaign(data, ["4:r1:6", "900:r2:7"])
     Traceback (most recent call last):
-    TypeError: faults must be one text, with a fault per line
+    TypeError: faults must be one text with one fault per line
     >>> talft.campaign(data, "4:x:6")
     Traceback (most recent call last):
     talft.Refused: list 1 1
@@ -62,7 +62,7 @@
     talft.Refused: link 7 2
     >>> talft.link("module main.obj\\n", {})
     Traceback (most recent call last):
-    KeyError: 'no module 0 of the link map'
+    KeyError: 'module 0 of the link map is missing'
 
 The library is the one that $TALFT_LIBRARY names, or the one next to this file, or the one that the system finds. Each
 function may be called from several threads at once; a generator from `stream` must stay on its thread.
@@ -189,7 +189,7 @@ def _bytes(data):
 
 def _object(data):
     if isinstance(data, (str, os.PathLike)):
-        raise TypeError("expected the object's bytes, not a name")
+        raise TypeError("expected the object's bytes, not a file name")
     return _bytes(data)
 
 
@@ -329,7 +329,7 @@ def set_cell(data, cell, word):
     accepted exactly when the object is."""
     data, why = _object(data), _Refusal()
     if isinstance(cell, str):
-        raise TypeError("the cell must be a number, from 0")
+        raise TypeError("the cell must be given by its number, counted from 0")
     out = ctypes.create_string_buffer(data)
     status = _LIBRARY.talft_set_cell(out, len(data), _number(cell, 32), _number(word), ctypes.byref(why))
     if status == _NO_CELL:
@@ -355,7 +355,7 @@ def link(text, modules):
         if status == _OK:
             return out.raw[: made.value]
         if status == _NO_MODULE:
-            raise KeyError(f"no module {module.value} of the link map")
+            raise KeyError(f"module {module.value} of the link map is missing")
         if status != _NO_ROOM:
             _answer(status, why, module.value)
         room = made.value
@@ -365,7 +365,7 @@ def campaign(data, faults, steps=1_000_000, wild=""):
     """Checks an object and tries each fault of a list. Returns for each, in order, its verdict ("masked", "detected",
     "idle"), and the step that detected it, or 0. `faults` is a text of lines such as "4:r1:6"."""
     if not isinstance(faults, (str, bytes, bytearray, memoryview)):
-        raise TypeError("faults must be one text, with a fault per line")
+        raise TypeError("faults must be one text with one fault per line")
     data, faults, wild, steps = _object(data), _bytes(faults), _bytes(wild), _number(steps)
     room, totals, why = faults.count(b"\n") + 1, _Totals(), _Refusal()
     out = (_Verdict * room)()

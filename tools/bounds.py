@@ -1,10 +1,10 @@
-"""What a campaign over a sample says about all faults that it is drawn from: counts by class of site, and bounds."""
+"""What a campaign over a sample says about all faults that the sample is drawn from: counts by class of site, and bounds."""
 import json
 import math
 
 from common import SITES, VERDICTS, Refused
 
-# The probability that the true share lies above its bound is at most this.
+# The probability that a bound lies below the true share is at most this.
 DOUBT = 0.05
 CLASSES = ("registers", "d", "counters", "queue")
 
@@ -66,7 +66,7 @@ def read_about(path):
         of = {name: int(told["of"][name]) for name in CLASSES}
         return of, int(told["drawn"]), str(told["words"])
     except (ValueError, KeyError, TypeError) as error:
-        raise Refused(f"{path}: is not what `faults --about` writes") from error
+        raise Refused(f"{path}: is not a file that `faults --about` wrote") from error
 
 
 def share(value):
@@ -82,11 +82,12 @@ def summary(counts, told):
         by_class[class_of(site)][verdict] += count
     numbers = {name: sum(here.values()) for name, here in by_class.items()}
     if sum(numbers.values()) != drawn or any(numbers[name] > of[name] for name in CLASSES):
-        raise Refused(f"{sum(numbers.values())} faults were tried, but --about describes {drawn} of {sum(of.values())}")
+        raise Refused(f"the {sum(numbers.values())} faults of the list are not the {drawn} of {sum(of.values())} that "
+                      "--about describes")
     is_all = drawn == sum(of.values())
     yield (f"exhaustive: all {drawn} faults of `{words}` were tried" if is_all else
-           f"sampled: {drawn} of the {sum(of.values())} faults of `{words}`; after each count the upper bound on its share of "
-           "them, at 95 % (Clopper and Pearson)")
+           f"sampled: {drawn} of the {sum(of.values())} faults of `{words}`; in brackets, upper bounds on the shares at "
+           "95 % confidence (Clopper and Pearson)")
     rows = [(name, by_class[name], numbers[name], of[name]) for name in CLASSES if of[name]]
     whole = {verdict: sum(here[verdict] for here in by_class.values()) for verdict in VERDICTS}
     for name, here, number, population in rows + [("all", whole, drawn, sum(of.values()))]:

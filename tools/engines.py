@@ -12,7 +12,7 @@ from concurrent.futures import ThreadPoolExecutor
 from parts import remove, write
 
 MOST_TASKS = 1_000
-# How many answers are taken at once, and for how many seconds at most the local engine waits without telling progress.
+# How many threads take answers, and how many seconds the local engine waits at most before it reports progress.
 TAKERS, PATIENCE = 4, 0.5
 
 

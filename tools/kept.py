@@ -22,10 +22,10 @@ def kept_in(folder):
     file = os.path.join(folder, "campaign.json")
     if not os.path.isdir(folder):
         raise Refused(f"--dir: {named(folder)}: {'is not a folder' if os.path.exists(folder) else 'no such folder'}; "
-                      "give the folder of the tool `campaign`")
+                      "give the folder that `tools/campaign` made")
     if not os.path.exists(file):
-        raise Refused(f"--dir: {named(folder)}: it holds no campaign (no campaign.json); give the folder of the "
-                      "tool `campaign`, or the object with --object")
+        raise Refused(f"--dir: {named(folder)}: holds no campaign (no campaign.json); give the folder that "
+                      "`tools/campaign` made, or the object with --object")
     with open(file, encoding="utf-8") as text:
         try:
             told = json.load(text)
@@ -33,7 +33,7 @@ def kept_in(folder):
             return Kept(os.path.join(folder, "object"), words, told["wild"], told["asked"], told["faults"],
                         told.get("version"), told.get("began"), told.get("cut"), int(words[words.index("--steps") + 1]))
         except (ValueError, KeyError, IndexError) as error:
-            raise Refused(f"{named(file)}: is not a file of the tool `campaign`, or is damaged") from error
+            raise Refused(f"{named(file)}: is damaged, or was not written by `tools/campaign`") from error
 
 
 def some_of(path):
@@ -70,7 +70,7 @@ def check_lines(path, object_file, wild=None):
     for (number, fault, told, _), verdict in zip(some, again):
         if not is_possible(told, verdict):
             raise Refused(f"{named(path)}:{number}: `{fault} {told}`: on {named(object_file)} this fault is {verdict}; give the "
-                          "object of this campaign, and its --wild")
+                          "object of this campaign, and the same --wild")
 
 
 def is_cut(object_file, steps, wild=None):

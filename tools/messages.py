@@ -55,7 +55,7 @@ def reason(error):
     """What went wrong with a file, in the same words for each tool."""
     is_path = isinstance(error.filename, str) and error.errno in (errno.ENOENT, errno.ENOTDIR)
     if is_path and error.filename == "-":
-        return f"{REASONS[errno.ENOENT]}; `-` does not mean standard input here: give the name of a file"
+        return f"{REASONS[errno.ENOENT]}; `-` does not mean standard input here: give a file name"
     if is_path and (told := wrong_folder(error.filename)):
         return told
     if is_path and (longer := [error.filename + end for end in ENDS if os.path.isfile(error.filename + end)]):

@@ -1,6 +1,7 @@
 """The command line of a tool: argparse, with messages that say what is wrong and what is expected."""
 import argparse
 import re
+import sys
 
 from common import is_word
 from messages import listed, near, quoted
@@ -126,6 +127,10 @@ class Parser(argparse.ArgumentParser):
                 name, value = self.told_name(match["name"])
                 return text.format(**{**match.groupdict(), "name": name, "value": value})
         return message
+
+    def print_help(self, file=None):
+        # argparse ignores a failed write.
+        (file or sys.stdout).write(self.format_help())
 
     def error(self, message):
         """Ends the tool with a message about its arguments."""

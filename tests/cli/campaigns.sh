@@ -125,7 +125,7 @@ head -n 1 list >one.list
 report 'a limit on files' '1 campaign: limited/object: file too large' "$(ulimit -f 1
   "$top/tools/campaign" limit.obj --faults one.list --dir limited 2>said; echo "$? $(tail -n 1 said)")"
 refuses 'another campaign in the same folder' \
-  'campaign: here: it holds another campaign: give another --dir, or remove it' \
+  'campaign: here: holds another campaign: give another --dir, or remove the folder' \
   campaign fibonacci.obj --faults piece.aa --steps "$most" --dir here
 no_number='is not a decimal number below 2^64'
 while IFS='|' read -r line told; do
@@ -139,7 +139,7 @@ done <<END
 4:r1|the word is missing
 4|the site and the word are missing
 4:r1:6 |remove the spaces around it
-4:r1:6 masked|this has a verdict or other words
+4:r1:6 masked|a verdict or other words follow it
 4 r1 6|its parts are separated by \`:\`
 4: r1:6|remove the spaces in it
 :r1:6|the step is missing

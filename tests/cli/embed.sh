@@ -69,19 +69,19 @@ recover(five, fault='4:r64:6')|ValueError: invalid fault '4:r64:6': expected STE
 run(five, fault='4:r1', wild='z')|ValueError: invalid fault '4:r1': expected STEP:SITE:WORD
 run(five, fault='4:r1:6', wild='z')|ValueError: invalid fault or answers: fault '4:r1:6', wild 'z'
 run(five, fault='99:r1:6', steps=9)|
-check('five.obj')|TypeError: expected the object's bytes, not a name
-check(__import__('pathlib').Path('five.obj'))|TypeError: expected the object's bytes, not a name
-recover('five.obj')|TypeError: expected the object's bytes, not a name
-disassemble('five.obj')|TypeError: expected the object's bytes, not a name
-upgrade('five.obj')|TypeError: expected the object's bytes, not a name
-schedule('five.obj')|TypeError: expected the object's bytes, not a name
-set_cell('five.obj', 0, 5)|TypeError: expected the object's bytes, not a name
-stream('five.obj').__next__()|TypeError: expected the object's bytes, not a name
-campaign('five.obj', '4:r1:6')|TypeError: expected the object's bytes, not a name
-link('module five.obj', {'five.obj': 'five.obj'})|TypeError: expected the object's bytes, not a name
-campaign(five, ['4:r1:6'])|TypeError: faults must be one text, with a fault per line
-campaign(five, {'4:r1:6'})|TypeError: faults must be one text, with a fault per line
-set_cell(five, 'out', 5)|TypeError: the cell must be a number, from 0
+check('five.obj')|TypeError: expected the object's bytes, not a file name
+check(__import__('pathlib').Path('five.obj'))|TypeError: expected the object's bytes, not a file name
+recover('five.obj')|TypeError: expected the object's bytes, not a file name
+disassemble('five.obj')|TypeError: expected the object's bytes, not a file name
+upgrade('five.obj')|TypeError: expected the object's bytes, not a file name
+schedule('five.obj')|TypeError: expected the object's bytes, not a file name
+set_cell('five.obj', 0, 5)|TypeError: expected the object's bytes, not a file name
+stream('five.obj').__next__()|TypeError: expected the object's bytes, not a file name
+campaign('five.obj', '4:r1:6')|TypeError: expected the object's bytes, not a file name
+link('module five.obj', {'five.obj': 'five.obj'})|TypeError: expected the object's bytes, not a file name
+campaign(five, ['4:r1:6'])|TypeError: faults must be one text with one fault per line
+campaign(five, {'4:r1:6'})|TypeError: faults must be one text with one fault per line
+set_cell(five, 'out', 5)|TypeError: the cell must be given by its number, counted from 0
 END
   # The tools use the library if it is installed, and otherwise the program: same answers, fewer processes.
   mkdir embed_kit && cp -r "$top/tools" embed_kit/tools && cp "$library/talft.py" embed_kit/tools

@@ -41,7 +41,7 @@ for program in fibonacci sieve; do
   report "the run of $program, a step shorter" 9 $?
 done
 tool 'a run that is cut' 0 '5:r0:1\n' faults "$five" --most 6 --steps 5: --sites r0 --values 1
-report 'the message about a run that is cut' 'faults: the run is still running after 6 steps: raise --most to strike later ones' "$(head -n 1 said)"
+report 'the message about a run that is cut' 'faults: the run has not ended after 6 steps: raise --most to strike later ones' "$(head -n 1 said)"
 
 refuses 'an unknown site' \
   'faults: --sites: unknown site `r64`: the sites are r0 to r63, d, pcg, pcb, qa0 to qa7 and qv0 to qv7' \

@@ -43,10 +43,10 @@ done <<END
 1|build nofolder/a.src|build: nofolder/a.src: there is no folder \`nofolder\`
 1|build folder|build: folder: is a folder
 1|build /dev/null|build: /dev/null: unknown kind of file; expected a name that ends in .src, .asm or .map
-1|build five.obj|build: five.obj: is an object already; expected a .src, .asm or .map file
+1|build five.obj|build: five.obj: is already an object; expected a .src, .asm or .map file
 1|build one.c|build: one.c: use \`cc\` for C and for WebAssembly modules
 1|build five.asm -o nofolder/x|build: nofolder/x: there is no folder \`nofolder\`
-1|build five.asm -o folder|build: folder: is a folder; give the output the name of a file
+1|build five.asm -o folder|build: folder: is a folder; give the output a file name
 1|build five.asm -o /dev/null|build: /dev/null: is not a regular file, so no object can replace it
 1|build unknown.src|build: unknown.src: refused by \`talft compile\`: source 7 20
 2|campaign five.obj|campaign: missing \`--faults FILE\`
@@ -80,27 +80,27 @@ done <<END
 1|report lines --object five.obj --out x.pdf|report: --out: x.pdf: the page is HTML: expected a name that ends in .html
 2|set out=5 five.obj|set: missing OBJECT before \`out=5\`
 1|plot nosuch|plot: nosuch: no such file
-1|plot folder|plot: folder: is a folder
+1|plot folder|plot: folder: is a folder; give a file with the standard output of \`campaign\`
 1|plot empty|plot: empty: is empty; expected the lines of a campaign
 1|plot /dev/null|plot: /dev/null: is empty; expected the lines of a campaign
 1|plot none|plot: none: has no faults to draw: its campaign had an empty list
-1|plot list|plot: list:1: \`4:r1:6\` is a fault without its verdict: run \`campaign\` over the list, and give its lines
+1|plot list|plot: list:1: \`4:r1:6\` is a fault without a verdict: run \`campaign\` over the list, and give the lines that it writes
 1|plot five.obj|plot: five.obj:1: this is an object: expected the lines that a campaign writes
 1|plot twice|plot: twice:3: unexpected \`4:r1:6 detected 11\` after the totals; give one file for each campaign
 1|plot cut|plot: cut:2: missing last line \`faults ..\`, with the totals: the file is incomplete
 1|plot lines --out nofolder/x|plot: nofolder/x.png: there is no folder \`nofolder\`
-1|plot lines --out .|plot: --out: .: expected the name of a picture
-1|plot lines --dir folder|plot: --dir: folder: it holds no campaign (no campaign.json); give the folder of the tool \`campaign\`, or the object with --object
+1|plot lines --out .|plot: --out: .: expected a file name
+1|plot lines --dir folder|plot: --dir: folder: holds no campaign (no campaign.json); give the folder that \`tools/campaign\` made, or the object with --object
 1|plot lines --dir kept --object five.obj|plot: --dir and --object cannot be combined
 1|plot lines --object list|plot: list: is not an object; \`talft compile\`, \`talft asm\` and \`cc\` make objects
-1|report lines --dir .|report: --dir: .: it holds no campaign (no campaign.json); give the folder of the tool \`campaign\`, or the object with --object
-1|report lines --dir nosuch|report: --dir: nosuch: no such folder; give the folder of the tool \`campaign\`
-1|report lines --dir list|report: --dir: list: is not a folder; give the folder of the tool \`campaign\`
-1|report lines --dir kept|report: kept/campaign.json: is not a file of the tool \`campaign\`, or is damaged
+1|report lines --dir .|report: --dir: .: holds no campaign (no campaign.json); give the folder that \`tools/campaign\` made, or the object with --object
+1|report lines --dir nosuch|report: --dir: nosuch: no such folder; give the folder that \`tools/campaign\` made
+1|report lines --dir list|report: --dir: list: is not a folder; give the folder that \`tools/campaign\` made
+1|report lines --dir kept|report: kept/campaign.json: is damaged, or was not written by \`tools/campaign\`
 1|report none --object five.obj|report: none: has no faults to show: its campaign had an empty list
-1|report lines --object five.obj --out folder|report: folder: is a folder; give the output the name of a file
+1|report lines --object five.obj --out folder|report: folder: is a folder; give the output a file name
 1|report lines --object five.obj --source one.src|report: one.src: is not the source of five.obj: the instructions differ
-1|report lines --object other.obj|report: lines:1: \`4:r1:6 detected 11\`: on other.obj this fault is masked; give the object of this campaign, and its --wild
+1|report lines --object other.obj|report: lines:1: \`4:r1:6 detected 11\`: on other.obj this fault is masked; give the object of this campaign, and the same --wild
 2|explain five.obj|explain: missing \`--fault STEP:SITE:WORD\`
 1|explain folder --fault 4:r1:6|explain: folder: is a folder
 1|explain empty --fault 4:r1:6|explain: empty: is empty; expected an object, an assembly text or a source
@@ -112,7 +112,7 @@ done <<END
 2|debugger five.obj --comand step|debugger: unknown option \`--comand\`; did you mean \`--command\`?
 2|dap --port 70000|dap: \`--port\`: invalid number \`70000\`: expected 0 to 65535
 2|ending five.obj --steps ten|ending: \`--steps\`: invalid number \`ten\`: expected a whole number, at least 1
-1|ending five.obj --fault 40:r1:1 --steps 20|ending: --fault: the step 40 is not below the 20 steps of the run: raise --steps
+1|ending five.obj --fault 40:r1:1 --steps 20|ending: --fault: step 40 is not within the 20 steps of the run: raise --steps
 1|ending five.obj --fault 4,r1,6|ending: --fault: invalid fault \`4,r1,6\`: expected STEP:SITE:WORD; its parts are separated by \`:\`
 1|ending five.obj --fault r1:4:6|ending: --fault: invalid fault \`r1:4:6\`: expected STEP:SITE:WORD; the step comes first, then the site
 1|ending five.obj --fault 4:R1:6|ending: --fault: invalid fault \`4:R1:6\`: expected STEP:SITE:WORD; write sites in lower case, as \`r1\`
@@ -138,7 +138,7 @@ done <<END
 1|cc one.c -o x.obj --text x.obj|cc: x.obj: is given for two outputs; give each its own name
 1|cc five.asm -o x.obj|cc: five.asm: is an assembly text: use \`build\`; expected C files, or one .wasm module
 1|cc one.src -o x.obj|cc: one.src: is a source: use \`build\`; expected C files, or one .wasm module
-1|cc five.obj -o x.obj|cc: five.obj: is an object already; expected C files, or one .wasm module
+1|cc five.obj -o x.obj|cc: five.obj: is already an object; expected C files, or one .wasm module
 1|cc /dev/null -o x.obj|cc: /dev/null: is empty; expected C files, or one .wasm module
 1|cc nosuch.c -o x.obj|cc: nosuch.c: no such file
 END
@@ -173,14 +173,14 @@ refuses_clang symbols \
 refuses_clang linker 'the linker wasm-ld is not found: install lld'
 echo 'clang: error: unable to make temporary file: No such file or directory' >unable
 CLANG=$PWD/clang CLANG_SAYS=$PWD/unable TMPDIR=/nonexistent refuses 'a missing TMPDIR' \
-  'cc: clang cannot make a temporary file: TMPDIR is `/nonexistent`: set it to a folder that can be written' cc one.c -o x.obj
+  'cc: clang cannot make a temporary file: TMPDIR is `/nonexistent`: set it to a writable folder' cc one.c -o x.obj
 CLANG=$PWD/clang CLANG_SAYS=$PWD/unable TMPDIR='' TMP='' TEMP='' TEMPDIR='' refuses '/tmp, which cannot be written' \
-  'cc: clang cannot make a temporary file: /tmp cannot be written: set TMPDIR to a folder that can be written' cc one.c -o x.obj
+  'cc: clang cannot make a temporary file: /tmp cannot be written: set TMPDIR to a writable folder' cc one.c -o x.obj
 if has clang 'the functions of a C file' && has wasm-ld 'the functions of a C file'; then
   printf 'int x;\nint foo(void) { return x + 1; }\nvoid step(int a) { x = a; }\n' >two.c
   echo 'static int x;' >nothing.c
   TMPDIR=/nonexistent refuses 'a TMPDIR that clang does not find' \
-    'cc: clang cannot make a temporary file: TMPDIR is `/nonexistent`: set it to a folder that can be written' cc two.c -o x.obj
+    'cc: clang cannot make a temporary file: TMPDIR is `/nonexistent`: set it to a writable folder' cc two.c -o x.obj
   refuses 'a C file without an entry' 'cc: two.c: defines no function `run` or `main`; use --entry with `foo` or `step`' \
     cc two.c -o x.obj
   refuses 'an entry that is misspelled' 'cc: two.c: defines no function `fooo`; did you mean `foo`?' \
@@ -201,7 +201,7 @@ if has clang 'the functions of a C file' && has wasm-ld 'the functions of a C fi
     "$(tail -n 1 said)"
   printf 'int x;\nvoid run(void) { int a[1000]; for (int i = 0; i < 1000; i++) a[i] = i; x = a[x]; }\n' >large.c
   tool 'an array that is larger than the stack' 0 '' cc large.c --steps 1000 -o large.obj
-  report 'the message about an array that is larger than the stack' 'if this is the stack, raise --stack (512)' \
+  report 'the message about an array that is larger than the stack' 'if the stack is too small, raise --stack (512)' \
     "$(tail -n 1 said | sed 's/.*; //')"
   echo 'int x; void run() { x = 1; }' >plus.cpp
   refuses 'a C++ file' 'cc: plus.cpp: defines no function `run` or `main`; use --entry with `_Z3runv`' cc plus.cpp -o x.obj
@@ -247,7 +247,7 @@ printf 'import tempfile\ntempfile._candidate_tempdir_list = lambda: ["/nonexiste
 while read -r words; do
   # shellcheck disable=SC2086
   report "no temporary folder: $words" \
-    "1 ${words%% *}: no temporary folder can be written (/tmp, /var/tmp, ..): set TMPDIR" \
+    "1 ${words%% *}: no temporary folder (/tmp, /var/tmp, ..) is writable: set TMPDIR" \
     "$(PYTHONPATH=$PWD/no_temporary "$top"/tools/$words 2>said >/dev/null </dev/null; echo "$? $(cat said)")"
 done <<'END'
 set five.obj out=5 -o x.obj

@@ -81,7 +81,7 @@ refuses 'a campaign without a fault' 'plot: none.lines: has no faults to draw: i
   plot none.lines
 refuses 'a missing file' 'plot: absent: no such file' plot absent
 refuses 'a page without an object' \
-  'report: missing object: give `--dir DIR`, the folder of the tool `campaign`, or `--object OBJECT`' report few.lines
+  'report: missing object: give `--dir DIR`, the folder that `tools/campaign` made, or `--object OBJECT`' report few.lines
 refuses 'a page of truncated lines' \
   'report: cut.lines:6: missing last line `faults ..`, with the totals: the file is incomplete' \
   report cut.lines --object "$top/examples/five.obj"

@@ -231,38 +231,83 @@ mkdir stranger.folder
 piped() { "$top/tools/$1" <(cat "$top/examples/five.obj") "${@:2}" 2>&1 | sed 's,/dev/fd/[0-9]*,PIPE,'; }
 for script in faults ending; do
   report "an object from a pipe: $script" \
-    "$script: PIPE: is a pipe, and an object is read more than once: give a file" "$(piped $script)"
+    "$script: PIPE: is a pipe, but an object is read more than once: give a file" "$(piped $script)"
 done
 report 'an object from a pipe: campaign' \
-  'campaign: PIPE: is a pipe, and an object is read more than once: give a file' \
+  'campaign: PIPE: is a pipe, but an object is read more than once: give a file' \
   "$(piped campaign --faults cut.faults --dir piped.kept)"
 report 'an object from a pipe, read once' 'out 0' "$(piped set --list)"
 for script in plot report; do
   words=(); [ $script = plot ] || words=(--object "$top/examples/five.obj")
   refuses "a folder for the lines of $script" \
-    "$script: stranger.folder: is a folder; give the file with the lines that \`campaign\` wrote to standard output" \
+    "$script: stranger.folder: is a folder; give a file with the standard output of \`campaign\`" \
     $script stranger.folder "${words[@]}"
 done
 of='lines are read more than once: give a file'
-report 'lines from a pipe: report' "report: /dev/stdin: is a pipe, and the $of" \
+report 'lines from a pipe: report' "report: /dev/stdin: is a pipe, but the $of" \
   "$(cat stranger.lines | "$top/tools/report" /dev/stdin --object "$top/examples/five.obj" --out stranger.html 2>&1)"
-report 'lines from a pipe: plot' "plot: /dev/stdin: is a pipe, and with --dir the $of" \
+report 'lines from a pipe: plot' "plot: /dev/stdin: is a pipe, but with --dir the $of" \
   "$(cat stranger.lines | "$top/tools/plot" /dev/stdin --dir cut.kept 2>&1)"
 if has gnuplot 'a picture of lines from a pipe'; then
   report 'a picture of lines from a pipe' '0 piped.svg' \
     "$(cat stranger.lines | "$top/tools/plot" /dev/stdin --out piped.svg 2>&1; echo $? piped.svg)"
 fi
-refuses 'a page without a name' 'report: /dev/stdin: name the page with `--out FILE`' \
+refuses 'a page without a name' 'report: /dev/stdin: give the page a name with `--out FILE`' \
   report /dev/stdin --object "$top/examples/five.obj"
 refuses 'a dash for standard input' \
-  'plot: -: no such file; `-` does not mean standard input here: give the name of a file' plot -
+  'plot: -: no such file; `-` does not mean standard input here: give a file name' plot -
 refuses 'a dash for the list' \
-  'campaign: -: no such file; `-` does not mean standard input here: give the name of a file' \
+  'campaign: -: no such file; `-` does not mean standard input here: give a file name' \
   campaign "$top/examples/five.obj" --faults - --dir dash.kept
 refuses 'lines of another object' "report: stranger.lines:1: \`4:r1:6 detected 11\`: on $top/examples/reload.obj this fault is \
-masked; give the object of this campaign, and its --wild" report stranger.lines --object "$top/examples/reload.obj"
+masked; give the object of this campaign, and the same --wild" report stranger.lines --object "$top/examples/reload.obj"
 echo 999:r1:6 >idle.faults
 tool 'a list for another object' 0 '999:r1:6 idle\nfaults 1 masked 0 detected 0 idle 1 corrupt 0\n' \
   campaign "$top/examples/five.obj" --faults idle.faults --steps 100 --dir idle.kept
-report 'the note about it' 'campaign: note: idle.faults: no fault struck anything: is the list for another object, or does '\
-'it strike at --steps or later?' "$(tail -n 1 said)"
+report 'the note about it' 'campaign: note: idle.faults: no fault of the list struck anything: is it for another object, or '\
+'are its steps at or beyond --steps?' "$(tail -n 1 said)"
+cp "$top/examples/five.obj" "$top/examples/sieve.src" "$top/tests/c/control.wasm" .
+refuses 'an object in place of the lines' 'report: five.obj: is an object; give the lines of its campaign first, as in `report LINES --object five.obj`' \
+  report five.obj
+
+# `-` is a name like any other; an adapter reads standard input anyway.
+no_dash='-: no such file; `-` does not mean standard input here: give a file name'
+for words in 'build -' 'cc - -o dash.obj' 'debugger -' 'explain - --fault 4:r1:6' 'lines -' 'wasm2asm -' 'faults -' 'ending -' \
+  'set - --list'; do
+  # shellcheck disable=SC2086
+  refuses "a dash: ${words%% *}" "${words%% *}: $no_dash" $words
+done
+report 'a dash: dap' 'dap: unexpected argument `-`: the editor names the program in its `launch` request; without --port, `dap` '\
+'reads standard input anyway' "$("$top/tools/dap" - 2>&1 </dev/null | head -n 1)"
+
+# A full disk: each tool that writes to standard output says so, without a traceback.
+full() {
+  timeout 60 "$top/tools/$1" "${@:2}" 2>said >/dev/full </dev/null
+  printf '%d %s' $? "$(tail -n 1 said)"
+}
+for words in 'explain five.obj --fault 4:r1:6' 'debugger five.obj' 'lines sieve.src' 'faults five.obj' 'faults five.obj --count' \
+  'set five.obj --list' 'set five.obj out=3' 'ending five.obj' 'wasm2asm control.wasm --quiet' \
+  'campaign five.obj --faults cut.faults --dir full.kept'; do
+  # shellcheck disable=SC2086
+  report "standard output to a full disk: ${words:0:20}" "1 ${words%% *}: standard output: no space left on the device" \
+    "$(full $words)"
+done
+asked='{"seq":1,"type":"request","command":"threads"}'
+report 'standard output to a full disk: dap' '1 dap: standard output: no space left on the device' \
+  "$(printf 'Content-Length: %d\r\n\r\n%s' ${#asked} "$asked" | "$top/tools/dap" 2>said >/dev/full
+    printf '%d %s' $? "$(tail -n 1 said)")"
+# Python may write at once, or when the tool ends.
+for script in build campaign cc dap debugger ending explain faults lines plot report set wasm2asm; do
+  for unbuffered in '' 1; do
+    report "the help of $script to a full disk" "1 $script: standard output: no space left on the device" \
+      "$(PYTHONUNBUFFERED=$unbuffered full "$script" --help)"
+  done
+done
+
+# A terminal that is too small for the screen.
+if has script 'a small terminal'; then
+  report 'a screen on a small terminal' 'debugger: --tui: the terminal has 20 columns and 5 rows, but the screen needs at least '\
+'50 columns and 12 rows: enlarge it, or leave --tui out' \
+    "$(TERM=xterm timeout 60 script -qec "stty cols 20 rows 5; $top/tools/debugger five.obj --tui 2>small.said" /dev/null \
+      </dev/null >answer; cat small.said)"
+fi

@@ -1,4 +1,4 @@
-"""The commands of the prompt, named as in gdb. None of them computes what the machine would do."""
+"""The commands of the prompt, with gdb's names where gdb has them. None of them computes what the machine would do."""
 import re
 
 from common import Refused

@@ -13,6 +13,13 @@ HALF = 27
 LAST_CHANGED = 200
 # The smallest number of columns with room for a short blue word.
 WIDE = 75
+# The smallest screen that shows anything useful: columns and rows.
+LEAST = 50, 12
+
+
+def is_too_small(window):
+    height, wide = window.getmaxyx()
+    return wide < LEAST[0] or height < LEAST[1]
 
 
 class Panes:
@@ -36,6 +43,10 @@ class Panes:
     def draw(self):
         """Draws the whole screen."""
         self.window.erase()
+        if is_too_small(self.window):
+            self.put(0, 0, f"too small: needs {LEAST[0]}x{LEAST[1]}")
+            self.window.refresh()
+            return
         height, wide = self.window.getmaxyx()
         session = self.session
         left, body = max(34, min(56, wide // 2)), height - 5

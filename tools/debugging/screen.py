@@ -9,7 +9,7 @@ from common import Refused
 from debugging import explaining, runs, stepping, views
 from debugging.commands import MOST_TO_END, Commands, Quit
 from debugging.help import AGAIN
-from debugging.panes import Panes
+from debugging.panes import LEAST, Panes, is_too_small
 from debugging.sessions import Interrupted
 from messages import quoted
 
@@ -246,6 +246,10 @@ def show(session):
     os.environ.setdefault("ESCDELAY", "25")
 
     def begin(window):
+        if is_too_small(window):
+            height, wide = window.getmaxyx()
+            raise Refused(f"--tui: the terminal has {wide} columns and {height} rows, but the screen needs at least "
+                          f"{LEAST[0]} columns and {LEAST[1]} rows: enlarge it, or leave --tui out")
         try:
             curses.curs_set(0)
         except curses.error:

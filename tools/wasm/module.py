@@ -149,7 +149,7 @@ class Module:
             part.refuse("an element that is not a function", at)
         if active:
             if offset + count > self.tables[table][1]:
-                part.refuse("elements outside of their table", at)
+                part.refuse("elements outside their table", at)
             self.elements.append((table, offset, items))
 
     def code(self, part, i):
@@ -171,7 +171,7 @@ class Module:
         at = None if flag == 1 else self.constant(part, I32)
         data = part.take(part.u())
         if at is not None and at + len(data) > self.pages * 65536:
-            part.refuse("data outside of the memory", here)
+            part.refuse("data outside the memory", here)
         self.segments.append(Segment(at, data, here))
 
     def constant(self, part, kind):

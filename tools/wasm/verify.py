@@ -78,7 +78,7 @@ def verify(data, entry, translation, run):
                           f"{WRONG}")
     how = agreement(run, module, len(stores), traps_of(translation.text))
     if how is None:
-        raise Refused(f"the object is {run.how} after {len(stores)} stores, but the module {module.how} after "
+        raise Refused(f"the object's run is {run.how} after {len(stores)} stores, but the module's is {module.how} after "
                       f"{len(module.stores)}: {WRONG}")
     verb = "matches" if len(stores) == 1 else "match"
     return (f"{how}: {counted(len(stores), 'store')} in {counted(run.steps, 'step')} {verb} the module's, which ran "
