@@ -32,7 +32,7 @@ def table(rows):
 
 
 def worse(old, new):
-    """The rows that take over a tenth more, and more than the noise of the clock and of memory pages can explain."""
+    """The rows that rose by more than a tenth, and by more than the noise of the clock and of memory pages can explain."""
     before = {(row["command"], row["input"], row["words"]): row for row in old}
     for row in new:
         was = before.get((row["command"], row["input"], row["words"]))

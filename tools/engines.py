@@ -12,7 +12,8 @@ from concurrent.futures import ThreadPoolExecutor
 from parts import remove, write
 
 MOST_TASKS = 1_000
-# How many threads take answers, and how many seconds the local engine waits at most before it reports progress.
+# The number of threads that take answers, and the maximum number of seconds that the local engine waits before it
+# reports progress.
 TAKERS, PATIENCE = 4, 0.5
 
 

@@ -46,7 +46,7 @@ def const(kind, word):
 
 
 class Body:
-    """A function's code. A label lists the types that a branch to it takes; a loop's label is None, and no target."""
+    """A function's code. A label lists the types that a branch to it takes; a loop's label is None, and is never a branch target."""
 
     def __init__(self, module, params, results, size, index):
         self.module, self.random, self.index = module, module.random, index

@@ -126,7 +126,7 @@ says 'a negative word' 'zap r1 -1' '`-1` is out of range: expected 0 to 18446744
 says 'a strike of a cell' 'zap out 3' '`out` is a cell, and no fault strikes a cell (docs/PROMISES.md)'
 says 'no line' 'break 99' \
   '`99`: there is no instruction on this line or after it: instructions are on lines 13 to 21'
-says 'no index' 'break 0:9' '`0:9`: unknown index 9: block 0 has 0 to 6'
+says 'no index' 'break 0:9' '`0:9`: unknown index 9: block 0 has the indices 0 to 6'
 says 'no block' 'break 7:0' '`7:0`: unknown block 7: the blocks are 0 to 0'
 says 'a line without an instruction' 'break 15' 'no instruction is on line 15: this is the next one, on line 16'
 says 'a breakpoint twice' 'break 0:2\nbreak 0:2' '`0:2` is breakpoint 1 already'
@@ -276,7 +276,7 @@ report 'a branch that only one colour takes' 'r35 = 1: blue does not jump, so d 
   "$("$top/tools/explain" "$top/examples/sieve.src" --fault 700:r0:0x10 | sed -n '4s/^ *//p')"
 # The next instruction of line 14 overwrites r2, and nothing reads it before that.
 report 'a fault that is gone' \
-  'gone at 702: from there on no word differs|at 4106: no word differs, and no output does: the fault is gone' \
+  'gone at 702: from there on no word differs|at 4106: no word and no output differs: the fault is gone' \
   "$("$top/tools/explain" "$top/examples/sieve.src" --fault 690:r2:3 | tail -n 2 | paste -sd '|')"
 refuses 'an invalid fault' 'explain: invalid fault `4`: expected STEP:SITE:WORD, such as 4:r1:6' explain "$five" --fault 4
 # `explain` writes what README shows.

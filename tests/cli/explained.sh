@@ -288,9 +288,9 @@ while IFS='|' read -r line message; do
   printf 'cell out int 0\nnode 0 memory\ntype 0 0\nblock 0\n%b\nhalt\nentry 0\n' "$line" >habit.asm
   report "the message about \`$line\`" "habit.asm:5:$message" "$(habit_in asm habit.asm)"
 done <<'END'
-mov r1 G out ref:int|10: error: invalid `out`: numbers are decimal digits, as in `42`; the address of this cell is 1048576
+mov r1 G out ref:int|10: error: invalid `out`: numbers consist of decimal digits, as in `42`; the address of this cell is 1048576
 st_G out r1|6: error: invalid `out`: a register is r0 to r63; put the address of this cell, 1048576, into a register with `mov`
-mov r1 G r2 int|10: error: invalid `r2`: numbers are decimal digits, as in `42`; to copy a register, add 0 to it, as in `add r1 r2 G 0`
+mov r1 G r2 int|10: error: invalid `r2`: numbers consist of decimal digits, as in `42`; to copy a register, add 0 to it, as in `add r1 r2 G 0`
 mov r1 G #5 int|10: error: invalid `#5`: numbers are written without `#`
 add r1 r2 5|11: error: invalid `5`: a register is r0 to r63, and a number comes after its colour, as in `G 5`
 li r1 5|1: error: unknown instruction `li`: write `mov`, as in `mov r1 G 5 int`
@@ -313,7 +313,7 @@ HALT|1: error: unknown instruction `HALT`; did you mean `halt`?
 st r1 r2|1: error: unknown instruction `st`: write `st_G` for green or `st_B` for blue
 idx r1 r2 0|12: error: missing LENGTH: `idx` is followed by R R FIRST LENGTH
 jmp_B r1|9: error: missing MEMORY, the number of a node: `jmp_B` is followed by R MEMORY ROW ..
-bz_B r1 r2 0 r3|14: error: invalid `r3`: numbers are decimal digits, as in `42`
+bz_B r1 r2 0 r3|14: error: invalid `r3`: numbers consist of decimal digits, as in `42`
 node 0 mem|8: error: invalid `mem`: a node is `word`, `var`, `sel`, `memory`, `upd`, `rem` or an operation; did you mean `memory`?
 node 0 foo 1 2|8: error: invalid `foo`: a node is `word`, `var`, `sel`, `memory`, `upd`, `rem` or an operation
 node 0 var 256|12: error: invalid `256`: the largest number here is 255

@@ -215,7 +215,7 @@ def end_line(session):
     left = differences(state, session.unstruck())
     same = text == clean if state.status == "done" else clean.startswith(text)
     if same and not left:
-        return f"at {state.position}: no word differs, and no output does: the fault is gone"
+        return f"at {state.position}: no word and no output differs: the fault is gone"
     told = f"at {state.position}: {counted(len(left), 'word')} {'differs' if len(left) == 1 else 'differ'}"
     so_far = " so far" if state.status == "running" else ""
     corrupt = ", so the run is corrupt" if state.status == "done" else ""

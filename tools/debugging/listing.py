@@ -88,7 +88,7 @@ class Listing:
             if block > most:
                 return f"unknown block {block}: the blocks are 0 to {most}"
             count = (self.blocks + [len(self.code)])[block + 1] - self.blocks[block]
-            return f"unknown index {match[2]}: block {block} has 0 to {count - 1}"
+            return f"unknown index {match[2]}: block {block} has the indices 0 to {count - 1}"
         return "unknown place: expected BLOCK:INDEX, bBLOCK, *ADDRESS, a label or a line"
 
     def label_of(self, block):

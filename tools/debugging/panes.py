@@ -7,7 +7,7 @@ KEYS = (": command  ? help  q quit  n/p step  i/I instruction  c/r run  e explai
         "  g goto  l/L line")
 # What the symbols of the timeline and the marks of pairs mean.
 LEGEND = "  ".join(["o here", "! strike", "@ both", *views.MARKS.values()])
-# How many columns the green half of a register pair takes at most, with the space after it.
+# The maximum number of columns of the green half of a register pair, including the space after it.
 HALF = 27
 # How many of the last outputs determine the cells that changed last.
 LAST_CHANGED = 200

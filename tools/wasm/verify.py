@@ -42,8 +42,8 @@ def told(run, text):
     traps = traps_of(text)
     if run.block in traps:
         return f"trapped after {run.steps} steps or before: {traps[run.block]}"
-    known = "" if text else ", as a trap is"
-    return f"running after {run.steps} steps: block {run.block} is a loop on itself{known}"
+    known = "" if text else ", as a trap does"
+    return f"running after {run.steps} steps: block {run.block} jumps to itself{known}"
 
 
 class Expected:

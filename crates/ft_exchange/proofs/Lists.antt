@@ -74,7 +74,7 @@ get-take (suc m) [] k i e = cc
 get-take (suc m) (x ∷ is) zero i e = (omega arith, e)
 get-take (suc m) (x ∷ is) (suc k) i e = let h = get-take m is k i e in (let l = h.0 in omega arith, h.1)
 
--- element k of a part from a on is element a + k of the list, before the part's end
+-- element k of the part from `a` on is element `a` + k of the list, before the part's end
 pub get-range : (is : List Instr) (a e k : ℕ) (i : Instr) → slice_get (slice_range is a e) k ≡ Some i → (a + k < e)
     × (slice_get is (a + k) ≡ Some i)
 get-range is a e k i f =

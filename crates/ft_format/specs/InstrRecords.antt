@@ -1,4 +1,5 @@
--- The record of an instruction: its numbers, what they encode, which instructions fit, and the rules.
+-- The record of an instruction: its numbers, what they encode, which instructions fit, which ones a version supports,
+-- and the rules.
 use Rattle.std.specs.Prelude.{ℕ, ◌+◌, ◌/◌, ◌%◌, ◌^◌, ◌≤◌, true, ◌==◌, nat_lt, nat_le, List, [], ◌∷◌, Option, Some, None, if◌then◌else◌}
 use Rattle.ft_isa.specs.Words.{IsWord}
 use Rattle.ft_isa.specs.Operations.{op_code, op_of}

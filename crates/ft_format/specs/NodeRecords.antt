@@ -1,4 +1,5 @@
--- The record of a node: what its numbers encode, which nodes fit, and the rules. `node_row` gives the numbers.
+-- The record of a node: what its numbers encode, which nodes fit, which nodes a version supports, and the rules.
+-- `node_row` gives the numbers.
 use Rattle.std.specs.Prelude.{ℕ, ◌+◌, ◌≤◌, Bool, true, false, ◌==◌, nat_lt, nat_le, List, [], ◌∷◌, Option, None, if◌then◌else◌}
 use Rattle.ft_isa.specs.Words.{IsWord}
 use Rattle.ft_isa.specs.Operations.{op_of}

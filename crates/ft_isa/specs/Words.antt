@@ -1,4 +1,4 @@
--- Words, operations, addresses, and the line of an output.
+-- Words, lengths of runs, operations, addresses, and the line of an output.
 use Rattle.std.specs.Prelude.{ℕ, ◌+◌, ◌-◌, ◌*◌, ◌/◌, ◌%◌, ◌^◌, ◌<◌, ◌≤◌, Bool, List, ◌++◌, decimal, codes, bit_and, bit_or, bit_xor, nat_lt, ◌==◌, if◌then◌else◌}
 use Rattle.ft_isa.specs.declared.op.Op.{Op}
 use Rattle.ft_isa.specs.declared.op.Op.TheVariants.{Add, Sub, Mul, Ltu, Eq, And, Or, Xor, Shl, Shr}

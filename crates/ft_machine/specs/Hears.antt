@@ -2,6 +2,7 @@
 use Rattle.std.specs.Prelude.{List, ◌++◌, Bool, true}
 use Rattle.ft_isa.specs.declared.output.Output.{Output}
 
--- an outlet that goes on, whatever it has taken, takes these outputs too; `goes` says whether it goes on after them
+-- whatever an outlet has taken so far, if it goes on, it takes these outputs too; `goes` says whether it goes on after
+-- them
 abbrev pub Hears : {T : Type 0} → (T → List Output → Bool → T → Type 0) → T → List Output → Bool → T → Type 0
 Hears {T = T} heard old outputs goes new = (first : T) (before : List Output) → heard first before true old → heard first (before ++ outputs) goes new

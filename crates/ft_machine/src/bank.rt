@@ -140,8 +140,8 @@ impl Bank {
         }
     }
 
-    /// Loads, and returns whether the machine goes on. It is a separate function because the search of the pending
-    /// stores and the answers to wild loads need processor registers that the loop over instructions uses.
+    /// Loads, and returns whether the machine goes on. It is a separate function because searching the pending
+    /// stores and taking answers to wild loads require processor registers that the loop over instructions uses.
     #[inline(never)]
     fn loads(&mut self, colour: Colour, rd: Reg, rs: Reg, wild: &mut WildLeft) -> bool
         ensures { Does (λ s w. load colour rd (found colour s (held s.registers rs.number).word) s w) self.old self.new (went result) wild.old wild.new }

@@ -56,7 +56,7 @@ line_is names k v name h =
     let e : cell_address k - cell_address 0 ≡ k = omega arith in
     ap (λ m. line (name_of names m) v) e ∙ ap (λ n. line n v) h
 
--- if no name is longer than a, none is longer than any b that is at least a
+-- if no name is longer than `a`, none is longer than any `b` that is at least `a`
 pub more_room : (names : List (List ℕ)) (a b : ℕ) → a ≤ b → HasRoom names a → HasRoom names b
 more_room [] a b le h = tt
 more_room (n ∷ names) a b le h = (omega (arith, h.0), more_room names a b le h.1)

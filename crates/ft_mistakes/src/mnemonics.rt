@@ -118,7 +118,8 @@ fn is_line_number(word: &[u8]) -> bool {
     !digits.is_empty() && digits.iter().all(|byte| byte.is_ascii_digit())
 }
 
-/// Advice on a first word that other assembly languages use, or that was copied along; empty if there is none.
+/// Advice on a first word that other assembly languages use, or that was copied along with the code; empty if there is
+/// none.
 fn habit_of(word: &[u8]) -> &'static str {
     if is_line_number(word) {
         "lines are not numbered: remove the numbers"

@@ -54,7 +54,7 @@ fn misspelled(word: &[u8]) -> &'static str {
     if has(word, b'.') {
         return "numbers are integers";
     }
-    "numbers are decimal digits, as in `42`"
+    "numbers consist of decimal digits, as in `42`"
 }
 
 /// Says why a word is not a number of at most `most`.

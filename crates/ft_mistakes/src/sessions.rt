@@ -146,8 +146,9 @@ fn begins_wrong(commands: &[Command<'_>]) -> bool {
     matches!(commands.first(), Some(Command::Bad))
 }
 
-/// Explains which lines of a session's script are not commands, if the script can be read again. The session wrote
-/// `line` last.
+/// Explains which lines of a session's script are not commands, or that the script is a file of another kind. If the
+/// script cannot be read again (`name` is `None`), explains only the last line, if the session answered it with
+/// `bad command`, which is then `line`.
 pub fn explain_session<S: Shelf>(
     page: &mut Page,
     name: Option<&'static str>,

@@ -30,7 +30,7 @@ use Rattle.ft_modules.proofs.LinkedContexts.{entered_get}
 
 -- TESTS
 
--- if a tests as different from b, then b tests as different from a
+-- if `a` tests as different from `b`, then `b` tests as different from `a`
 turned : (a b : ℕ) → (a == b) ≡ false → (b == a) ≡ false
 turned a b h = by_test (b == a) refl
   where

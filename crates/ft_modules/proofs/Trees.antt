@@ -71,14 +71,14 @@ get-take (z ∷ xs) zero k y e = cc
 get-take (z ∷ xs) (suc n) zero y e = e
 get-take (z ∷ xs) (suc n) (suc k) y e = get-take xs n k y e
 
--- an element of the list without its first a elements is a places further in the list
+-- element k of the list without its first `a` elements is element `a` + k of the list
 pub get-drop : {X : Type 0} (xs : List X) (a k : ℕ) → slice_get (drop a xs) k ≡ slice_get xs (a + k)
 get-drop xs zero k = ap (slice_get xs) (omega arith)
 get-drop [] (suc a) k = refl
 get-drop (y ∷ xs) (suc a) k = get-drop xs a k ∙ (let e : suc (a + k) ≡ suc a + k = omega arith in
     ap (slice_get (y ∷ xs)) e)
 
--- an element of a slice that begins at a is a places further in the list
+-- element j of a slice that begins at `a` is element `a` + j of the list
 pub range_get : {X : Type 0} (xs : List X) (a b j : ℕ) (y : X) → slice_get (slice_range xs a b) j ≡ Some y →
     slice_get xs (a + j) ≡ Some y
 range_get xs a b j y e = sym (get-drop xs a j) ∙ get-take (drop a xs) (b - a) j y e

@@ -6,7 +6,7 @@ use Rattle.ft_static.specs.NodeTree.{tree_at}
 use Rattle.ft_static.specs.declared.node.Node.{Node}
 use Rattle.ft_static.specs.declared.node.Shape.{Shape}
 
--- the number of node n, given the numbers of all nodes
+-- the number of node n in a list of nodes' numbers, or 0 beyond its end
 abbrev pub number_in : List ℕ → ℕ → ℕ
 number_in cs n = slice_index_or cs n 0
 

@@ -62,7 +62,7 @@ pub fn examples_of_addresses_as_numbers()
     ensures stored_behind { refusal (linked no_links storer (one_block 0 stores_address ∷ [])) ≡ None }
 {}
 
-/// One refusal for each cause, and no refusal for modules that can be linked.
+/// Examples of refusals 3 to 5 and 7 to 10, and of modules that are not refused.
 pub fn examples_of_link_refusals()
     ensures linked { link_refusal (importing 1) caller (storer ∷ []) ≡ None }
     ensures entry { link_refusal (importing 0) only_stub (storer ∷ []) ≡ None }

@@ -4,9 +4,9 @@
 //! `specs/LinkRefusals.antt` why it cannot link them, and `specs/ModulesRun.antt` the run that goes from module to
 //! module. The crate promises in `laws` that modules can be linked exactly when nothing is refused, that they are
 //! tested in turn, and that trees of expressions can be compared by their numbers (`specs/TreeKeys.antt`). It promises
-//! in `module_laws` that a module is refused only because of totals, and that permitted exchanges leave it a module. It
-//! promises in `linking_laws` that the linked object is spellable and accepted, that it runs as its modules do, and
-//! that one fault in it is masked or detected.
+//! in `module_laws` that a module to which refusals 3, 4 and 5 do not apply (`IsModule`) is refused only because of
+//! totals, and that permitted exchanges leave it such a module. It promises in `linking_laws` that the linked object is
+//! spellable and accepted, that it runs as its modules do, and that one fault in it is masked or detected.
 #![tactic(auto)]
 
 mod before;

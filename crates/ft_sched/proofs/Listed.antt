@@ -79,7 +79,7 @@ range_front xs ys a e l h =
 pub range_end : (xs : List Instr) (a : ℕ) → slice_range xs a (length xs) ≡ drop a xs
 range_end xs a = take_whole (length xs - a) (drop a xs) (let d = length_drop a xs in omega arith)
 
--- the part of a list from a up to e is its first e elements without the first a
+-- the part of a list from `a` up to `e` is its first `e` elements without the first `a` of them
 pub rest_of_front : (xs : List Instr) (a e : ℕ) → a ≤ e → slice_range xs a e ≡ drop a (take e xs)
 rest_of_front xs a e l = sym ((let q : e ≡ a + (e - a) = omega arith in ap (λ n. drop a (take n xs)) q)
     ∙ drop-take a (e - a) xs)

@@ -31,8 +31,8 @@ abbrev pub cost : {S : Type 0} → (S → S) → (S → ℕ) → ℕ → S → �
 cost step each zero s = 0
 cost step each (suc k) s = each s + cost step each k (step s)
 
--- if for each step of one machine another takes some steps, or none, and reaches a related state, it does so for any
--- number of steps
+-- if another machine takes some steps, or none, for each step of one machine and so reaches a related state, it also
+-- does so for any number of steps
 pub follows : {S T : Type 0} (f : S → S) (each : S → ℕ) (g : T → T) (R : S → T → Type 0) →
     ((s : S) (t : T) → R s t → R (f s) (iterate g (each s) t)) → (k : ℕ) (s : S) (t : T) → R s t →
     R (iterate f k s) (iterate g (cost f each k s) t)

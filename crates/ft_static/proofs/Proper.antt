@@ -31,7 +31,7 @@ less_not_greater o e k = let x : Less ≡ Greater = sym e ∙ k in cc
 equal_not_greater : (o : Ordering) → o ≡ Equal → o ≢ Greater
 equal_not_greater o e k = let x : Equal ≡ Greater = sym e ∙ k in cc
 
--- if b leads a monomial and is not greater than a, it still leads the monomial after a is inserted
+-- if `b` leads a monomial and is not greater than `a`, it still leads the monomial after `a` is inserted
 leads_with : (a b : Atom) (m : Monomial) → cmp_atom b a ≢ Greater → Leads b m → Leads b (with_factor a m)
 leads_with a b one h k = h
 leads_with a b (times d m) h k = by_cases (λ n. Leads b n) (cmp_atom a d) (times a (times d m)) (times a (times d m))

@@ -54,7 +54,7 @@ bits_of p a = join_signed p.bits (shift_of p a)
 abbrev pub less_of : Waiting → NamedExpression → NamedExpression
 less_of p a = join Ltu p.less (bits_of p a)
 
--- the whole expression, once a is its last operand
+-- the whole expression, with `a` as its last operand
 abbrev pub close : Waiting → NamedExpression → NamedExpression
 close p a = join Eq p.equal (less_of p a)
 

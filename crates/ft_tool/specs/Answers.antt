@@ -171,7 +171,8 @@ Answers (Schedules name) told files script a = OverFile SchedulesObject name fil
 Answers (Links name) told files script a = LinksFile told name a
 
 -- the answer of the command that the words ask for, with the revealed files and script, or else with some files and
--- some script. Except for a link, one map of files serves all loads, so a name always has the same content
+-- some script. Except for a link on a shelf that reveals no files, one map of files serves all loads, so a name always
+-- has the same content
 pub record IsAnswer (words : List Word) (told : Option Files) (left : Option (List ℕ)) (a : Answer) : Type 0 where
   pub request : Request
   pub asks : Asks words request

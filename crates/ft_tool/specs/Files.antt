@@ -63,7 +63,8 @@ abbrev pub LoadsObject : Option Files → Word → Result (List ℕ) ObjectFault
 LoadsObject files name (Ok bytes) = IsToldFile files name bytes × Spells bytes (version_at bytes) (object_of bytes)
 LoadsObject files name (Err e) = RefusesFile files name e
 
--- a failed load raises the count of failures and is recorded as the last one; any other fault leaves both unchanged
+-- after a failed load, its name is recorded as the last that failed, and the count of failures has risen or is
+-- 2^64 - 1; any other fault leaves both unchanged
 abbrev pub FaultCause : Word → ObjectFault → ShelfLog → ShelfLog → Type 0
 FaultCause name (Refused e) old new = NoLoadFails old new
 FaultCause name Failed old new = LoadFails name old new
@@ -103,8 +104,8 @@ GetsList faults_of Is (Err list_faults.TooMany) = (list : List ℕ) × (Is list 
 GetsList faults_of Is (Err list_faults.Failed) = Unit {0}
 GetsList faults_of Is (Err list_faults.NoMemory) = Unit {0}
 
--- a failed load of a list raises the count of failures and is recorded as the last one; any other result leaves both
--- unchanged
+-- after a failed load of a list, its name is recorded as the last that failed, and the count of failures has risen or
+-- is 2^64 - 1; any other result leaves both unchanged
 abbrev pub ListCause : {V : Type 0} → Word → Result V ListFault → ShelfLog → ShelfLog → Type 0
 ListCause name (Ok v) old new = NoLoadFails old new
 ListCause name (Err (list_faults.Line number)) old new = NoLoadFails old new

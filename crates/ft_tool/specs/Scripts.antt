@@ -27,7 +27,7 @@ TakesScript bytes_of script (Err faults.TooLong) = (text : List ℕ) × (IsScrip
 TakesScript bytes_of script (Err faults.Failed) = Unit {0}
 TakesScript bytes_of script (Err faults.NoMemory) = Unit {0}
 
--- a failed take raises the count of failures, and any other result leaves it unchanged
+-- after a failed take, the count of failures has risen or is 2^64 - 1; any other result leaves it unchanged
 abbrev pub TakeCause : {V : Type 0} → ℕ → ℕ → Result V ScriptFault → Type 0
 TakeCause before now (Ok v) = now ≡ before
 TakeCause before now (Err faults.TooLong) = now ≡ before

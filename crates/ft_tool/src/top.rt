@@ -114,10 +114,10 @@ pub fn tool<F: Shelf, I: Source, K: Sink>(
 
     // The answer of the command that the words ask for was written, each piece with one put, and the result is its
     // status. So a source is compiled if and only if its text is a program. Its object is accepted, and the run commits
-    // what the program means and ends if the meaning ends. After any number of steps, the run of an accepted object
-    // under its plan has the outputs and the status of the run without the strike, or it is detected and its outputs
-    // are a prefix of those. A recovery writes the whole output of the run without the strike. The object linked from
-    // accepted modules is accepted and runs as they do.
+    // what the program means and ends if and only if the meaning ends. After any number of steps, the run of an
+    // accepted object under its plan has the outputs and the status of the run without the strike, or it is detected
+    // and its outputs are a prefix of those. A recovery writes the whole output of the run without the strike. The
+    // object linked from accepted modules is accepted and runs as they do.
     ensures headline { result ≢ 3 → result ≢ 4 → result ≢ 5 →
         Concludes (IsAnswer (map string_bytes words.now) (F.log shelf.old).files (I.log script.old).left) result
         (K.log out.old) (K.log out.new) }

@@ -1,5 +1,5 @@
 //! Tests of the top-level call, over files in memory: each command once; loads, takes and puts that fail; and how many
-//! instructions late faults of a campaign cost.
+//! instructions it costs to judge faults late in a campaign.
 //!
 //! The crate has only tests, since a crate with tests is proved twice. A row has the words, the text written and the
 //! status. The values come from the definitions and from another implementation, not from this one's output.

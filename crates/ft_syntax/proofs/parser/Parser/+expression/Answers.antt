@@ -4,7 +4,7 @@ use Rattle.ft_syntax.specs.Machine.{Waiting, empty, push}
 use Rattle.ft_syntax.specs.View.{expression, waiting, kind_of, Refuses}
 use Rattle.ft_syntax.proofs.parser.Parser.+expression.Goals as goal
 
--- if an option is `Some a`, what holds of its value holds of a
+-- if an option is `Some a`, what holds of its value holds of `a`
 at_some : {A : Type 0} (P : A → Type 0) {o : Option A} {a : A} → o ≡ Some a → IfSome o P → P a
 at_some P is h = subst (λ o. IfSome o P) is h
 
