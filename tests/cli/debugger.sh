@@ -36,7 +36,7 @@ report 'a recording overwrites no file' "line 1: $work/script: exists already, a
 report 'the file is unchanged' 8 "$(wc -l <script)"
 report 'the status reports a refused command' 1 "$(session "$five_text" nonsense >said; echo $?)"
 report 'the line of a refused command' 'line 3: unknown command `regg`; `help` lists the commands|'\
-'line 6: missing site or word, as in `zap r1 6`' "$(session "$five_text" 'step 4' 'reg r1' 'regg r2' '' '# words' zap 'step 4' |
+'line 6: missing site or word: write it as in `zap r1 6`' "$(session "$five_text" 'step 4' 'reg r1' 'regg r2' '' '# words' zap 'step 4' |
   kept '^line')"
 report 'a refused command after -c has no line' 'unknown command `regg`; `help` lists the commands' \
   "$("$top/tools/debugger" "$five_text" -c 'regg r2' </dev/null | tail -n 1)"
@@ -135,7 +135,7 @@ says 'a plan twice' 'plan 4:r1:6\nplan 4:r1:6' '`4:r1:6` is already planned'
 says 'half a condition' 'break 0:1 if r1 == 5 and' \
   '`r1 == 5 and`: missing comparison: expected WORD OP WORD, where OP is one of == != <= >= < >, and WORD a register, '\
 'a cell, or a number'
-says 'a breakpoint at no place' tbreak 'missing place, as in `tbreak 1:0`'
+says 'a breakpoint at no place' tbreak 'missing place: write it as in `tbreak 1:0`'
 says 'no topic' 'info foo' \
   'unknown topic `foo`: expected info registers|queue|cells|breaks|strikes|position|outputs|names'
 says 'a position after the end' 'goto 1000000000' 'the run ended at 14, before 1000000000'
@@ -189,7 +189,7 @@ says 'only `and` joins' 'break 11 if i == 3 or j == 4' '`i == 3 or j == 4`: comp
 says 'a single equals sign' 'break 11 if i = 3' '`i = 3`: write `==` for `=`'
 says 'parentheses' 'break 11 if (i == 3)' \
   '`(i == 3)`: parentheses are not supported: join comparisons by `and`'
-says 'a condition without a place' 'break if i == 3' 'missing place before `if i == 3`: as in `break 1:0 if i == 3`'
+says 'a condition without a place' 'break if i == 3' 'missing place before `if i == 3`: write it as in `break 1:0 if i == 3`'
 says 'a condition over an unknown name' 'break 11 if k == 3' \
   'unknown name `k`: expected a register, a cell, a variable, or a number'
 says 'no comparison' 'break 11 if i' 'invalid comparison `i`: expected WORD OP WORD, where OP is one of == != <= >= < >, '\
@@ -200,7 +200,7 @@ says 'a strike in hexadecimal' 'plan 700:r0:0x10\ninfo strikes' '  700:r0:16 pla
 says 'a planned strike is forgotten' 'plan 700:r0:16\nplan 9:r1:7\nunplan 700:r0:0x10\ninfo strikes' \
   '  9:r1:7 planned, not made yet'
 says 'no such strike' 'unplan 9:r1:7' '`9:r1:7` is not planned: `info strikes` lists the strikes'
-says 'a sum is not printed' 'print i + 1' '`i + 1`: `print` takes names, not expressions, as in `print r1 out`'
+says 'a sum is not printed' 'print i + 1' '`i + 1`: `print` takes names, as in `print r1 out`, not expressions'
 says 'names have no dollar sign' 'print $r1' '`$r1`: names have no `$` here: write `r1`'
 says 'a command of other debuggers' 'list' 'unknown command `list`: `disassemble` shows the code with the lines of the source'
 says 'a topic of other debuggers' 'info locals' \

@@ -235,9 +235,9 @@ for row in 'stepp|unknown command `stepp`; did you mean `step`?; `help` lists th
   'print ou|unknown name `ou`: expected a register (r0 to r63, d, pcg, pcb), a part of the queue (qa0 to qv7) or a cell; did you mean `out`?' \
   'plan 4:r1|invalid fault `4:r1`: expected STEP:SITE:WORD, such as 4:r1:6' \
   'delete 7|no breakpoint or watch has the number 7: `info breaks` lists them' 'source nosuch|nosuch: no such file' \
-  'source folder|folder: is a folder' 'zap r1|missing site or word, as in `zap r1 6`' \
+  'source folder|folder: is a folder' 'zap r1|missing site or word: write it as in `zap r1 6`' \
   'zap r1 = 6|write `zap r1 6`, without `=`' 'zap r1=6|write `zap r1 6`, without `=`' 'flip r1 =0|write `flip r1 0`, without `=`' \
-  'zap r1=|missing site or word, as in `zap r1 6`' 'zap r1 6 = 7|unexpected argument `=`'; do
+  'zap r1=|missing site or word: write it as in `zap r1 6`' 'zap r1 6 = 7|unexpected argument `=`'; do
   report "the command ${row%%|*}" "line 1: ${row#*|}" "$(echo "${row%%|*}" | "$top/tools/debugger" five.obj 2>&1 | tail -n 1)"
 done
 

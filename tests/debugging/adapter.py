@@ -160,7 +160,7 @@ def refusals(tests):
 
 
 def port(tests):
-    """An endless run over a port, which pause ends; and two clients at once, one of which leaves."""
+    """An endless run over a port, which `pause` ends; and two clients at once, one of which leaves."""
     server = subprocess.Popen([DAP, "--port", "0"], stderr=subprocess.PIPE, universal_newlines=True)
     number = int(server.stderr.readline().rsplit(":", 1)[1])
     try:

@@ -106,7 +106,7 @@ def read(text, target, temporary=False):
     marks = [mark.strip() for mark in SPLIT.findall(text)]
     condition, least, place = None, 1, place_in(text)
     if not place:
-        raise Refused(f"missing place before {quoted(text)}: as in `break 1:0 {text[:40]}`")
+        raise Refused(f"missing place before {quoted(text)}: write it as in `break 1:0 {text[:40]}`")
     for mark, part in zip(marks, parts[1:]):
         if mark == "if":
             condition = Condition(part, target)

@@ -189,7 +189,7 @@ class Commands(Shown):
 
     def do_goto(self, words):
         if not words:
-            raise Refused("missing position, as in `goto 12`")
+            raise Refused("missing position: write it as in `goto 12`")
         try:
             wanted = number(words)
         except Refused:
@@ -235,11 +235,11 @@ class Commands(Shown):
 
     def do_tbreak(self, words):
         if not words:
-            raise Refused("missing place, as in `tbreak 1:0`")
+            raise Refused("missing place: write it as in `tbreak 1:0`")
         self.do_break(words, True)
 
     def do_watch(self, words):
-        name = one_word(words, "missing cell, register or variable, as in `watch r1`")
+        name = one_word(words, "missing cell, register or variable: write it as in `watch r1`")
         at = self.session.add_watch(name)
         self.say(f"watch {at}: {self.told_word(name)}")
 
@@ -263,14 +263,14 @@ class Commands(Shown):
     def do_zap(self, words):
         no_sign("zap", words)
         if len(words) < 2:
-            raise Refused("missing site or word, as in `zap r1 6`")
+            raise Refused("missing site or word: write it as in `zap r1 6`")
         no_more(words[2:])
         self.struck(words[0], self.session.zap(words[0], word_of(words[1])))
 
     def do_flip(self, words):
         no_sign("flip", words)
         if len(words) < 2:
-            raise Refused("missing site or bit, as in `flip r1 0`")
+            raise Refused("missing site or bit: write it as in `flip r1 0`")
         no_more(words[2:])
         self.struck(words[0], self.session.flip(words[0], number(words[1:])))
 
@@ -279,7 +279,7 @@ class Commands(Shown):
         self.say(f"zapped at {self.session.position}: {site} was {old}, is {self.session.word(site)}")
 
     def do_plan(self, words):
-        text = one_word(words, "missing fault, as in `plan 4:r1:6`")
+        text = one_word(words, "missing fault: write it as in `plan 4:r1:6`")
         position = self.session.position
         self.session.plan(text)
         self.say(f"planned: {text}")
@@ -297,7 +297,7 @@ class Commands(Shown):
             self.say(self.paint("differs" if "DIFFER" in line else None, line))
 
     def do_source(self, words):
-        path = one_word(words, "missing file, as in `source script`")
+        path = one_word(words, "missing file: write it as in `source script`")
         if self.depth >= MOST_NESTED:
             raise Refused(f"{named(path)}: scripts nest more than {MOST_NESTED} deep")
         try:
@@ -316,7 +316,7 @@ class Commands(Shown):
             self.depth -= 1
 
     def do_record(self, words):
-        path = one_word(words, "missing file, as in `record script`")
+        path = one_word(words, "missing file: write it as in `record script`")
         self.session.journal.record(path, self.sure)
         self.say(f"recording to {named(path)}; this runs it again: {self.session.target.command_of(path)}")
 

@@ -88,11 +88,11 @@ class Shown:
 
     def do_print(self, words, base=""):
         if not words:
-            raise Refused("missing name, as in `print r1`")
+            raise Refused("missing name: write it as in `print r1`")
         if base not in views.BASES:
             raise Refused(f"unknown format `/{base[:40]}`: expected /x, /b, /o or /d")
         if any(not name[0].isalnum() and name[0] != "$" for name in words):
-            raise Refused(f"{quoted(' '.join(words))}: `print` takes names, not expressions, as in `print r1 out`")
+            raise Refused(f"{quoted(' '.join(words))}: `print` takes names, as in `print r1 out`, not expressions")
         for name in words:
             line = self.told_word(name, base)
             for site in self.session.registers_of(name):
@@ -102,7 +102,7 @@ class Shown:
 
     def do_x(self, words, count=""):
         names = self.session.target.listing.cells
-        word = one_word(words, "missing cell, array or address, as in `x/3 out`")
+        word = one_word(words, "missing cell, array or address: write it as in `x/3 out`")
         first = next((name for name in (word, word + "[0]") if name in names), None)
         if first is None and word.replace("_", "").isalnum() and word[0].isdigit():
             first = self.session.target.cell_at(word_of(word))

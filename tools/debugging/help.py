@@ -103,7 +103,7 @@ MNEMONICS = {
     "ld_G": "ld_G rd rs: rd becomes the newest pending store to the address rs, or the word of the cell there",
     "ld_B": "ld_B rd rs: rd becomes the word of the cell at the address rs; pending stores are ignored",
     "st_G": "st_G ra rv: the pair (address ra, value rv) becomes the newest pending store; detected if 8 are pending",
-    "st_B": "st_B ra rv: the oldest pending store is committed, an output, if it is (ra, rv); else detected",
+    "st_B": "st_B ra rv: if the oldest pending store is (ra, rv), it is committed as an output; else detected",
     "jmp_G": "jmp_G rt: d becomes rt; detected if a jump is already pending (d is not 0)",
     "jmp_B": "jmp_B rt ..: jumps if d is not 0 and rt is the same as d; else detected. d becomes 0",
     "bz_G": "bz_G rz rt: if rz is 0, d becomes rt; else nothing changes. Detected if d was not 0",

@@ -180,7 +180,7 @@ class Arith(Divide):
             if b & (b - 1) == 0:
                 return mk("shr", a, b.bit_length() - 1), mk("and", a, b - 1)
             limit = ones_of(a).bit_length()
-            # n / b = n * m >> s for all n below 2^limit, where m = ceil(2^s / b) is exact enough
+            # with m = ceil(2^s / b), n / b = n * m >> s for all n below 2^limit, once m is exact enough
             for s in range(limit, limit + b.bit_length() + 1):
                 m = -(-(1 << s) // b)
                 if (m * b - (1 << s)) << limit <= 1 << s and m.bit_length() + limit <= 64:

@@ -110,7 +110,7 @@ pub record RowIsFine (vars cells blocks b : ℕ) (x : List Step3) : Type 0 where
   pub well : RowIsWell vars cells blocks (known_first vars b) x
   pub pairs : All (λ i. All (λ p. p < 32) (pairs_of i)) x
 
--- these blocks are well formed, the first of which is block b
+-- these blocks, the first of which is block b, are well formed
 abbrev pub RowsAreFine : ℕ → ℕ → ℕ → ℕ → Blocks → Type 0
 RowsAreFine vars cells blocks b [] = Unit {0}
 RowsAreFine vars cells blocks b (x ∷ xs) = RowIsFine vars cells blocks b x × RowsAreFine vars cells blocks (suc b) xs

@@ -180,7 +180,7 @@ fn explain_run<S: Shelf>(
     Ok(())
 }
 
-/// Says that the run of a campaign without a fault was cut, if it was.
+/// Says that a campaign's run without a fault was cut, if it was.
 fn say_if_cut<P: Program>(page: &mut Page, program: &P, asked: &Campaign) -> Result<(), NoMemory>
     requires { IsSpellable (P.object program.now) }
 {

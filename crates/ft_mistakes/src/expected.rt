@@ -238,21 +238,13 @@ pub(crate) fn instead_of_byte_at(source: &[u8], at: usize) -> Option<&'static st
 /// Whether a name that contains a hyphen is assigned to: whether a name and `=` follow the hyphen at a place.
 fn is_hyphenated(source: &[u8], at: usize) -> bool {
     let mut lexer = Lexer::new(part(source, at.saturating_add(1), source.len()));
-    let second = lexer.next();
-    let third = lexer.next();
-    matches!(
-        second,
-        Some(Ok(Token {
-            kind: Kind::Name,
-            ..
-        }))
-    ) && matches!(
-        third,
-        Some(Ok(Token {
-            kind: Kind::Assign,
-            ..
-        }))
-    )
+    let Some(Ok(name)) = lexer.next() else {
+        return false;
+    };
+    let Some(Ok(equals)) = lexer.next() else {
+        return false;
+    };
+    name.kind == Kind::Name && equals.kind == Kind::Assign
 }
 
 /// What to write instead of the idiom that this token suggests after the first name of a statement.

@@ -32,8 +32,8 @@ pub fn forms_are_ordered()
 {}
 
 /// Every normal form is in order: its atoms increase, its monomials increase strictly and have at most 4 atoms, its
-/// coefficients are words other than 0, and a polynomial has at most 64 monomials. So is the form built for each kind
-/// of expression from parts in order, and every form after a substitution of forms in order.
+/// coefficients are words other than 0, and a polynomial has at most 64 monomials. The form built for each kind of
+/// expression from parts in order is in order too, and so is every form after a substitution of forms in order.
 pub fn forms_are_in_order()
     ensures integers { (e : Integer) → IsNormal (norm_integer e) }
     ensures memories { (m : Memory) → AreProperUpdates (norm_memory m) }
