@@ -127,7 +127,7 @@ trap 'stopped 143' TERM
 
 status=$(sed -n '$s/^run=ended status=\([0-9]*\) .*$/\1/p' "$work/said")
 
-# A line that the program wrote about a file passed under the name $2, with the file's own name. The program
+# A line that the program wrote about a file that was passed under the name $2, with the file's own name put back. The program
 # reports folders and unreadable files as missing.
 said_of() {
   local said=${1#"$2"} file=${names[$2]}

@@ -31,8 +31,8 @@ if has cc 'the C library' && has ar 'the C library'; then
   done
   report 'the loader answers like the command' 'answers are the same' "$(bash "$top/tests/embed/compare.sh" \
     "$top/crates/talft/out/talft" ./embed_loader -- "$top"/examples/*.obj embed_objects/*.obj "$top"/tests/objects/*.obj 2>&1 | sed 's/^[0-9]* //')"
-  # A task that runs in one piece or in slices, with a fault in its first cycle or not, hands out what the run without a
-  # fault does.
+  # A task that runs in one piece or in slices, with or without a fault in its first cycle, hands out the outputs of the
+  # run without a fault.
   for name in fibonacci ring; do
     [ -e "embed_objects/$name.obj" ] || continue
     whole=$("$top/talft" run "embed_objects/$name.obj" --steps 100000 2>/dev/null; echo $?)

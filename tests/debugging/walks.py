@@ -14,7 +14,7 @@ from debugging.person import Session
 from debugging.sessions import path
 from debugging.target import Target
 
-# How many steps are searched, and how refusals begin that a walk may meet.
+# How many steps are searched, and how the refusals that a walk may meet begin.
 SEARCHED = 1_100
 EXPECTED = ("nothing there", "nothing to undo", "cannot go ", "`qa", "`qv")
 # Setting something a second time is refused, too.

@@ -69,7 +69,7 @@ def detection(state, instruction, named=str, target=str):
 
 
 def compared(state, instruction, named=str, target=str):
-    """What the step from a state compares of green and blue, whether it passes or not."""
+    """Which green and blue words the step from a state compares, whether or not it passes."""
     if instruction is None:
         return counters_compared(state)
     rule = {"st_B": pairs_compared, "jmp_B": targets_compared, "bz_B": targets_compared}.get(instruction.words[0])

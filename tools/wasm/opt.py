@@ -274,7 +274,7 @@ def sweep(blocks, preds):
 
 
 def clean(g):
-    """Cleans the graph repeatedly, as long as much changes."""
+    """Cleans the graph again and again, until little changes."""
     for _ in range(50):
         blocks = order(g)
         preds = preds_of(blocks)

@@ -41,7 +41,8 @@ class Program:
         return found
 
     def deepen(self):
-        """Adds the depth of its deepest call to the blocks of each shared function, which run as often."""
+        """Adds to the depth of each shared function's blocks the depth of its deepest call, since they run as often as
+        that call."""
         deepest = dict.fromkeys(self.order, 0)
         for s in reversed(self.order):
             for b in self.blocks_of[s]:

@@ -200,7 +200,7 @@ both_ways o b k c l (inr h) = ap (with_instrs o) (sym
 
 -- CHAINS
 
--- permitted exchanges that lead from an object to t, first one first
+-- permitted exchanges, in order, that lead from an object to t
 data Chain (t : Object) : Object → Type 0 where
   done : Chain t t
   then_on : {o : Object} (b k : ℕ) → IsPermitted o b k → Chain t (after_exchange o b k) → Chain t o

@@ -1,4 +1,4 @@
-//! Explanations of runs other than plain success.
+//! Explanations of runs that did not simply succeed.
 use crate::calls::check_said;
 use ft_worked_objects::A;
 use std::test::Fail;

@@ -1,6 +1,6 @@
 //! Tests of sinks, shelves and sources, the machine, struck runs, the debugger and the scheduler.
 //!
-//! The crate has only tests, since a crate with tests is proved twice. The values come from the
+//! These tests have a crate of their own, since a crate with tests is proved twice. The values come from the
 //! definitions, not from this implementation's output. Worked objects were made by another implementation
 //! of the format; expected schedules come from a program that makes random permitted exchanges until none
 //! is left.

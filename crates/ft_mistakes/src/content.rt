@@ -222,7 +222,7 @@ const MAGICS: &[(&[u8], Content)] = &[
     (b"\x7fELF", Content::Elf),
 ];
 
-/// What the first bytes of a file show that it is; `None` if they may begin a text.
+/// What the first bytes of a file show it to be; `None` if they may begin a text.
 fn content_of_magic(bytes: &[u8]) -> Option<Content> {
     for (magic, content) in MAGICS {
         if bytes.starts_with(*magic) {

@@ -29,8 +29,8 @@ HasPlainRow r = r.basic.base ≡ Int
 abbrev pub HasPlainRows : CodeType → Type 0
 HasPlainRows t = All HasPlainRow t.regs
 
--- a module for modules with these cells: it is spellable and accepted, and refusals 3, 4 and 5 do not apply, so only
--- refusal 6 can keep it from being added
+-- a module that can be linked with modules that have these cells, within the limits on totals: it is spellable and
+-- accepted, and refusals 3, 4 and 5 do not apply, so only refusal 6 can keep it from being added
 pub record IsModule (cells : List Cell) (o : Object) : Type 0 where
   pub spelled : IsSpellable o
   pub accepted : IsAccepted o

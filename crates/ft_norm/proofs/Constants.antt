@@ -22,7 +22,7 @@ led_some : (c : ℕ) → 0 < c → led_by one c nought ≡ plus one c nought
 led_some c l = if_cases (λ q. q ≡ plus one c nought) (c == 0) nought (plus one c nought) (λ e.
     absurd (let z = eqb-true c 0 e in omega (arith, z, l))) (λ e. refl)
 
--- the form of a word is no term if the word is 0, else one term
+-- the form of a word has no term if the word is 0, and otherwise one
 pub data IsWordForm (c : ℕ) (p : Polynomial) : Type 0 where
   no_term : c ≡ 0 → p ≡ nought → IsWordForm c p
   one_term : 0 < c → p ≡ plus one c nought → IsWordForm c p

@@ -12,7 +12,7 @@ fn refusal(alloc: Global, text: &[u8]) -> Option<SourceError> {
     }
 }
 
-/// The refusal of a text that cannot be a program from this byte on.
+/// The refusal of a text for a syntax error at this byte.
 fn syntax(at: usize) -> Option<SourceError> {
     Some(SourceError::Syntax { at })
 }
