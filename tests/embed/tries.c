@@ -4,8 +4,8 @@
  *     tries COUNT SEED FILE..
  *
  * For each object, intact, with each bit flipped in turn if it is small, and randomly damaged COUNT times, it checks
- * that talft_check, talft_run, talft_recover and talft_open agree on the status and the refusal; that setting a cell keeps
- * the verdict, and setting it back restores the bytes; that a campaign and a link agree with the check; and that no
+ * that talft_check, talft_run, talft_recover and talft_open agree on the status and the refusal; that setting a cell
+ * keeps the verdict, and setting it back restores the bytes; that a campaign and a link agree with the check; and that no
  * block is left. If an allocation fails, a call on an intact object must end with status 5 or its usual answer. The
  * last line has the number of calls, and a sum over all answers, by which processors can be compared.
  */

@@ -307,8 +307,8 @@ module _ (o : Object) (vars cells : ℕ) (bs : Blocks) (W : IsWell vars cells bs
         let e = ap (λ n. iterate (machine_step o) n r) (costs bs f s runs at) ∙ l.is in
         subst (Beside (flow_step bs f)) (sym e) (subst (λ x. Beside x q) (sym to) h)
 
-    -- likewise, whether the flow is running or done: a running flow has a step to take, and one that is done stays as it
-    -- is
+    -- likewise, whether the flow is running or done: a running flow has a step to take, and one that is done stays as
+    -- it is
     one : (f : FlowState) (r : Ran) → Beside f r → Beside (flow_step bs f)
         (iterate (machine_step o) (cost_if f.done (step_at bs f.place)) r)
     one f _ (standing i m c front [] known A) = absurd A.ended
