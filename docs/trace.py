@@ -171,7 +171,7 @@ def code(words):
 
 
 def clause_words(one):
-    """The clauses of a requirement in short: a clause of the same function as the one before it is only `.PART`."""
+    """The clauses of a requirement, abbreviated: a clause of the same function as the one before it is only `.PART`."""
     words, last = [], None
     for _, names in one.named:
         for name in names:
@@ -250,7 +250,7 @@ def promises(trace):
 
 
 def short(paths):
-    """Paths in short: many of one folder are only counted."""
+    """Paths, abbreviated: if a folder has many, they are only counted."""
     folders = collections.defaultdict(list)
     for path in paths:
         folders[os.path.dirname(path)].append(path)
@@ -321,7 +321,7 @@ def document(trace):
 
 
 def back(name, parts):
-    """A function with its clauses and the requirements of each, in short."""
+    """A function with its clauses and the requirements of each, abbreviated."""
     same = {tuple(found) for _, found in parts}
     if len(same) == 1:
         return f"`{name}` {', '.join(same.pop())}"

@@ -95,7 +95,7 @@ END
 "$top/talft" asm trap.asm >loop.obj
 tool 'a loop on itself' 1 'running after 1000 steps: block 1 jumps to itself, as a trap does\n' \
   ending loop.obj --steps 1000
-tool 'a trap' 1 'trapped after 1000 steps or before: function run: offset 0x4b: division by zero\n' \
+tool 'a trap' 1 'trapped within 1000 steps: function run: offset 0x4b: division by zero\n' \
   ending loop.obj --text trap.asm --steps 1000
 
 # Each refusal of the translator.

@@ -83,9 +83,9 @@ d                   what a green jump leaves for the blue one: the target's addr
 pcg, pcb            the green and the blue program counter; they are equal at each fetch, or the machine stops itself
 qaN, qvN            the address and the value of the pending store N; 0 is the oldest, and 7 the last possible
 A cell is not a site: no fault strikes memory."""
-D_TOLD = """d is a word between two jumps. `jmp_G r2` puts its target there; `jmp_B r34` jumps if its own target is the same,
-and sets d to 0 again. `bz_G` and `bz_B` do so if they branch. If the two disagree, the machine stops itself:
-detected. So a strike that changes d is detected by the next jump or branch."""
+D_TOLD = """d passes a jump's target from its green half to its blue half. `jmp_G r2` puts its target there; `jmp_B r34`
+jumps if its own target is the same, and sets d to 0 again. `bz_G` and `bz_B` do so if they branch. If the two disagree,
+the machine stops itself: detected. So a strike that changes d is detected by the next jump or branch."""
 FAULTS_TOLD = """A fault is one strike: before step STEP, the word at SITE becomes WORD. The colour stays. `zap` and `flip`
 strike here, `plan STEP:SITE:WORD` (and --fault) at STEP whenever the session passes it. Numbers are decimal, or
 hexadecimal as 0x10. A run with a fault is masked if its outputs are those without it, detected if the machine

@@ -41,7 +41,7 @@ def told(run, text):
         return f"{run.how} after {run.steps} steps"
     traps = traps_of(text)
     if run.block in traps:
-        return f"trapped after {run.steps} steps or before: {traps[run.block]}"
+        return f"trapped within {run.steps} steps: {traps[run.block]}"
     known = "" if text else ", as a trap does"
     return f"running after {run.steps} steps: block {run.block} jumps to itself{known}"
 

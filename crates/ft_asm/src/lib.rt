@@ -1,9 +1,10 @@
 //! Assembly text: objects as lines of words.
 //!
 //! The crate promises that, unless memory runs out, `assemble` returns the one object that a text spells, or the exact
-//! reason why the text is refused, and that `disassemble` writes a text that spells the given object and no other. `specs/Words.antt`,
-//! `specs/Lines.antt` and `specs/Listings.antt` say what lines mean; `NodeForms` and `InstrForms` do so for the lines
-//! of nodes and instructions. `specs/Reads.antt` says which text spells which object and why a text is refused.
+//! reason why the text is refused, and that `disassemble` writes a text that spells the given object and no other.
+//! `specs/Words.antt`, `specs/Lines.antt` and `specs/Listings.antt` say what lines mean; `NodeForms` and `InstrForms`
+//! do so for the lines of nodes and instructions. `specs/Reads.antt` says which text spells which object and why a text
+//! is refused.
 #![tactic(auto)]
 
 mod asm_error;

@@ -2,8 +2,8 @@
 //!
 //! The crate promises that a fault list is read exactly, that a campaign finds each fault's verdict as defined and
 //! writes a line for each verdict and a line of totals, that the faults together cost no more steps than
-//! `specs/Snapshots.antt` says, and that a fault of an accepted program is never corrupt. Its definitions: `specs/FaultList.antt`,
-//! `specs/Verdicts.antt`, `specs/Texts.antt`, `specs/Campaigns.antt`, `specs/Snapshots.antt`.
+//! `specs/Snapshots.antt` says, and that a fault of an accepted program is never corrupt. Its definitions:
+//! `specs/FaultList.antt`, `specs/Verdicts.antt`, `specs/Texts.antt`, `specs/Campaigns.antt`, `specs/Snapshots.antt`.
 #![tactic(auto)]
 
 mod campaign_end;

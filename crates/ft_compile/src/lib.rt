@@ -3,8 +3,8 @@
 //! The crate promises that `compile` refuses exactly the texts that are not programs, and otherwise, unless memory runs
 //! out, returns an object that stands for the program: spellable, accepted, and with a run that commits the outputs of
 //! the program's meaning and ends when the meaning ends; that it is the object of a flow of that program; and that the
-//! linker accepts it as a module. Its definitions: `specs/StandsFor.antt` (what stands for a program), `specs/Emitted.antt` (the object of a
-//! flow).
+//! linker accepts it as a module. Its definitions: `specs/StandsFor.antt` (what stands for a program),
+//! `specs/Emitted.antt` (the object of a flow).
 #![tactic(auto)]
 
 mod cells;

@@ -136,7 +136,8 @@ impl Context {
         Ok(same_integers(forms, known.form, wanted))
     }
 
-    /// Whether each register that has a row in code type `t` meets that row, with these substituted for the type's variables.
+    /// Whether each register that has a row in code type `t` meets that row, with these substituted for the type's
+    /// variables.
     pub fn registers_are_like<P: Program, L: Ledger>(
         &self,
         put: &Variables,

@@ -72,8 +72,8 @@ pub record DoublesAt (o : Object) (vars : ℕ) (wild : List Wild) (bs : Blocks) 
   pub status : status_after o None wild n ≡ cond f.done Done Running
   pub holds : f.done ≡ false → Holds (known_at vars bs f.place) f.pairs (state_after o None wild n)
 
--- for each k, the machine's run after exactly as many steps as the first k steps of the flow cost agrees with the flow's
--- run after k steps; while the flow is running, this cost is at least k
+-- for each k, the machine's run after exactly as many steps as the first k steps of the flow cost agrees with the
+-- flow's run after k steps; while the flow is running, this cost is at least k
 pub record Doubles (o : Object) (vars : ℕ) (bs : Blocks) (wild : List Wild) : Type 0 where
   pub after : (k : ℕ) → DoublesAt o vars wild bs (flow_run bs (words_of o) k) (cost bs k (flow_start (words_of o)))
   pub pace : (k : ℕ) → (flow_run bs (words_of o) k).done ≡ false → k ≤ cost bs k (flow_start (words_of o))

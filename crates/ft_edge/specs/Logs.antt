@@ -29,8 +29,8 @@ LoadFails name old new = Rose old.failures new.failures × (new.failed_name ≡ 
 abbrev pub NoLoadFails : ShelfLog → ShelfLog → Type 0
 NoLoadFails old new = (new.failures ≡ old.failures) × (new.failed_name ≡ old.failed_name)
 
--- after `Failed`, the name is recorded as the last that failed, and the count has risen or is 2^64 - 1; any other result
--- leaves both unchanged
+-- after `Failed`, the name is recorded as the last that failed, and the count has risen or is 2^64 - 1; any other
+-- result leaves both unchanged
 abbrev pub LoadCause : ShelfLog → ShelfLog → List ℕ → Result Load LoadFault → Type 0
 LoadCause old new name (Err Failed) = LoadFails name old new
 LoadCause old new name (Err NoMemory) = NoLoadFails old new

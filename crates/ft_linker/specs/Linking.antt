@@ -28,7 +28,7 @@ abbrev pub refusal_of : LinkMap → List Object → Option LinkRefusal
 refusal_of linkage [] = None
 refusal_of linkage (first ∷ others) = link_refusal linkage first others
 
--- why these modules, added in turn, are refused, if one is
+-- the first refusal of these modules, which are added in turn, if one of them is refused
 abbrev pub turns_refusal : List Object → Option LinkRefusal
 turns_refusal [] = None
 turns_refusal (first ∷ others) = modules_refusal [] 0 first.cells (first ∷ others)

@@ -2,9 +2,9 @@
 //!
 //! The crate promises that a `Linker` is the list of the objects that were added, that `add` refuses a module exactly
 //! as `ft_modules` defines it, and that `finish` returns exactly the object into which a sound map links the modules,
-//! or exactly the refusal (`specs/Linking.antt`); both may run out of memory. The linked object obeys the rules of the format, is accepted, runs as
-//! the modules do, and tolerates one fault. No tree is walked: trees of expressions are compared by numbers
-//! (`specs/Numbers.antt`).
+//! or exactly the refusal (`specs/Linking.antt`); both may run out of memory. The linked object obeys the rules of the
+//! format, is accepted, runs as the modules do, and tolerates one fault. No tree is walked: trees of expressions are
+//! compared by numbers (`specs/Numbers.antt`).
 #![tactic(auto)]
 
 mod assembling;

@@ -223,7 +223,8 @@ fn instead_in_declaration(rest: &[u8]) -> Option<&'static str> {
     }
 }
 
-/// What is wrong at a place with a byte that begins no token, judging by what precedes it; `None` if that shows nothing.
+/// What is wrong at a place with a byte that begins no token, judging by what precedes it; `None` if that shows
+/// nothing.
 pub(crate) fn instead_of_byte_at(source: &[u8], at: usize) -> Option<&'static str> {
     let before = read_before(source, at);
     if before.count == 2

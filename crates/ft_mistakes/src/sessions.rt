@@ -147,8 +147,8 @@ fn begins_wrong(commands: &[Command<'_>]) -> bool {
 }
 
 /// Explains which lines of a session's script are not commands, or that the script is a file of another kind. If the
-/// script cannot be read again (`name` is `None`), explains only the last line, if the session answered it with
-/// `bad command`, which is then `line`.
+/// script cannot be read again (`name` is `None`), says only that its last line is not a command, and only if `line`,
+/// the last line that the session wrote, is `bad command`.
 pub fn explain_session<S: Shelf>(
     page: &mut Page,
     name: Option<&'static str>,

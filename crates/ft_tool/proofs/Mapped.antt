@@ -80,7 +80,7 @@ pub some_files : (told : Option Files) → OfFiles told (λ files. Unit {0})
 some_files (Some told) = (told, (refl, tt))
 some_files None = (empty, (none_bytes, tt))
 
--- there are such files in which the file with this name has this content
+-- there are such files, and the one with this name has this content
 pub files_with : (told : Option Files) (name bytes : List ℕ) → IsToldFile told name bytes →
     OfFiles told (λ files. IsFile files name bytes)
 files_with (Some told) name bytes h = (told, (refl, h))
@@ -89,7 +89,7 @@ files_with None name bytes h = (
   (more_bytes empty name bytes none_bytes h, put_there empty name bytes),
 )
 
--- there are such files in which two files have these contents, if equal names have equal contents
+-- there are such files, and the two with these names have these contents, if equal names have equal contents
 pub files_with_both : (told : Option Files) (name bytes other more : List ℕ) → IsToldFile told name bytes →
     IsToldFile told other more → (other ≡ name → more ≡ bytes)
     → OfFiles told (λ files. IsFile files name bytes × IsFile files other more)
