@@ -115,8 +115,8 @@ def monomials(n, count=1024):
 
 
 def sliding(n, count=4096):
-    """Sums of 63 or 64 products each, chosen from this many products of four variables. Each is the one before it without the oldest of its
-    products, or with one more. The order in which products are added changes in each round."""
+    """Sums of 63 or 64 products each, chosen from this many products of four variables. Each is the one before it without
+    the oldest of its products, or with one more. The order in which products are added changes in each round."""
     nodes, at = [variables(32)], 33
     pairs = [[(i, j) for i in range(low, low + 16) for j in range(i + 1, low + 16)][:64] for low in (1, 17)]
     nodes += [operation(MUL, i, j, 32) for i, j in pairs[0] + pairs[1]]
