@@ -527,7 +527,7 @@ head -c 100 five.obj >once &
 got=$(timeout 60 "$top/talft" check once 2>said; printf '/%d' $?)
 report 'a refused pipe' "$(printf 'object 2 100\n/7')" "$got"
 report 'the message about a refused pipe' \
-  "once: error: the object's size does not match its header: it differs at byte 100" "$(cat said)"
+  "once: error: the object's size does not match its header: the smaller of the two is 100 bytes" "$(cat said)"
 wait
 rm -f once
 

@@ -88,8 +88,8 @@ jumps if its own target is the same, and sets d to 0 again. `bz_G` and `bz_B` do
 the machine stops itself: detected. So a strike that changes d is detected by the next jump or branch."""
 FAULTS_TOLD = """A fault is one strike: before step STEP, the word at SITE becomes WORD. The colour stays. `zap` and `flip`
 strike here, `plan STEP:SITE:WORD` (and --fault) at STEP whenever the session passes it. Numbers are decimal, or
-hexadecimal as 0x10. A run with a fault is masked if its outputs are those without it, detected if the machine
-has stopped itself, idle if nothing was at the site, and corrupt if its outputs differ. `explain` says which
+hexadecimal as 0x10. A fault is masked if the outputs are those of the run without it, detected if the machine
+has stopped itself, idle if nothing was at the site, and corrupt if the outputs differ. `explain` says which
 and why. In an object that the checker accepts, no single fault is corrupt."""
 # What an instruction does: docs/MACHINE.md has the rows.
 MNEMONICS = {

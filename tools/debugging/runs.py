@@ -109,7 +109,8 @@ def halts(timeline, start, end, strikes, places, questions=()):
 def halts_up_to(timeline, here, stop, strikes, places, questions):
     """One call of `halts`: its answers, how far it got, and whether the machine stopped.
 
-    If none of its `go` lines halts, they cover the whole way, and at most twice that, unless MOST_STEPS cuts them."""
+    If none of its `go` lines halts, they cover at least the whole way and at most twice that, unless MOST_STEPS limits
+    them."""
     count = min(MOST_LINES // (len(questions) + 1), (stop - here) // 2 + 1)
     lead = break_lines(places) + path(strikes, 0, here)
     unit = [f"go {min(max(2, 2 * (stop - here) // count), MOST_STEPS)}"] + questions + ["where"]

@@ -22,8 +22,8 @@ abbrev pub is_green : Colour → Bool
 is_green Green = true
 is_green Blue = false
 
--- whether an instruction is leading: a move, a load, a store or an operation with a word if its colour is green, and an
--- operation on two registers or an index if rs is below r32
+-- whether an instruction is leading: a move, a load, a store or an operation with a word, if its colour is green; and
+-- an operation on two registers, or an `idx`, if rs is below r32
 abbrev pub is_leading : Instr → Bool
 is_leading (OpReg op rd rs rt) = nat_lt rs.number 32
 is_leading (OpWord op rd rs value) = is_green value.colour

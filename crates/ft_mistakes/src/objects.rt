@@ -154,7 +154,7 @@ fn say_short(page: &mut Page, at: u64) -> Result<(), NoMemory> {
             "the object has {at} bytes, fewer than the 48 of its header\n"
         )),
         _ => page.say(format_args!(
-            "the object's size does not match its header: it differs at byte {at}\n"
+            "the object's size does not match its header: the smaller of the two is {at} bytes\n"
         )),
     }
 }

@@ -188,7 +188,7 @@ written o to e c b r v t t' h k = record {
 
 -- THE STATE OF D
 
--- `Both` holds of rules that require d to be Zero if it holds when both are
+-- `Both` holds of rules that require d to be Zero if it holds when d is Zero in both contexts
 pub both_zero : (R : Context → Context → Type 0) (o : Object) (to : ℕ → ℕ × ℕ) (d d' : StateOfD) (x x' : Outcome) →
     DBeside o to d d' → (d ≡ d_zero → d' ≡ d_zero → Both R x x') → Both R (for_zero d x) (for_zero d' x')
 unfolding Both for_zero
