@@ -32,7 +32,7 @@ class Parser(argparse.ArgumentParser):
     """Parses the arguments of a tool.
 
     `others` are prefixes of options for another program. `instead` says what to do about a surplus argument;
-    `elsewhere` says for each option that other programs have what to use here instead."""
+    `elsewhere` says what to use here instead of options that other programs have."""
 
     def __init__(self, name, about, more, others=(), instead=None, elsewhere=None, **rest):
         super().__init__(prog=name, description=about, epilog=more,

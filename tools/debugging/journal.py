@@ -53,6 +53,6 @@ class Journal:
             self.again(new, strikes)
 
     def again(self, position, strikes):
-        """Replaces all earlier lines by the way from the start to a position."""
+        """Replaces all earlier lines with the path from the start to a position."""
         self.lines, self.low = [], max(0, position - MOST_BACK)
         self.put(*path(made_by(strikes, position), 0, position))

@@ -356,7 +356,7 @@ class Timeline:
         return window.states[min(position, window.last) - window.first]
 
     def span(self, first, last, strikes):
-        """The states from a position to another, with one call for as many as fit into a script."""
+        """The states from one position to another, with one call for as many as fit into a script."""
         found, at = [], first
         while at <= last:
             window = self.read(at, min(last - at + 1, self.most_states), strikes)

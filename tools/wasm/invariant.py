@@ -5,7 +5,7 @@ from .loops import find_loops
 from .opt import dominators
 from .words import PURE
 
-MOST_LIVE = 22      # operations are moved ahead of a loop until so many values are live in it at once
+MOST_LIVE = 22      # operations are moved ahead of a loop until this many values are live in it at once
 
 
 def most_live(loop, end):
@@ -22,7 +22,7 @@ def most_live(loop, end):
 
 
 def hoist(loop, before, room):
-    """Moves what does not change to the block before a loop."""
+    """Moves operations whose operands do not change in a loop to the block before it."""
     inside = {v for b in loop.body for v in [*b.params, *b.insts]}
     for b in sorted(loop.body, key=lambda b: b.id):
         kept = []
