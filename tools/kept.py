@@ -62,8 +62,10 @@ def check_lines(path, object_file, wild=None):
         put(faults.name, "".join(f"{fault}\n" for _, fault, *_ in some).encode())
         words = [program(), "survey", object_file, "--faults", faults.name, "--steps", str(steps)]
         try:
+            # These runs are cut on purpose: no note about it.
             done = subprocess.run(words + (["--wild", wild] if wild else []), stdin=subprocess.DEVNULL,
-                                  stdout=subprocess.PIPE, universal_newlines=True, check=False)
+                                  env={**os.environ, "TALFT_EXPLAIN": "0"}, stdout=subprocess.PIPE,
+                                  universal_newlines=True, check=False)
         except OSError as error:
             raise not_run(program(), error) from error
     again = [match[4] or f"{match[5]} {match[6]}" for match in map(VERDICT.fullmatch, done.stdout.splitlines()) if match]

@@ -125,7 +125,8 @@ head -n 1 list >one.list
 report 'a limit on files' '1 campaign: limited/object: file too large' "$(ulimit -f 1
   "$top/tools/campaign" limit.obj --faults one.list --dir limited 2>said; echo "$? $(tail -n 1 said)")"
 refuses 'another campaign in the same folder' \
-  'campaign: here: holds another campaign: give another --dir, or remove the folder' \
+  "campaign: here: holds a campaign with another fault list: give another --dir, or, if its verdicts are no longer needed, \
+remove the folder" \
   campaign fibonacci.obj --faults piece.aa --steps "$most" --dir here
 no_number='is not a decimal number below 2^64'
 while IFS='|' read -r line told; do

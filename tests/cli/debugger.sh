@@ -214,7 +214,8 @@ report 'a file with a blank' 'zap r0 1|step 2' \
 report 'each instruction has its help' '' "$(for name in add sub mul ltu eq and or xor shl shr mov idx ld_G ld_B st_G st_B \
   jmp_G jmp_B bz_G bz_B halt sites d faults; do echo "help $name"; done | "$top/tools/debugger" "$program" 2>&1 |
   grep 'unknown command')"
-says 'the meaning of d' 'help d' 'detected. So a strike that changes d is detected by the next jump or branch.'
+says 'the meaning of d' 'help d' \
+  'the machine stops itself: detected. So a strike that changes d is detected by the next jump or branch.'
 program=endless.obj
 says 'a run without an end' end 'the run has not ended after 1,000,000 more steps: `end` continues'
 says 'no lines of an object alone' line \

@@ -454,7 +454,8 @@ standard input:4:1: error: invalid command: expected `reg R`
 report 'the message about a script' "0 $said_of_script" "$? $(cat said)"
 report 'what it writes' "$(printf 'at 1 running\nbad command\nbad command\nbad command')" "$(cat with)"
 cat wrong.script | "$top/talft" debug five.obj >with 2>said
-report 'the message about a script from a pipe' '0 ' "$? $(cat said)"
+report 'the message about a script from a pipe' '0 standard input: error: the last line is not a command: the commands are' \
+  "$? $(cut -d '`' -f 1 said | sed 's/ $//')"
 
 # Commands of other debuggers, and words separated by a tab or two spaces.
 while IFS='|' read -r line message; do

@@ -311,3 +311,13 @@ if has script 'a small terminal'; then
     "$(TERM=xterm timeout 60 script -qec "stty cols 20 rows 5; $top/tools/debugger five.obj --tui 2>small.said" /dev/null \
       </dev/null >answer; cat small.said)"
 fi
+
+# What newcomers to the debugger and to campaigns expect of other programs.
+report '`run` at the start' "$(printf 'at 0 running\nthe run is at its start: `continue` runs it')" \
+  "$(echo run | "$top/tools/debugger" "$top/examples/five.obj" 2>&1 | tail -n 2)"
+report '`r` for registers' '`r` is short for `registers`; `run` goes to the start, and `continue` runs on from here' \
+  "$(printf 'r\nr\n' | "$top/tools/debugger" "$top/examples/five.obj" 2>&1 | grep 'short for')"
+printf '4:r1:6\n' >once.list
+"$top/talft" campaign "$top/examples/five.obj" --faults once.list >once.lines
+report 'no note about runs that `report` repeats' '' \
+  "$("$top/tools/report" once.lines --object "$top/examples/five.obj" --out once.html 2>&1)"

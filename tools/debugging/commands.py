@@ -27,7 +27,8 @@ class Commands(Shown):
     def __init__(self, session, paint, out, sure=None, is_shown=False):
         self.session, self.paint, self.out, self.is_shown = session, paint, out, is_shown
         self.sure = sure or (lambda question: False)
-        self.depth, self.before, self.displayed, self.told_replaced = 0, None, [], False
+        self.depth, self.before, self.displayed = 0, None, []
+        self.told_replaced, self.told_short = False, False
 
     def resolve(self, name):
         """The full name of a command."""
@@ -64,6 +65,9 @@ class Commands(Shown):
         if name in ALONE:
             no_more(words, name)
         call(words)
+        if match[1] == "r" and not self.told_short:
+            self.told_short = True
+            self.say("`r` is short for `registers`; `run` goes to the start, and `continue` runs on from here")
         return name
 
     def say(self, *lines):
@@ -209,7 +213,10 @@ class Commands(Shown):
                       "a line")
 
     def do_run(self, words):
+        was_at_start = self.session.position == 0
         self.moved(self.session.go_to, 0)
+        if was_at_start:
+            self.say("the run is at its start: `continue` runs it")
 
     def do_end(self, words):
         self.moved(self.session.go_to, self.session.position + MOST_TO_END)

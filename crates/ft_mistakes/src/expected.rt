@@ -272,8 +272,16 @@ const STEPPED: &str = "write it as a separate statement, as in `a = a + 1;`";
 /// What to write for `a += 1`.
 const IN_FULL: &str = "write the assignment in full, as in `a = a + 1;`";
 
+/// Whether these two bytes are `++` or `--`.
+fn is_doubled(bytes: &[u8]) -> bool {
+    matches!(bytes, b"++" | b"--")
+}
+
 /// What to write instead of `++` or a sign before a term, after a token of this kind.
 fn habit_before_term(source: &[u8], at: usize, last: Kind) -> &'static str {
+    if is_doubled(part(source, at.saturating_sub(1), at.saturating_add(1))) {
+        return STEPPED;
+    }
     match part(source, at, at.saturating_add(2)) {
         b"++" | b"--" if begins_statement(last) => IN_FULL,
         b"++" | b"--" => STEPPED,

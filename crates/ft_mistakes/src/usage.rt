@@ -22,6 +22,20 @@ fn is_given(words: &[String], option: &str) -> bool {
     false
 }
 
+/// What to do instead of giving two faults.
+const ONE_FAULT: &str =
+    "a run takes one fault; `talft campaign OBJECT --faults FILE` tries each fault of a list";
+
+/// Says that an option is given twice.
+fn say_twice(page: &mut Page, option: &str) -> Result<(), NoMemory> {
+    page.say(format_args!("`{option}` is given twice"))?;
+    if option != "--fault" {
+        return Ok(());
+    }
+    page.say(": ")?;
+    page.say(ONE_FAULT)
+}
+
 /// Says what is wrong with the value of `--fault`; returns false if nothing is.
 fn say_fault(page: &mut Page, value: &str) -> Result<bool, NoMemory> {
     if read_strike(value.as_bytes()).is_ok() {
@@ -31,9 +45,7 @@ fn say_fault(page: &mut Page, value: &str) -> Result<bool, NoMemory> {
     page.quote(value.as_bytes())?;
     page.say(": expected STEP:SITE:WORD; ")?;
     if second_fault(value).is_some() {
-        page.say(
-            "a run takes one fault; `talft campaign OBJECT --faults FILE` tries each fault of a list",
-        )?;
+        page.say(ONE_FAULT)?;
         return Ok(true);
     }
     say_wrong_part(page, value)?;
@@ -260,7 +272,7 @@ fn say_option(
         return Ok(true);
     };
     if is_given(before, option) {
-        page.say(format_args!("`{option}` is given twice"))?;
+        say_twice(page, option)?;
         return Ok(true);
     }
     match value {
