@@ -313,8 +313,8 @@ if has script 'a small terminal'; then
 fi
 
 # What newcomers to the debugger and to campaigns expect of other programs.
-report '`run` at the start' "$(printf 'at 0 running\nthe run is at its start: `continue` runs it')" \
-  "$(echo run | "$top/tools/debugger" "$top/examples/five.obj" 2>&1 | tail -n 2)"
+report '`run` at the start' 'the run is at its start: `continue` runs it' \
+  "$(echo run | "$top/tools/debugger" "$top/examples/five.obj" 2>&1 | tail -n 1)"
 report '`r` for registers' '`r` is short for `registers`; `run` goes to the start, and `continue` runs on from here' \
   "$(printf 'r\nr\n' | "$top/tools/debugger" "$top/examples/five.obj" 2>&1 | grep 'short for')"
 printf '4:r1:6\n' >once.list
