@@ -170,6 +170,7 @@ done <<'END'
 11^campaign five.obj --faults got^\x7fELF\x02^got: error: this is an ELF file (code for a processor), not a fault list
 7^check got^TALFT\x02\x01\x01\x01\x05^got: error: the object has no zero bytes, because a text tool removed or replaced them: copy it in binary mode
 2^run five.obj --fault 4:r1:6,10:r1:6^^talft: error: invalid fault `4:r1:6,10:r1:6`: expected STEP:SITE:WORD; a run takes one fault; `talft campaign OBJECT --faults FILE` tries each fault of a list
+2^run five.obj --fault 4:r1:6 --fault 6:r0:7^^talft: error: `--fault` is given twice: a run takes one fault; `talft campaign OBJECT --faults FILE` tries each fault of a list
 2^run five.obj --fault 4:R1:6^^talft: error: invalid fault `4:R1:6`: expected STEP:SITE:WORD; invalid site `R1`: write sites in lower case, as in `r1`
 2^run five.obj --fault 4:PCG:6^^talft: error: invalid fault `4:PCG:6`: expected STEP:SITE:WORD; invalid site `PCG`: write sites in lower case, as in `r1`
 2^run five.obj --fault 4:out:6^^talft: error: invalid fault `4:out:6`: expected STEP:SITE:WORD; invalid site `out`: a site is r0 to r63, d, pcg, pcb, qa0 to qa7 or qv0 to qv7
