@@ -16,12 +16,28 @@ PROGRAM =
 # The log of a gate run, for the counts in a release and for the evidence.
 GATE_LOG =
 
-.PHONY: all program program-aarch64 check wrong-bodies library install install-program install-library uninstall dist deb evidence \
-  same-bytes site clean
+targets = all program program-aarch64 check wrong-bodies library install install-program install-library uninstall dist deb \
+  evidence same-bytes site clean help
+.PHONY: $(targets)
+
+# What is misspelt on the command line is refused before anything is proved.
+quote := `
+expected = $(quote)$(1)$(quote): expected $(subst $() ,$(comma) ,$(2))
+comma = ,
+told = $(if $(filter command,$(origin $(1))),$(error unknown variable $(quote)$(1)$(quote): write $(2)))
+$(call told,prefix,PREFIX=DIR)
+$(call told,destdir,DESTDIR=DIR)
+$(call told,arch,ARCH=aarch64)
+$(call told,heap,HEAP=arena)
+$(foreach name,exec_prefix bindir libdir includedir mandir datadir,$(call told,$(name),PREFIX=DIR))
+unknown = $(firstword $(filter-out $(targets),$(MAKECMDGOALS)))
+$(if $(filter test tests,$(unknown)),$(error unknown target $(quote)$(unknown)$(quote): $(quote)make check$(quote) runs the tests))
+$(if $(unknown),$(error unknown target $(call expected,$(unknown),$(targets))))
 
 # Proves the crates that the program depends on, and builds it. With ARCH=aarch64 the program and the C library are made for
 # that processor, as crates/talft/out/talft-aarch64 and crates/ft_c/out/library-aarch64.
 ARCH = x86_64
+$(if $(filter-out x86_64 aarch64,$(ARCH)),$(error unknown processor $(quote)$(ARCH)$(quote): expected x86_64 or aarch64))
 all: $(if $(filter x86_64,$(ARCH)),program,program-$(ARCH) library)
 
 program:
@@ -40,10 +56,15 @@ wrong-bodies:
 
 # The C library. With ARCH=aarch64 it is made for that processor; with HEAP=arena it takes its memory from the caller.
 HEAP = heap
+$(if $(filter-out heap arena,$(HEAP)),$(error unknown HEAP $(quote)$(HEAP)$(quote): expected heap or arena))
 library:
 	@HEAP=$(HEAP) bash build/library.sh $(ARCH)
 
+# Both are made before anything is installed: if one cannot be proved, no half of an installation is left.
 install: install-program install-library
+ifneq ($(filter install,$(MAKECMDGOALS)),)
+install-program: library
+endif
 
 # The program with its manual, tools and examples, and the identity of its build.
 install-program: $(if $(PROGRAM),,all)
@@ -113,6 +134,18 @@ site:
 # compares the bytes.
 same-bytes: all library
 	@bash tests/same_bytes.sh
+
+help:
+	@echo 'make [TARGET] [VARIABLE=VALUE]'
+	@echo '  all, program       proves and builds the program (without a target, too)'
+	@echo '  library            proves and makes the C library'
+	@echo '  install, uninstall installs program, tools, manual and library under PREFIX (/usr/local), or removes them'
+	@echo '  install-program, install-library  only one of them'
+	@echo '  check              the gate: proves all, and runs the tests'
+	@echo '  wrong-bodies, same-bytes  longer tests'
+	@echo '  dist, deb, evidence, site  makes a release, a Debian package, the evidence or the site, in out/'
+	@echo '  clean              removes what was made'
+	@echo 'variables: PREFIX=DIR, DESTDIR=DIR, PROGRAM=FILE, ARCH=x86_64 or aarch64, HEAP=heap or arena, GATE_LOG=FILE'
 
 clean:
 	rm -rf crates/*/out out

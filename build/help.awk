@@ -20,6 +20,15 @@ function options(written, i, j, begun) {
     for (j = 1; j <= lines["option", i]; j++) print (j == 1 ? "  " : "") text["option", i, j]
   }
 }
+# The commands that take an option.
+function takers(option, i, last, listed) {
+  for (i = 1; i <= count["command"]; i++) {
+    if (!index(text["command", i, 1] " ", option " ")) continue
+    if (last != "") listed = listed (listed == "" ? "" : ", ") last
+    last = "`" first(text["command", i, 1]) "`"
+  }
+  return listed (listed == "" ? "" : " and ") last
+}
 function commands(i, parts) {
   print "commands:"
   for (i = 1; i <= count["command"]; i++) {
@@ -43,6 +52,14 @@ END {
     print "  " text["command", i, 2]
     options(text["command", i, 1])
     print "\nexample:\n  " text["command", i, 3] "\n\nmore: `man talft`"
+    exit
+  }
+  for (i = 1; i <= count["option"]; i++) {
+    name = first(text["option", i, 1])
+    if (of != name && "--" of != name) continue
+    print "talft " version
+    for (j = 1; j <= lines["option", i]; j++) print (j == 1 ? "  " : "") text["option", i, j]
+    print "\ntaken by " takers(name) "\n\nmore: `talft help COMMAND`, `man talft`"
     exit
   }
   print "talft: error: unknown command `" of "`"

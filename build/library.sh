@@ -18,6 +18,10 @@ case $arch in
   aarch64) out=$top/crates/ft_c/out/library-aarch64 cc=${CC-aarch64-linux-gnu-gcc} ar=${AR-aarch64-linux-gnu-ar} ;;
   *) echo "talft: error: unknown processor \`$arch\`: expected x86_64 or aarch64" >&2; exit 2 ;;
 esac
+case ${HEAP-heap} in
+  heap | arena) ;;
+  *) echo "talft: error: unknown HEAP \`$HEAP\`: expected heap or arena" >&2; exit 2 ;;
+esac
 
 # Links the compiled library with the C code in embed/.
 link() {

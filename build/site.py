@@ -163,9 +163,8 @@ class Site:
         run("fibonacci.obj", talft, "compile", source)
         run("faults", os.path.join(TOP, "tools/faults"), "fibonacci.obj", "--sample", "1000")
         run("lines", talft, "campaign", "fibonacci.obj", "--faults", "faults")
-        subprocess.run([os.path.join(TOP, "tools/report"), "lines", "--object", "fibonacci.obj", "--source", source,
-                        "--out", os.path.join(self.folder, "report.html")],
-                       cwd=work, check=True, env=env)
+        run("written", os.path.join(TOP, "tools/report"), "lines", "--object", "fibonacci.obj", "--source", source,
+            "--out", os.path.join(self.folder, "report.html"))
         shutil.rmtree(work)
 
 

@@ -144,11 +144,19 @@ class Refused(ValueError):
 def _load():
     here = os.path.join(os.path.dirname(os.path.abspath(__file__)), "libtalft.so")
     name = os.environ.get("TALFT_LIBRARY") or (here if os.path.exists(here) else "libtalft.so")
+    instead = "`make library` makes crates/ft_c/out/library/libtalft.so: install it, or name it in TALFT_LIBRARY"
+    if os.path.isdir(name):
+        raise ImportError(f"{name} is a folder: {instead}")
     try:
         library = ctypes.CDLL(name)
     except OSError as error:
-        told = "not found" if "No such file" in str(error) else f"not loaded ({error})"
-        raise ImportError(f"{name} {told}: build or install it, or set TALFT_LIBRARY") from None
+        is_other = any(told in str(error) for told in ("invalid ELF header", "file too short"))
+        is_here = os.sep not in name and os.path.exists(name)
+        told = ("not found: write its whole path" if is_here else "not found" if "No such file" in str(error) else
+                "is not a shared library" if is_other else f"not loaded ({error})")
+        raise ImportError(f"{name} {told}: {instead}") from None
+    if not hasattr(library, "talft_open"):
+        raise ImportError(f"{name} is not libtalft.so, or an old one: {instead}")
     size, word, text = ctypes.c_size_t, ctypes.c_uint64, ctypes.c_char_p
     why = ctypes.POINTER(_Refusal)
     made = ctypes.POINTER(size)
@@ -181,15 +189,30 @@ def _load():
 _LIBRARY = _load()
 
 
+def _is_file(data):
+    """Whether this is an open file, and not bytes that can be read like one."""
+    if not hasattr(data, "read"):
+        return False
+    try:
+        memoryview(data)
+    except TypeError:
+        return True
+    return False
+
+
 def _bytes(data):
     if isinstance(data, int):
         raise TypeError("expected bytes or a text, not a number")
+    if _is_file(data):
+        raise TypeError("expected bytes or a text, not an open file: `.read()` it")
     return data.encode() if isinstance(data, str) else bytes(data)
 
 
 def _object(data):
     if isinstance(data, (str, os.PathLike)):
         raise TypeError("expected the object's bytes, not a file name")
+    if _is_file(data):
+        raise TypeError("expected the object's bytes, not an open file: `.read()` it, opened with 'rb'")
     return _bytes(data)
 
 

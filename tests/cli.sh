@@ -29,6 +29,14 @@ refuses() {
   report "the message about $name" "$said" "$(tail -n 1 said)"
 }
 
+# Likewise for wrong use: its first message is SAID, and its status is 2.
+misused() {
+  local name=$1 said=$2
+  shift 2
+  tool "$name" 2 '' "$@"
+  report "the message about $name" "$said" "$(head -n 1 said)"
+}
+
 # What the program writes, and its status, under a memory limit in KB.
 within() {
   local limit=$1

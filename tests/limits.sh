@@ -4,8 +4,8 @@
 #     bash tests/limits.sh >tests/limits.tsv
 # Arguments are patterns for the names of rows (limits.py list). A row fails if the status or the last line is wrong, if
 # there is a crash message, if the program takes more than 1.5 GB, or if time or memory grows faster than the work. Time
-# and memory are measured without explanations; each full row is then run once more with them. It takes ten minutes,
-# needs Python 3 and GNU time, and is not part of the gate.
+# and memory are measured without explanations; each full row is then run once more with them, which may cost little
+# more. It takes ten minutes, needs Python 3 and GNU time, and is not part of the gate.
 set -u
 top=$(cd "$(dirname "$0")/.." && pwd)
 work=$(mktemp -d)
@@ -46,16 +46,21 @@ measure() {
   [ "$peak" -le 1500000 ] || fails "$1: $peak KB"
 }
 
-# Runs the program once more on the input of the last row, with an explanation on standard error.
+# Runs the program once more on the input of the last row, with an explanation on standard error. That may take half a
+# second more than twice the time of the call.
 explain() {
-  local again peak
-  TALFT_EXPLAIN=1 sh -c 'ulimit -s 1024 && exec "$@"' sh /usr/bin/time -q -o peak -f %M timeout 900 "$program" "${row[@]:6}" \
-    <stdin >out 2>errors
+  local again peak user system took
+  TIMEFORMAT='%U %S'
+  { time TALFT_EXPLAIN=1 sh -c 'ulimit -s 1024 && exec "$@"' sh /usr/bin/time -q -o peak -f %M timeout 900 "$program" \
+    "${row[@]:6}" <stdin >out 2>errors; } 2>times
   again=$?
+  read -r user system <times
+  took=$((10#${user/./} + 10#${system/./}))
   peak=$(tail -n 1 peak)
   [ "$again" = "$status" ] || fails "explained: status $again, not $status"
   [ "$(tail -n 1 out | tr -d '\0' | cut -c1-100)" = "$said" ] || fails "explained: <$(tail -n 1 out | cut -c1-100)>, not <$said>"
   [ "$peak" -le 1500000 ] || fails "explained: $peak KB"
+  [ "$took" -le $((2 * time + 500)) ] || fails "explained: $took ms, without explanation $time ms"
 }
 
 seconds() {

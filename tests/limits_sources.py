@@ -29,6 +29,8 @@ for name, text, line in [
 for name, what, text in [("spaces", "spaces", " "), ("lines", "line feeds", "\n"), ("comment", "one comment", "#"),
                          ("comments", "comments", "#\n")]:
     source_row(name, what, MIB, "bytes", lambda n, text=text: to_length(text, n), DONE)
+source_row("examined", "256 assignments with indices, and comments", MIB, "bytes",
+           lambda n: to_length("cell a[2]=0;var v;" + "v=a[1];" * 256, 1810) + to_length("#\n", n - 1810), DONE)
 source_row("long", "bytes, one over the limit, and half of that", MIB + 1, "bytes", lambda n: " " * n,
            {c: (lambda n, c=c: (6, "source 1 1048576") if n > MIB else DONE[c](n)) for c in SOURCE_COMMANDS})
 source_row("zeros-number", "a number of zeros", MIB, "bytes", lambda n: "var x;x=" + "0" * (n - 9) + ";", DONE)

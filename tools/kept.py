@@ -7,7 +7,7 @@ import re
 import subprocess
 import tempfile
 
-from common import SITES, VERDICT, Refused, check_object, in_this_process, not_run, program, put, verdicts
+from common import SITES, VERDICT, Refused, check_object, in_this_process, not_run, program, put, verdicts, why
 from debugging.sessions import length_of_run
 from messages import named
 
@@ -32,7 +32,7 @@ def kept_in(folder):
             words = told["words"]
             return Kept(os.path.join(folder, "object"), words, told["wild"], told["asked"], told["faults"],
                         told.get("version"), told.get("began"), told.get("cut"), int(words[words.index("--steps") + 1]))
-        except (ValueError, KeyError, IndexError) as error:
+        except (ValueError, KeyError, IndexError, TypeError, AttributeError) as error:
             raise Refused(f"{named(file)}: is damaged, or was not written by `tools/campaign`") from error
 
 
@@ -108,7 +108,7 @@ def used_registers(object_file):
             raise not_run(program(), error) from error
         if done.returncode != 0:
             told = (done.stdout + done.stderr).decode("utf-8", "replace").strip()
-            raise Refused(f"{named(object_file)}: {told or 'not an object'}")
+            raise Refused(f"{named(object_file)}: {told or why(done.returncode, '')}")
         said = done.stdout
     registers, found = set(SITES[:64]), set()
     for line in said.decode("utf-8", "replace").splitlines():

@@ -3,7 +3,8 @@ import argparse
 import re
 import sys
 
-from common import is_word
+from common import is_word, see_help
+from kinds import OPTIONS, kind_of_operand
 from messages import listed, near, quoted
 
 MOST_ANSWERS = 4_096
@@ -15,6 +16,8 @@ TOLD = ((r"argument (?P<name>.*?): expected one argument", "{name} needs a value
         (r"argument (?P<name>.*?): (?P<rest>.*)", "{name}: {rest}"))
 # What other programs call the option for the output file.
 OUTPUT = "-o", "--out", "--output"
+# What the values are called that an option never takes empty: a script may have lost them.
+NEVER_EMPTY = "FILE", "DIR", "OBJECT", "SOURCE", "LIST", "NAME", "LO:HI", "STEP:SITE:WORD"
 DASHES = "\u2010\u2011\u2012\u2013\u2014\u2212"
 
 
@@ -24,6 +27,8 @@ class Once(argparse.Action):
     def __call__(self, parser, namespace, values, option_string=None):
         if option_string and self.dest in parser.given:
             parser.error(f"`{option_string}` is given twice")
+        if option_string and values == "" and (self.metavar in NEVER_EMPTY or option_string in ("-o", "--text")):
+            parser.error(f"`{option_string}` needs a value, {self.metavar}")
         parser.given.add(self.dest)
         setattr(namespace, self.dest, values)
 
@@ -32,13 +37,13 @@ class Parser(argparse.ArgumentParser):
     """Parses the arguments of a tool.
 
     `others` are prefixes of options for another program. `instead` says what to do about a surplus argument;
-    `elsewhere` says what to use here instead of options that other programs have."""
+    `elsewhere` says what to use here instead of options that other programs have; `-l*` is any that begins with `-l`."""
 
     def __init__(self, name, about, more, others=(), instead=None, elsewhere=None, **rest):
         super().__init__(prog=name, description=about, epilog=more,
                          formatter_class=argparse.RawDescriptionHelpFormatter, **rest)
         self.others, self.given, self.spare, self.instead = tuple(others), set(), set(), instead
-        self.elsewhere = elsewhere or {}
+        self.elsewhere, self.words = elsewhere or {}, []
         for action in (None, "store"):
             self.register("action", action, Once)
 
@@ -49,7 +54,7 @@ class Parser(argparse.ArgumentParser):
         return self.none_more(*self.parse_known_intermixed_args(args, namespace))
 
     def parse_known_args(self, args=None, namespace=None):
-        self.given = set()
+        self.given, self.words = set(), args
         self.check(args)
         return super().parse_known_args(args, namespace)
 
@@ -59,8 +64,47 @@ class Parser(argparse.ArgumentParser):
     def none_more(self, asked, more):
         """The parsed arguments, if none is left over."""
         if more:
-            self.error(f"unexpected argument {quoted(more[0])}" + (f": {self.instead}" if self.instead else ""))
+            self.error(self.lacks_option(more[0])
+                       or f"unexpected argument {quoted(more[0])}" + (f": {self.instead}" if self.instead else ""))
         return asked
+
+    def operands(self):
+        """The arguments that are neither options nor their values."""
+        found, is_value, only = [], False, False
+        for word in self.words:
+            if is_value:
+                is_value = False
+            elif only or word == "-" or not word.startswith("-"):
+                found.append(word)
+            elif word == "--":
+                only = True
+            else:
+                is_value = any(option == word or word[:2] == "--" and option.startswith(word)
+                               for action in self._actions if action.nargs != 0 for option in action.option_strings)
+        return found
+
+    def lacks_option(self, word, missing=None):
+        """The message about an operand whose option is missing; None if no option takes it. `missing` limits the options."""
+        kind = kind_of_operand(word)
+        action = next((action for action in self._actions if OPTIONS.get(kind) in action.option_strings), None)
+        if action is None or action.dest in self.given or (missing is not None and action.option_strings[0] not in missing):
+            return None
+        return f"{quoted(word)} is {kind}: put `{OPTIONS[kind]}` before it"
+
+    def lacks_required(self, missing):
+        """The message about required options that are missing, if an operand seems to be the value of one; else None."""
+        places = [action for action in self._actions if not action.option_strings]
+        words, missing = self.operands(), [name for name in missing if name.startswith("-")]
+        for word in words:
+            if told := self.lacks_option(word, missing):
+                return told
+        if len(missing) != 1:
+            return None
+        if any(action.nargs for action in places):
+            surplus = [word for word in words[1:] if missing == ["-o"] and word.endswith(".obj")]
+        else:
+            surplus = words[len(places):]
+        return f"missing `{missing[0]}` before {quoted(surplus[0])}" if surplus else None
 
     def options(self):
         """The names of the options."""
@@ -88,8 +132,11 @@ class Parser(argparse.ArgumentParser):
         """Refuses an unknown option, and suggests what may be meant."""
         if name in OUTPUT and not set(OUTPUT).intersection(self.options()):
             self.error(f"unknown option {quoted(name)}: {self.prog} writes to standard output: add `>FILE`")
-        if name in self.elsewhere:
-            self.error(f"unknown option {quoted(name)}: {self.elsewhere[name]}")
+        if name in ("--version", "-V"):
+            self.error(f"unknown option {quoted(name)}: `talft --version` gives the version")
+        for other, told in self.elsewhere.items():
+            if name == other or other[-1:] == "*" and name.startswith(other[:-1]):
+                self.error(f"unknown option {quoted(name)}: {told}")
         passed = f"; only {listed(self.others, 'and')} are passed on" if self.others else ""
         self.error(f"unknown option {quoted(name)}{self.meant(name) or passed}")
 
@@ -114,6 +161,8 @@ class Parser(argparse.ArgumentParser):
     def told(self, message):
         """A message of argparse, reworded."""
         if match := re.fullmatch(r"the following arguments are required: (.*)", message):
+            if told := self.lacks_required(match[1].split(", ")):
+                return told
             told = [self.told_name(name) for name in match[1].split(", ") if name not in self.spare]
             return "missing " + " and ".join(f"`{name[1:-1]} {value}`" if name[0] == "`" else name
                                              for name, value in told)
@@ -134,7 +183,7 @@ class Parser(argparse.ArgumentParser):
 
     def error(self, message):
         """Ends the tool with a message about its arguments."""
-        self.exit(2, f"{self.prog}: {self.told(message)}\n`{self.prog} --help` lists the arguments and options\n")
+        self.exit(2, f"{self.prog}: {self.told(message)}\n{see_help(self.prog)}\n")
 
 
 def wild_answers(text):
@@ -155,5 +204,6 @@ def number(least=0, most=None, step=1):
                 return found
         told = f"{least} to {most}" if most is not None else f"a whole number, at least {least}"
         told = f"a multiple of {step} from {told}" if step > 1 else told
+        told = "at most 20 digits" if most is None and re.fullmatch(r"[0-9]{21,}", text) else told
         raise argparse.ArgumentTypeError(f"invalid number {quoted(text)}: expected {told}")
     return read

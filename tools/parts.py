@@ -62,17 +62,26 @@ def remove(path):
 
 
 def digest(path):
-    """The checksum of a file, its size, and how many lines it has."""
-    found, size, lines, last = hashlib.sha256(), 0, 0, b"\n"
+    """The checksum of a file."""
+    found = hashlib.sha256()
     with open(path, "rb") as data:
         while block := data.read(1 << 20):
             found.update(block)
+    return found.hexdigest()
+
+
+def size_of(path):
+    """The size of a list, and how many lines it has."""
+    size, lines, last = 0, 0, b"\n"
+    with open(path, "rb") as data:
+        while block := data.read(1 << 20):
             size, lines, last = size + len(block), lines + block.count(b"\n"), block[-1:]
-    return found.hexdigest(), size, lines + (last != b"\n")
+    return size, lines + (last != b"\n")
 
 
-def parts_of(path, size, lines, steps, jobs):
-    """The parts of a list of this size: each fits into one call of the program, and the jobs get equal shares."""
+def parts_of(path, steps, jobs):
+    """The parts of a list: each fits into one call of the program, and the jobs get equal shares."""
+    size, lines = size_of(path)
     most = min(MOST_FAULTS, MOST_PRODUCT // steps)
     # The list is cut by bytes, so some parts have more lines than others.
     count = max(1, -(-lines * 8 // (most * 7)))

@@ -45,13 +45,16 @@ printf 'force 7\nforce 8\nagain 1\n' >lines
 tool 'the last words in the lines' 0 '' set control.obj --from lines goal=1 -o eight.obj
 report 'the cells set from lines' "$(sed 's/^goal 0$/goal 1/; s/^force 0$/force 8/' before)" \
   "$("$top/tools/set" eight.obj --list)"
+"$top/talft" compile <(echo 'cell low_high = 0; low_high = 1;') >shared.obj 2>said
+refuses 'a part of a shared word' 'set: shared.obj: unknown cell `low`; in an object made from C, `low_high` may be one word that several '\
+'variables share: set the whole word, or give each variable 8 bytes (long long) in the C text; --list lists the cells' set shared.obj low=1
 refuses 'an unknown cell' 'set: control.obj: unknown cell `gaol`; did you mean `goal`?; --list lists the cells' \
   set control.obj gaol=1
-refuses 'an invalid word' 'set: `goal`: invalid number `1x`: expected decimal digits, or hex after 0x' \
+misused 'an invalid word' 'set: `goal`: invalid number `1x`: expected decimal digits, or hex after 0x' \
   set control.obj goal=1x
-refuses 'a word that is too large' 'set: `goal`: `18446744073709551616` does not fit in 64 bits: expected -2^63 to 2^64 - 1' \
+misused 'a word that is too large' 'set: `goal`: `18446744073709551616` does not fit in 64 bits: expected -2^63 to 2^64 - 1' \
   set control.obj goal=18446744073709551616
-refuses 'a cell that is set twice' 'set: the cell `goal` is given twice' set control.obj goal=1 goal=2
+misused 'a cell that is set twice' 'set: the cell `goal` is given twice' set control.obj goal=1 goal=2
 echo x >>lines
 refuses 'an invalid line' 'set: lines:4: unexpected `x`: expected NAME VALUE, as `talft run` writes it' \
   set control.obj --from lines
@@ -69,7 +72,7 @@ tool 'a run that continues' 1 'running after 11 steps\n' ending "$five" --steps 
 tool 'a run that is struck' 1 'detected after 12 steps\n' ending "$five" --fault 4:r1:6
 refuses 'a fault that strikes nothing' 'ending: nothing was struck: the run had ended, or the queue has no such entry at that step' \
   ending "$five" --fault 4:qv0:6
-refuses 'an invalid fault' \
+misused 'an invalid fault' \
   'ending: --fault: invalid fault `4:r64:6`: expected STEP:SITE:WORD; the site `r64` is not one of '\
 'r0 to r63, d, pcg, pcb, qa0 to qa7 and qv0 to qv7' \
   ending "$five" --fault 4:r64:6
@@ -103,7 +106,7 @@ mkdir refused
 (cd "$top/tests/c" && python3 -B refusals.py "$work/refused")
 cd refused || exit 2
 said_of() {
-  refuses "the module $1" "$1.wasm: $2" wasm2asm "$1.wasm"
+  refuses "the module $1" "wasm2asm: $1.wasm: $2" wasm2asm "$1.wasm"
 }
 said_of empty 'offset 0x0: is not a WebAssembly module of version 1; give the output of wasm-ld; `cc` takes C'
 said_of text 'offset 0x0: is not a WebAssembly module of version 1; give the output of wasm-ld; `cc` takes C'

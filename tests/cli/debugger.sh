@@ -38,6 +38,14 @@ report 'the status reports a refused command' 1 "$(session "$five_text" nonsense
 report 'the line of a refused command' 'line 3: unknown command `regg`; `help` lists the commands|'\
 'line 6: missing site or word: write it as in `zap r1 6`' "$(session "$five_text" 'step 4' 'reg r1' 'regg r2' '' '# words' zap 'step 4' |
   kept '^line')"
+report 'the status before quit' '1 1 0 0' "$(for words in 'layout asm|q' 'step|foo|quit' 'step|quit' quit; do
+  tr '|' '\n' <<<"$words" | "$top/tools/debugger" "$five_text" >said; printf '%d ' $?
+done | sed 's/ $//')"
+report 'the status with quit after -c' '1 1 0' "$(for words in 'bogus|quit' 'step|bogus' 'step|quit'; do
+  "$top/tools/debugger" "$five_text" -c "${words%|*}" -c "${words#*|}" </dev/null >said; printf '%d ' $?
+done | sed 's/ $//')"
+report 'one pair of registers' '  green                   blue|~ r1  G 5                 r33 G 0|~ differs anyway|r1 G 5|d G 0|pcg G 3' \
+  "$(session "$five_text" 'step 4' 'info reg r33' 'reg r1' 'registers d pcg' | grep -E '^(  green|~|r1 |d |pcg)' | paste -sd '|')"
 report 'a refused command after -c has no line' 'unknown command `regg`; `help` lists the commands' \
   "$("$top/tools/debugger" "$five_text" -c 'regg r2' </dev/null | tail -n 1)"
 report 'no refused command' 0 "$(session "$five_text" step >said; echo $?)"
@@ -261,14 +269,14 @@ refuses 'a fault that strikes nothing' \
   'explain: --fault 4:qa0:6: nothing was struck: at step 4 the queue has no entry 0' explain "$five" --fault 4:qa0:6
 refuses 'a fault after the end' \
   'explain: --fault 14:r1:6: nothing was struck: the run ended after 14 steps' explain "$five" --fault 14:r1:6
-refuses 'a fault at an unknown site' \
+misused 'a fault at an unknown site' \
   'explain: invalid fault `4:r64:6`: expected STEP:SITE:WORD; the site `r64` is not one of '\
 'r0 to r63, d, pcg, pcb, qa0 to qa7 and qv0 to qv7' \
   explain "$five" --fault 4:r64:6
-refuses 'a negative step' \
+misused 'a negative step' \
   'explain: invalid fault `-1:r0:3`: expected STEP:SITE:WORD; invalid number `-1`: expected at least 0' \
   explain "$five" --fault -1:r0:3
-refuses 'a negative word' \
+misused 'a negative word' \
   'explain: invalid fault `4:r0:-1`: expected STEP:SITE:WORD; `-1` is out of range: expected 0 to 18446744073709551615' \
   explain "$five" --fault 4:r0:-1
 # The struck i first matters where it is added to j: then j < 30 holds for one colour only, as 24 + 16 is 40 and 24 + 2
@@ -279,7 +287,7 @@ report 'a branch that only one colour takes' 'r35 = 1: blue does not jump, so d 
 report 'a fault that is gone' \
   'gone at 702: from there on no word differs|at 4106: no word and no output differs: the fault is gone' \
   "$("$top/tools/explain" "$top/examples/sieve.src" --fault 690:r2:3 | tail -n 2 | paste -sd '|')"
-refuses 'an invalid fault' 'explain: invalid fault `4`: expected STEP:SITE:WORD, such as 4:r1:6' explain "$five" --fault 4
+misused 'an invalid fault' 'explain: invalid fault `4`: expected STEP:SITE:WORD, such as 4:r1:6' explain "$five" --fault 4
 # `explain` writes what README shows.
 report 'the path of a fault in README' '' "$(sed -n '/^\$ tools\/explain/,/^```/p' "$top/README.md" | sed '1d; $d' |
   diff - <("$top/tools/explain" "$fibonacci" --fault 296:r32:7))"

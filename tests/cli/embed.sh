@@ -1,16 +1,22 @@
 # The C library, from the archive that the gate proved: the loader compared with the command, the task, Python, and C++.
 library=$top/crates/ft_c/out/library
 embed=(-std=c99 -Wall -Wextra -Werror -pedantic -O2 -I"$top/include")
+library_made='`make library` makes crates/ft_c/out/library/libtalft.so: install it, or name it in TALFT_LIBRARY'
 # Without the library, Python's module cannot be imported either.
 imported() { TALFT_LIBRARY=$1 PYTHONPATH=$top/embed python3 -B -c 'import talft' 2>&1 | tail -n 1; }
 [ -e "$top/embed/libtalft.so" ] || ldconfig -p | grep -q libtalft.so || report 'no library for Python' \
-  'ImportError: libtalft.so not found: build or install it, or set TALFT_LIBRARY' "$(imported '')"
+  "ImportError: libtalft.so not found: $library_made" "$(imported '')"
 report 'a missing library' \
-  "ImportError: $work/none.so not found: build or install it, or set TALFT_LIBRARY" "$(imported "$work/none.so")"
+  "ImportError: $work/none.so not found: $library_made" "$(imported "$work/none.so")"
 echo text >"$work/text.so"
 report 'an invalid library' \
-  "ImportError: $work/text.so not loaded ($work/text.so: file too short): build or install it, or set TALFT_LIBRARY" \
-  "$(imported "$work/text.so")"
+  "ImportError: $work/text.so is not a shared library: $library_made" "$(imported "$work/text.so")"
+report 'a script as the library' "ImportError: $top/embed/talft.py is not a shared library: $library_made" \
+  "$(imported "$top/embed/talft.py")"
+report 'another library' "ImportError: libc.so.6 is not libtalft.so, or an old one: $library_made" "$(imported libc.so.6)"
+report 'a folder as the library' "ImportError: $work is a folder: $library_made" "$(imported "$work")"
+report 'a library without its folder' "ImportError: text.so not found: write its whole path: $library_made" \
+  "$(cd "$work" && imported text.so)"
 if has cc 'the C library' && has ar 'the C library'; then
   report 'the C library is made' 0 "$(bash "$top/build/library.sh" >embed.said 2>&1; echo $?)"
   report 'the symbols that the shared library exports' "$(sed -n 's/^\(uint32_t\|void\) \(talft_[a-z_]*\)(.*/\2/p' "$top/include/talft.h" |
@@ -71,6 +77,9 @@ run(five, fault='4:r1:6', wild='z')|ValueError: invalid fault or answers: fault 
 run(five, fault='99:r1:6', steps=9)|
 check('five.obj')|TypeError: expected the object's bytes, not a file name
 check(__import__('pathlib').Path('five.obj'))|TypeError: expected the object's bytes, not a file name
+run(open('embed_step.obj'))|TypeError: expected the object's bytes, not an open file: `.read()` it, opened with 'rb'
+check(open('embed_step.obj', 'rb'))|TypeError: expected the object's bytes, not an open file: `.read()` it, opened with 'rb'
+compile(open('embed_map'))|TypeError: expected bytes or a text, not an open file: `.read()` it
 recover('five.obj')|TypeError: expected the object's bytes, not a file name
 disassemble('five.obj')|TypeError: expected the object's bytes, not a file name
 upgrade('five.obj')|TypeError: expected the object's bytes, not a file name

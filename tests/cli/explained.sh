@@ -87,7 +87,13 @@ explained 'no arguments' 2 'usage\n' "$(printf 'talft: error: missing command\n'
 while read -r command; do
   explained "help on $command" 2 'usage\n' "$(help_of "$command")\n" help "$command"
 done < <(sed -n 's/^    talft \([a-z]*\) .*/\1/p' "$top/docs/COMMANDS.md")
-report 'the commands of the help' "$(sed -n 's/^    talft /usage: talft /p' "$top/docs/COMMANDS.md" | sed 's/ <SCRIPT//')" \
+while read -r option; do
+  explained "help on $option" 2 'usage\n' "$(help_of "$option")\n" help "$option"
+  explained "help on ${option#--}" 2 'usage\n' "$(help_of "$option")\n" help "${option#--}"
+done < <(sed -n 's/^| `\(--[a-z]*\) .*/\1/p' "$top/docs/COMMANDS.md")
+report 'the help on an option' "talft $(cat "$top/VERSION")|  --turns N                 run at most N loop iterations: \
+0 to 1000000000 (default 1000000)||taken by \`mean\`||more: \`talft help COMMAND\`, \`man talft\`" "$(help_of --turns | paste -sd '|')"
+report 'the commands of the help' "$(sed -n 's/^    talft /usage: talft /p' "$top/docs/COMMANDS.md")" \
   "$(sed -n 's/^    talft \([a-z]*\) .*/\1/p' "$top/docs/COMMANDS.md" | while read -r command; do help_of "$command" | sed -n 2p; done)"
 mkdir -p bare/crates/ft_mistakes/src && cp "$top/talft" "$top/VERSION" "$top/crates.txt" "$top/HANDLES" bare && cp -r "$top/build" bare &&
   cp "$top/crates/ft_mistakes/src/forms.rt" bare/crates/ft_mistakes/src
@@ -138,7 +144,7 @@ printf 'module said-count.obj\nmodule unlike.obj\n' >cells.map
 "$top/talft" dis five.obj | sed 's/^cell out int 0/cell other int 0/' >unlike.asm
 "$top/talft" asm unlike.asm >unlike.obj 2>errors
 explained 'a module with other cells' 13 'link 3 1\n' \
-  'unlike.obj: error: its cells differ from those of the first module\n  cell 0 has a different name, type or initial word\n' link cells.map
+  'unlike.obj: error: its cells differ from those of the first module\n  cell 0, `other`, has a different name, type or initial word: declare the same cells, in the same order and with the same initial words, in each module\n' link cells.map
 printf 'module said-count.obj\nexport a 1\nimport b 1\n' >named.map
 explained 'a block named twice' 13 'link 2 3\n' \
   'named.map:3:1: error: this block is already exported or imported\n import b 1\n ^~~~~~~~~~\n  line 2 names this block\n' link named.map
@@ -265,7 +271,7 @@ done <<'END'
 cell out = 0;\nout := 5;|2:5: error: unexpected character `:`: write `=` to assign
 cell out = 0;\nout = 2 ** 3;|2:10: error: unexpected `*`: there is no power operator: multiply
 cell a[3] = 0;\nvar i;\na[i++] = 3;|3:5: error: unexpected `+`: write it as a separate statement, as in `a = a + 1;`
-cell a[3] = {1, 2};|1:15: error: unexpected character `,`: all cells of an array have the same initial value
+cell a[3] = {1, 2};|1:15: error: unexpected character `,`: all cells of an array have the same initial value: write `= 0`, and assign the others, as in `a[1] = 3;`
 cell a = 0, b = 0;|1:11: error: unexpected character `,`: there are no lists: each name has its own declaration, as in `var a; var b;`
 cell out = 0;\nout = out + 1);|2:14: error: unexpected `)`: no matching `(`
 cell out = 0;\nout = 5;;|2:9: error: unexpected `;`: there are no empty statements
@@ -350,9 +356,9 @@ while IFS='|' read -r words message; do
 done <<'END'
 compile five.src -o five.obj|talft: error: unknown option `-o` for `compile`: it writes to standard output: add `>FILE`
 check five.obj mixed.obj|talft: error: unexpected argument `mixed.obj` after OBJECT: give only one OBJECT
-link five.obj mixed.obj|talft: error: unexpected argument `mixed.obj` after MAP: a link map is a text with a line `module FILE` for each object
+link five.obj mixed.obj|talft: error: unexpected argument `mixed.obj` after MAP: `link` takes one MAP, a text with a line `module FILE` for each object, and writes to standard output
 campaign five.obj five.faults|talft: error: unexpected argument `five.faults` after OBJECT: the fault list comes after `--faults`
-debug five.obj step 4|talft: error: unexpected argument `step` after OBJECT: commands come from standard input
+debug five.obj step 4|talft: error: unexpected argument `step` after OBJECT: commands come from standard input: put `<` before the script's name
 run -- five.obj|talft: error: unexpected `--`: OBJECT comes right after the command
 version|talft: error: unknown command `version`; did you mean `--version`?
 compile program.c|program.c: error: this is a C program, not a source: `tools/cc FILE -o OBJECT` makes an object
@@ -454,7 +460,7 @@ standard input:4:1: error: invalid command: expected `reg R`
 report 'the message about a script' "0 $said_of_script" "$? $(cat said)"
 report 'what it writes' "$(printf 'at 1 running\nbad command\nbad command\nbad command')" "$(cat with)"
 cat wrong.script | "$top/talft" debug five.obj >with 2>said
-report 'the message about a script from a pipe' '0 standard input: error: the last line is not a command: the commands are' \
+report 'the message about a script from a pipe' '0 standard input: error: a line is not a command: the commands are' \
   "$? $(cut -d '`' -f 1 said | sed 's/ $//')"
 
 # Commands of other debuggers, and words separated by a tab or two spaces.
@@ -538,7 +544,7 @@ report 'a full device, explained' "4 talft: error: the output could not be writt
 report 'a closed standard output, explained' '4 talft: error: the output could not be written: standard output is closed' "$? $(cat said)"
 "$top/talft" check missing >/dev/null 2>&-
 report 'standard error that is closed' 3 $?
-report 'standard error that is a pipe' 'missing: error: no such file' "$("$top/talft" check missing 2>&1 | cat)"
+report 'standard error that is a pipe' 'absent: error: no such file' "$("$top/talft" check absent 2>&1 | cat)"
 
 explained 'an argument that is not UTF-8' 2 'usage\n' 'talft: error: an argument is not UTF-8 text\n' check $'\xff'
 

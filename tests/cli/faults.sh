@@ -43,20 +43,20 @@ done
 tool 'a run that is cut' 0 '5:r0:1\n' faults "$five" --most 6 --steps 5: --sites r0 --values 1
 report 'the message about a run that is cut' 'faults: the run has not ended after 6 steps: raise --most to strike later ones' "$(head -n 1 said)"
 
-refuses 'an unknown site' \
+misused 'an unknown site' \
   'faults: --sites: unknown site `r64`: the sites are r0 to r63, d, pcg, pcb, qa0 to qa7 and qv0 to qv7' \
   faults "$five" --sites r0,r64
-refuses 'a range of sites across kinds' 'faults: --sites: invalid site `d-r3`: expected a list such as r0-r3,d' \
+misused 'a range of sites across kinds' 'faults: --sites: invalid site `d-r3`: expected a list such as r0-r3,d' \
   faults "$five" --sites d-r3
-refuses 'a descending range of sites' \
+misused 'a descending range of sites' \
   'faults: --sites: the range `r9-r2` is empty: write the smaller number first' faults "$five" --sites r9-r2
-refuses 'an invalid bit' 'faults: --flip: invalid bit in `64`: the bits of a word are 0 to 63' \
+misused 'an invalid bit' 'faults: --flip: invalid bit in `64`: the bits of a word are 0 to 63' \
   faults "$five" --flip 64
-refuses 'an invalid word' \
+misused 'an invalid word' \
   'faults: --values: invalid number `18446744073709551616`: expected decimal numbers below 2^64, separated by commas' \
   faults "$five" --values 18446744073709551616
-refuses '--values with --flip' 'faults: --values and --flip cannot be combined' faults "$five" --values 1 --flip 1
-refuses 'an invalid range of steps' \
+misused '--values with --flip' 'faults: --values and --flip cannot be combined' faults "$five" --values 1 --flip 1
+misused 'an invalid range of steps' \
   'faults: --steps: invalid range `3`: expected FIRST:LAST or FIRST:LAST:EVERY, such as 4:5 for step 4 alone' \
   faults "$five" --steps 3
 refuses 'steps after the end' \

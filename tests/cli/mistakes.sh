@@ -27,7 +27,7 @@ while IFS='|' read -r status words message; do
 done <<END
 2|build|build: missing FILE
 2|build five.asm --uncheked|build: unknown option \`--uncheked\`; did you mean \`--unchecked\`?
-2|build five.asm one.src|build: unexpected argument \`one.src\`: the object's name comes after \`-o\`
+2|build five.asm one.src|build: unexpected argument \`one.src\`: give one file at a time; to put modules together, build each, and give a link map
 2|debugger five.obj list|debugger: unexpected argument \`list\`: commands come after \`-c\`, or from standard input
 2|debugger five.asm -x e1|debugger: unknown option \`-x\`: commands come after \`-c\`, or from standard input
 2|debugger -ex run five.asm|debugger: unknown option \`-ex\`: commands come after \`-c\`, or from standard input
@@ -56,14 +56,14 @@ done <<END
 2|campaign five.obj --faults list --wild 5,z|campaign: \`--wild\`: invalid answers \`5,z\`: expected at most 4096 parts separated by commas, each a number or \`stop\`
 1|campaign five.obj --faults list --dir list|campaign: --dir: list: is a file; give a folder, or the name of a new one
 1|campaign five.obj --faults list --dir kept|campaign: kept/campaign.json: is damaged: remove the folder
-1|campaign five.obj --faults list --hosts a|campaign: --hosts needs --engine parallel
+2|campaign five.obj --faults list --hosts a|campaign: --hosts needs --engine parallel
 1|campaign five.asm --faults list|campaign: five.asm: is an assembly text; \`talft asm\` turns it into an object
 1|campaign empty --faults list|campaign: empty: is empty; expected an object
 1|campaign five.obj --faults bad --dir bad.kept|campaign: bad:2: invalid fault \`4:r64:6\`: expected STEP:SITE:WORD; the site \`r64\` is not one of $five_sites
-1|campaign five.obj --faults five.obj --dir object.kept|campaign: five.obj:1: invalid fault \`TALFT\\x00\\x00\\x01\\x00\\x00\\x00\\x01\\x00\\x00\\x00\\x01\\x00\\x00..\`: expected STEP:SITE:WORD; this is an object
+1|campaign five.obj --faults five.obj --dir object.kept|campaign: five.obj: is an object; expected a fault list
 1|faults nosuch.obj|faults: nosuch.obj: no such file
 1|faults one.src|faults: one.src: is a source; \`talft compile\` turns it into an object
-1|faults list|faults: list: is not an object; \`talft compile\`, \`talft asm\` and \`cc\` make objects
+1|faults list|faults: list: is a fault list; expected an object
 2|faults five.obj --sample -1|faults: \`--sample\`: invalid number \`-1\`: expected a whole number, at least 0
 2|faults five.obj --sample 1 --sample 2|faults: \`--sample\` is given twice
 1|faults five.obj --about five.obj|faults: five.obj: is an input; give the output another name
@@ -76,8 +76,8 @@ done <<END
 1|faults five|faults: five: no such file; did you mean \`five.obj\` or \`five.asm\`?
 1|build five.asm -o five.obj/x/y|build: five.obj/x/y: \`five.obj\` is not a folder
 1|build nofolder/a/b.src|build: nofolder/a/b.src: there is no folder \`nofolder\`
-1|plot lines --out x.jpg|plot: --out: x.jpg: a picture is SVG or PNG: expected a name that ends in .svg or .png
-1|report lines --object five.obj --out x.pdf|report: --out: x.pdf: the page is HTML: expected a name that ends in .html
+2|plot lines --out x.jpg|plot: --out: x.jpg: a picture is SVG or PNG: expected a name that ends in .svg or .png
+2|report lines --object five.obj --out x.pdf|report: --out: x.pdf: the page is HTML: expected a name that ends in .html
 2|set out=5 five.obj|set: missing OBJECT before \`out=5\`
 1|plot nosuch|plot: nosuch: no such file
 1|plot folder|plot: folder: is a folder; give a file with the standard output of \`campaign\`
@@ -89,10 +89,10 @@ done <<END
 1|plot twice|plot: twice:3: unexpected \`4:r1:6 detected 11\` after the totals; give one file for each campaign
 1|plot cut|plot: cut:2: missing last line \`faults ..\`, with the totals: the file is incomplete
 1|plot lines --out nofolder/x|plot: nofolder/x.png: there is no folder \`nofolder\`
-1|plot lines --out .|plot: --out: .: expected a file name
+2|plot lines --out .|plot: --out: .: expected a file name
 1|plot lines --dir folder|plot: --dir: folder: holds no campaign (no campaign.json); give the folder that \`tools/campaign\` made, or the object with --object
-1|plot lines --dir kept --object five.obj|plot: --dir and --object cannot be combined
-1|plot lines --object list|plot: list: is not an object; \`talft compile\`, \`talft asm\` and \`cc\` make objects
+2|plot lines --dir kept --object five.obj|plot: --dir and --object cannot be combined
+1|plot lines --object list|plot: list: is a fault list; expected an object
 1|report lines --dir .|report: --dir: .: holds no campaign (no campaign.json); give the folder that \`tools/campaign\` made, or the object with --object
 1|report lines --dir nosuch|report: --dir: nosuch: no such folder; give the folder that \`tools/campaign\` made
 1|report lines --dir list|report: --dir: list: is not a folder; give the folder that \`tools/campaign\` made
@@ -104,7 +104,7 @@ done <<END
 2|explain five.obj|explain: missing \`--fault STEP:SITE:WORD\`
 1|explain folder --fault 4:r1:6|explain: folder: is a folder
 1|explain empty --fault 4:r1:6|explain: empty: is empty; expected an object, an assembly text or a source
-1|explain five.obj --fault 4:r1|explain: invalid fault \`4:r1\`: expected STEP:SITE:WORD, such as 4:r1:6
+2|explain five.obj --fault 4:r1|explain: invalid fault \`4:r1\`: expected STEP:SITE:WORD, such as 4:r1:6
 1|explain five.obj --fault 4:r1:6 --steps 3|explain: --fault 4:r1:6: nothing was struck: the run was cut after 3 steps: raise --steps
 1|lines five.asm|lines: five.asm: is an assembly text, not a source; give the source, and the object with --object
 1|debugger nosuch|debugger: nosuch: no such file
@@ -113,25 +113,25 @@ done <<END
 2|dap --port 70000|dap: \`--port\`: invalid number \`70000\`: expected 0 to 65535
 2|ending five.obj --steps ten|ending: \`--steps\`: invalid number \`ten\`: expected a whole number, at least 1
 1|ending five.obj --fault 40:r1:1 --steps 20|ending: --fault: step 40 is not within the 20 steps of the run: raise --steps
-1|ending five.obj --fault 4,r1,6|ending: --fault: invalid fault \`4,r1,6\`: expected STEP:SITE:WORD; its parts are separated by \`:\`
-1|ending five.obj --fault r1:4:6|ending: --fault: invalid fault \`r1:4:6\`: expected STEP:SITE:WORD; the step comes first, then the site
-1|ending five.obj --fault 4:R1:6|ending: --fault: invalid fault \`4:R1:6\`: expected STEP:SITE:WORD; write sites in lower case, as \`r1\`
+2|ending five.obj --fault 4,r1,6|ending: --fault: invalid fault \`4,r1,6\`: expected STEP:SITE:WORD; its parts are separated by \`:\`
+2|ending five.obj --fault r1:4:6|ending: --fault: invalid fault \`r1:4:6\`: expected STEP:SITE:WORD; the step comes first, then the site
+2|ending five.obj --fault 4:R1:6|ending: --fault: invalid fault \`4:R1:6\`: expected STEP:SITE:WORD; write sites in lower case, as \`r1\`
 1|ending five.obj --text nosuch|ending: nosuch: no such file
 1|ending five.obj --text other.asm|ending: --text: other.asm: is not the text of five.obj; give the one that \`cc --text\` wrote for it
 1|ending five.obj --text other.obj|ending: other.obj: error: this is an object, not an assembly text: \`talft dis FILE\` writes its assembly text
 1|set five.obj --from lines -o lines|set: lines: is an input; give the output another name
 2|set|set: missing OBJECT
 2|set five.obj|set: missing NAME=WORD, \`--from FILE\` or \`--list\`
-1|set five.obj out|set: invalid argument \`out\`: expected NAME=WORD
-1|set five.obj =3|set: invalid argument \`=3\`: expected NAME=WORD
+2|set five.obj out|set: invalid argument \`out\`: expected NAME=WORD
+2|set five.obj =3|set: invalid argument \`=3\`: expected NAME=WORD
 1|set five.obj ou=1|set: five.obj: unknown cell \`ou\`; did you mean \`out\`?; --list lists the cells
 1|set empty out=1|set: empty: is empty; expected an object
 2|wasm2asm|wasm2asm: missing MODULE.wasm
 1|wasm2asm folder|wasm2asm: folder: is a folder
-1|wasm2asm one.c|one.c: offset 0x0: is not a WebAssembly module of version 1; give the output of wasm-ld; \`cc\` takes C
+1|wasm2asm one.c|wasm2asm: one.c: offset 0x0: is not a WebAssembly module of version 1; give the output of wasm-ld; \`cc\` takes C
 2|cc|cc: missing FILE and \`-o OBJECT\`
 2|cc one.c -o x.obj --stack 7|cc: \`--stack\`: invalid number \`7\`: expected a multiple of 16 from 16 to 65536
-2|cc one.c -o x.obj -lm|cc: unknown option \`-lm\`; only \`-O\`, \`-I\`, \`-D\`, \`-U\`, \`-W\`, \`-f\`, \`-g\`, \`-m\`, \`-std=\` and \`-w\` are passed on
+2|cc one.c -o x.obj -lm|cc: unknown option \`-lm\`: there are no libraries; this \`cc\` makes talft objects; for a program of this machine use gcc or /usr/bin/cc
 2|cc one.c -o x.obj --stak 16|cc: unknown option \`--stak\`; did you mean \`--stack\`?
 1|cc one.c one.c -o x.obj|cc: one.c: is given twice
 1|cc one.c -o nofolder/x.obj|cc: nofolder/x.obj: there is no folder \`nofolder\`
@@ -170,6 +170,9 @@ refuses_clang string 'there is no C library: do without `string.h`; declare `mem
 refuses_clang mine '`mine.h` is not found: give its folder with -I'
 refuses_clang symbols \
   '`printf` and `exit` are not defined: add the C file that defines them, or do without: there is no C library (docs/C.md)'
+printf 'wasm-ld: error: /tmp/a.o: undefined symbol: puts\n' >puts
+refuses_clang puts '`puts` is not defined: add the C file that defines it, or do without: there is no C library (docs/C.md); '\
+'clang calls `puts` for some calls of `printf`'
 refuses_clang linker 'the linker wasm-ld is not found: install lld'
 echo 'clang: error: unable to make temporary file: No such file or directory' >unable
 CLANG=$PWD/clang CLANG_SAYS=$PWD/unable TMPDIR=/nonexistent refuses 'a missing TMPDIR' \
@@ -187,12 +190,20 @@ if has clang 'the functions of a C file' && has wasm-ld 'the functions of a C fi
     cc two.c --entry fooo -o x.obj
   refuses 'an entry with a parameter' \
     'cc: two.c: function step: offset 0x38: the entry takes 1 parameter; no arguments can be passed: name a function '\
-'without parameters, such as `int main(void)`' \
+'without parameters, such as `int main(void)`; inputs are global variables' \
     cc two.c --entry step -o x.obj
   printf 'volatile int x;\nint main(int argc, char **argv) { x = argc; return 0; }\n' >main.c
   refuses 'a main with arguments' \
     'cc: main.c: function main: offset 0x46: the entry takes 2 parameters; no arguments can be passed: name a function '\
-'without parameters, such as `int main(void)`' cc main.c -o x.obj
+'without parameters, such as `int main(void)`; inputs are global variables' cc main.c -o x.obj
+  printf 'volatile double x = 2.0, y;\nvoid run(void) { y = __builtin_sqrt(x); }\n' >root.c
+  refuses 'a square root' 'cc: root.c: function run: offset 0x42: a floating-point instruction (f64.sqrt); compiler-rt has no square root: '\
+'write it with + - * / and comparisons, or use integers' cc root.c -o x.obj
+  printf 'volatile double x = 2.0, y;\nvoid run(void) { y = x * 3; y = __builtin_floor(y); }\n' >down.c
+  refuses 'rounding' 'cc: down.c: function run: offset 0x5e: a floating-point instruction (f64.floor); compiler-rt has no rounding: '\
+'write it with + - * / and comparisons, or use integers' cc down.c -o x.obj
+  clang --target=wasm32 -c -O2 one.c -o one.o
+  tool 'an object of clang' 0 '' cc one.o -o of_clang.obj
   printf 'volatile int x;\nvoid run(void) { while (1) x = x + 1; }\n' >endless.c
   tool 'an endless C program' 0 '' cc endless.c --steps 1000 -o endless.obj
   report 'the message about an endless C program' \
@@ -213,11 +224,11 @@ fi
 refuses 'a name with an escape' 'debugger: a\x1b[31mb: no such file' debugger $'a\e[31mb'
 refuses 'a name with a line feed' 'plot: a\nb: no such file' plot $'a\nb'
 refuses 'a name that is not UTF-8' 'faults: a\xffb: no such file' faults $'a\xffb'
-refuses 'an empty list of words' 'faults: --values: invalid number ``: expected decimal numbers below 2^64, separated by commas' \
+misused 'an empty list of words' 'faults: --values: invalid number ``: expected decimal numbers below 2^64, separated by commas' \
   faults five.obj --values ''
 refuses 'an empty name' 'ending: an empty file name: no such file' ending ''
 long=$(printf 'r%.0s' {1..5000})
-refuses 'a long site' "faults: --sites: unknown site \`${long:0:58}..\`: the sites are $five_sites" \
+misused 'a long site' "faults: --sites: unknown site \`${long:0:58}..\`: the sites are $five_sites" \
   faults five.obj --sites "$long"
 refuses 'a name that is too long' "build: ${long:0:99}..${long:0:99}: the name is too long" build "$long"
 report 'an escape at the prompt' 'line 1: invalid number `\x1b[31m`: expected decimal digits, or hex as 0x10' \
@@ -237,6 +248,16 @@ for row in 'stepp|unknown command `stepp`; did you mean `step`?; `help` lists th
   'delete 7|no breakpoint or watch has the number 7: `info breaks` lists them' 'source nosuch|nosuch: no such file' \
   'source folder|folder: is a folder' 'zap r1|missing site or word: write it as in `zap r1 6`' \
   'zap r1 = 6|write `zap r1 6`, without `=`' 'zap r1=6|write `zap r1 6`, without `=`' 'flip r1 =0|write `flip r1 0`, without `=`' \
+  'set var out=5|unknown command `set`: `zap` changes a word in a register: a strike; cells cannot be changed (tools/set changes their initial words)' \
+  'layout asm|unknown command `layout`: `debugger FILE --tui` shows a full screen' \
+  'start|unknown command `start`: `run` goes to the start' 'kill|unknown command `kill`: `run` goes to the start, `quit` ends' \
+  'up|unknown command `up`: `where` shows the place; there are no calls' \
+  'down|unknown command `down`: `where` shows the place; there are no calls' \
+  'x/4xw out|unknown format `/xw`: all words have 64 bits: leave out the `w`, as in `x/4x out`' \
+  'info registers foo|unknown register `foo`: expected r0 to r63, d, pcg, pcb or `all`' \
+  'info reg out|unknown register `out`: expected r0 to r63, d, pcg, pcb or `all`' \
+  'info reg $r1|`$r1`: names have no `$` here: write `r1`' 'registers all r1|unexpected argument `r1`' \
+  'plan r1:4:6|invalid fault `r1:4:6`: expected STEP:SITE:WORD; the step comes first, then the site' \
   'zap r1=|missing site or word: write it as in `zap r1 6`' 'zap r1 6 = 7|unexpected argument `=`'; do
   report "the command ${row%%|*}" "line 1: ${row#*|}" "$(echo "${row%%|*}" | "$top/tools/debugger" five.obj 2>&1 | tail -n 1)"
 done

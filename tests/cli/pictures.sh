@@ -80,7 +80,7 @@ echo 'faults 0 masked 0 detected 0 idle 0 corrupt 0' >none.lines
 refuses 'a campaign without a fault' 'plot: none.lines: has no faults to draw: its campaign had an empty list' \
   plot none.lines
 refuses 'a missing file' 'plot: absent: no such file' plot absent
-refuses 'a page without an object' \
+misused 'a page without an object' \
   'report: missing object: give `--dir DIR`, the folder that `tools/campaign` made, or `--object OBJECT`' report few.lines
 refuses 'a page of truncated lines' \
   'report: cut.lines:6: missing last line `faults ..`, with the totals: the file is incomplete' \
@@ -117,12 +117,12 @@ index 14, line 4)" \
   report 'the path of its slow fault' 1 "$(grep -c 'the strike 60:r4:1' lined.html)"
 fi
 
-# The commands in docs/TOOLS.md, run as a reader would. They print nothing but their progress.
+# The commands in docs/TOOLS.md, run as a reader would. They print only their progress and what they wrote.
 if command -v gnuplot >/dev/null; then
   mkdir reader
   ln -s "$top/talft" "$top/tools" "$top/tests" "$top/examples" reader
   awk '/^```/ { inside = !inside; next } inside' "$top/docs/TOOLS.md" >reader/commands
-  report 'the messages of the commands in docs/TOOLS.md' '' "$(cd reader && bash commands 2>&1 | grep -v '^faults: [0-9]\|^campaign: [0-9]')"
+  report 'the messages of the commands in docs/TOOLS.md' '' "$(cd reader && bash commands 2>&1 | grep -v '^faults: [0-9]\|^campaign: [0-9]\|: wrote ')"
   count=$(grep -o 'has [0-9,]* faults' "$top/docs/TOOLS.md" | tr -dc 0-9)
   report 'the number of faults in docs/TOOLS.md' "$count" "$(grep -c : reader/lines)"
   report 'the pictures that these commands draw' 'both.png both.svg fibonacci.html fibonacci.png fibonacci.svg' \

@@ -179,6 +179,36 @@ done <<'END'
 2^mean fibonacci.src --steps 4^^talft: error: unknown option `--steps` for `mean`: it is an option of `run`, `recover`, `exec`, `trial`, `campaign` and `survey`; `mean` takes `--turns`
 2^run five.obj --turns 4^^talft: error: unknown option `--turns` for `run`: it is an option of `mean`; `run` takes `--steps`, `--fault` and `--wild`
 2^campaign five.obj --fault 4:r1:6^^talft: error: unknown option `--fault` for `campaign`: it is an option of `run`, `recover` and `trial`; `campaign` takes `--steps`, `--wild` and `--faults`
+2^compile fibonacci.src fibonacci.obj^^talft: error: unexpected argument `fibonacci.obj` after SOURCE: give only one SOURCE; to write to a file, add `>FILE`
+2^dis five.obj five.asm^^talft: error: unexpected argument `five.asm` after OBJECT: give only one OBJECT; to write to a file, add `>FILE`
+2^check five.obj mixed.obj^^talft: error: unexpected argument `mixed.obj` after OBJECT: give only one OBJECT
+2^run five.obj 4:r1:6^^talft: error: unexpected argument `4:r1:6` after OBJECT: put `--fault` before a fault
+2^run five.obj 100^^talft: error: unexpected argument `100` after OBJECT: put `--steps` before the number of steps
+2^exec five.src 100^^talft: error: unexpected argument `100` after SOURCE: put `--steps` before the number of steps
+2^mean fibonacci.src 100^^talft: error: unexpected argument `100` after SOURCE: put `--turns` before the number of turns
+2^check five.obj 100^^talft: error: unexpected argument `100` after OBJECT: give only one OBJECT
+2^trial five.obj five.faults^^talft: error: unexpected argument `five.faults` after OBJECT: `talft campaign OBJECT --faults FILE` tries each fault of a list
+2^survey five.obj 4:r1:6^^talft: error: unexpected argument `4:r1:6` after OBJECT: `--faults` takes a FILE with one fault per line
+6^mean got^3\n4\n^got:1:1: error: unexpected `3`: a source has declarations, such as `cell a = 0;`, and then statements, such as `a = 1;`
+6^compile got^var x;\nx = 1;\n3 + 4;\n^got:3:1: error: unexpected `3`: a statement is an assignment, a `while`, or an `if` with or without `else`
+0^exec got^cell a = 0;\nvar x;\nx = 50;\nif (10 < x & x < 20) { a = 1; }\n^got:4:16: note: `&`, `|` and `^` bind more tightly than `<` and `==`: write `(a < b) & (c == d)` to test both
+0^exec got^cell a = 0;\nvar x;\nif (x == 1 & a == 2) { a = 7; } else { a = 8; }\n^got:3:16: note: `&`, `|` and `^` bind more tightly than `<` and `==`: write `(a < b) & (c == d)` to test both
+0^mean got^cell a = 0;\na = a < 1 | a == 2;\n^got:2:15: note: `&`, `|` and `^` bind more tightly than `<` and `==`: write `(a < b) & (c == d)` to test both
+0^exec got^cell a = 0;\na = a == 0 == 1;\n^got:2:12: note: this compares the result of the `==` before it, which is 0 or 1; write `(a == b) & (b == c)` to test both
+0^exec got^cell a = 0;\na = 1 < 2 < 3;\n^got:2:11: note: this compares the result of the `<` before it, which is 0 or 1; write `(a < b) & (b < c)` to test both
+0^mean got^cell a = 0;\nvar x;\nx = 3;\nif (x < 0) { a = 1; } else { a = 2; }\n^got:4:9: note: this is always 0: words have no sign, so none is below 0; compare before you subtract
+0^exec got^cell b[3] = 0;\ncell a = 0;\na = b[0 - 1];\n^got:3:7: note: `b` has 3 cells: the index 18446744073709551615 selects cell 0
+0^exec got^cell b[3] = 0;\nb[0 - 0] = 1;\nb[1 - 1] = 1;\n^
+0^exec got^cell a = 0;\nvar x;\na = (1 < x) & (x < 3) == (0 < x);\na = 1 < x == x < 3;\n^
+12^asm got^entry 0\ncell a int 0\n^got:2:1: error: nothing may follow `entry`, which is line 1: move that line to the end
+7^run got^source 7 20\na.src:2:7: error: `totl` is not declared\n out = totl;\n^got: error: this is output of `talft`, not an object: the call that wrote it was refused, or writes no object
+3^compile fibonacci^^fibonacci: error: no such file; there is `fibonacci.src`
+2^debug five.obj five.script^^talft: error: unexpected argument `five.script` after OBJECT: commands come from standard input: put `<` before the script's name
+2^link got out.obj^^talft: error: unexpected argument `out.obj` after MAP: `link` takes one MAP, a text with a line `module FILE` for each object, and writes to standard output
+6^mean got^out 5\nout 8\n^got: error: this is output of `talft`, not a source
+7^check got^accepted\n^got: error: this is output of `talft`, not an object: the call that wrote it was refused, or writes no object
+7^run got^check block 0 index 3 premise 5\n^got: error: this is output of `talft`, not an object: the call that wrote it was refused, or writes no object
+11^campaign five.obj --faults got^out 5\n^got: error: this is output of `talft`, not a fault list
 2^check five.obj -o x^^talft: error: unknown option `-o` for `check`: it writes to standard output: add `>FILE`
 2^check^^talft: error: missing OBJECT after `check`; for standard input write `/dev/stdin`
 2^debug^^talft: error: missing OBJECT after `debug`
@@ -203,6 +233,30 @@ for tool in build cc dap debugger ending explain faults lines plot report set wa
   report "the script $tool" '' "$(ls "$top/tools/$tool" "$top/man/talft-$tool.1" 2>&1 >/dev/null)"
 done
 
+# Where the cells and blocks of an object begin.
+sed 's/1048576 ref:int/1048584 ref:int/' "$top/examples/five.asm" >got
+"$top/talft" asm got >got.obj 2>said
+report 'an address without a cell' '  no cell has the address 1048584: the only cell is at 1048576' \
+  "$("$top/talft" check got.obj 2>&1 >answer | tail -n 1)"
+{ echo 'cell more int 0'; cat got; } >got.two
+"$top/talft" asm got.two >got.obj 2>said
+report 'an address without one of two cells' '  no cell has the address 1048584: the cells are at 1048576 to 1048577, one address each' \
+  "$("$top/talft" check got.obj 2>&1 >answer | tail -n 1)"
+sed 's/ 7 code:1/ 8 code:1/' "$top/examples/loop.asm" >got
+"$top/talft" asm got >got.obj 2>said
+report 'a code address without a block' '  no block begins at the code address 8; block 1, of code type 1, begins at 7' \
+  "$("$top/talft" check got.obj 2>&1 >answer | tail -n 1)"
+sed 's/ 7 code:1/ 7 code:0/' "$top/examples/loop.asm" >got
+"$top/talft" asm got >got.obj 2>said
+report 'a block of another code type' '  block 1, at 7, has code type 1' "$("$top/talft" check got.obj 2>&1 >answer | tail -n 1)"
+cat five.obj five.obj >got
+report 'two objects in one file' '  another object follows its end: `talft link MAP` joins objects, and `cat` does not' \
+  "$("$top/talft" check got 2>&1 >answer | tail -n 1)"
+{ cat five.obj; echo 'five.src:1:1: note: text'; } >got
+report 'text after an object' '  text follows its end: messages belong elsewhere, so redirect only standard output (no `2>&1`)' \
+  "$("$top/talft" check got 2>&1 >answer | tail -n 1)"
+report 'what a command does' '  write an object in version 2 of the format' "$("$top/talft" upgrade 2>&1 >answer | tail -n 1)"
+
 # An object that a text tool has changed, and a list that is too long.
 { cat five.obj; echo; } >got
 first_said run got >answer
@@ -218,9 +272,13 @@ forms='`step N`, `go N`, `back N`, `zap SITE WORD`, `reg R`, `queue`, `cell NAME
 echo foo >got
 report 'an unknown command in a script' "standard input:1:1: error: unknown command \`foo\`: the commands are $forms" \
   "$("$top/talft" debug five.obj 2>&1 >answer <got | head -n 1)"
-report 'an unknown command in a pipe' "standard input: error: the last line is not a command: the commands are $forms; \
+report 'an unknown command in a pipe' "standard input: error: a line is not a command: the commands are $forms; \
 put the script into a file and add \`<FILE\` to see what is wrong with each line" \
   "$(echo foo | "$top/talft" debug five.obj 2>&1 >answer)"
+report 'an unknown command in a pipe, before one that is known' 'standard input: error: a line is not a command' \
+  "$(printf 'foo\nstep 4\n' | "$top/talft" debug five.obj 2>&1 >answer | cut -d : -f 1-3)"
+report 'what the session writes' 'bad command|at 4 running' "$(paste -sd '|' answer)"
+report 'known commands in a pipe' '' "$(echo 'step 4' | "$top/talft" debug five.obj 2>&1 >answer)"
 report 'a fault list as a script' \
   'standard input: error: this is a fault list, not a debugger script: pass it with `--faults`' \
   "$("$top/talft" debug five.obj 2>&1 >answer <five.faults)"
@@ -250,10 +308,11 @@ report 'lines from a pipe: report' "report: /dev/stdin: is a pipe, but the $of" 
 report 'lines from a pipe: plot' "plot: /dev/stdin: is a pipe, but with --dir the $of" \
   "$(cat stranger.lines | "$top/tools/plot" /dev/stdin --dir cut.kept 2>&1)"
 if has gnuplot 'a picture of lines from a pipe'; then
-  report 'a picture of lines from a pipe' '0 piped.svg' \
+  report 'a picture of lines from a pipe' 'plot: wrote piped.svg
+0 piped.svg' \
     "$(cat stranger.lines | "$top/tools/plot" /dev/stdin --out piped.svg 2>&1; echo $? piped.svg)"
 fi
-refuses 'a page without a name' 'report: /dev/stdin: give the page a name with `--out FILE`' \
+misused 'a page without a name' 'report: /dev/stdin: give the page a name with `--out FILE`' \
   report /dev/stdin --object "$top/examples/five.obj"
 refuses 'a dash for standard input' \
   'plot: -: no such file; `-` does not mean standard input here: give a file name' plot -
@@ -320,5 +379,215 @@ report '`r` for registers' '`r` is short for `registers`; `run` goes to the star
   "$(printf 'r\nr\n' | "$top/tools/debugger" "$top/examples/five.obj" 2>&1 | grep 'short for')"
 printf '4:r1:6\n' >once.list
 "$top/talft" campaign "$top/examples/five.obj" --faults once.list >once.lines
-report 'no note about runs that `report` repeats' '' \
+report 'no note about runs that `report` repeats' 'report: wrote once.html' \
   "$("$top/tools/report" once.lines --object "$top/examples/five.obj" --out once.html 2>&1)"
+
+# What newcomers give to the tools in a wrong place, of a wrong kind, or not at all. Each row has the status, the arguments and the
+# message.
+mkdir places && cd places || exit 2
+cp "$top/examples/five.obj" "$top/examples/five.asm" "$top/examples/fibonacci.src" "$top/tests/c/control.wasm" .
+echo 4:r1:6 >list
+printf '4:r1:6 detected 11\nfaults 1 masked 0 detected 1 idle 0 corrupt 0\n' >lines
+echo 'module five.obj' >modules
+printf 'step 4\nzap r1 6\n' >script
+echo 'out 5' >outputs
+echo accepted >answer
+printf 'some\0bytes\n' >binary
+echo 'hello, world' >words
+echo 'int x; void run(void) { x = 1; }' >one.c
+printf '(module (memory 1))\n' >five.wat
+printf '\177ELF\2\1\1' >elf.o
+{ echo 'campaign: 0 of 1 faults'; cat lines; } >both
+{ cat lines; echo 'campaign: note'; } >noted
+: >nothing
+mkdir folder damaged
+echo '[]' >damaged/campaign.json
+while IFS='|' read -r status words message; do
+  eval "words=($words)"
+  tool "the status of $status: ${words[*]}" "$status" '' "${words[@]}"
+  report "the message about ${words[*]}" "${words[0]}: $message" "$(if [ "$status" = 2 ]; then head -n 1 said; else tail -n 1 said; fi)"
+done <<'END'
+2|explain five.obj 4:r1:6|`4:r1:6` is a fault: put `--fault` before it
+2|explain 4:r1:6 five.obj|`4:r1:6` is a fault: put `--fault` before it
+2|explain five.obj five.asm --fault 4:r1:6|`five.asm` is an assembly text: put `--text` before it
+2|explain five.obj fibonacci.src --fault 4:r1:6|`fibonacci.src` is a source: put `--source` before it
+2|ending five.obj 4:r1:6|`4:r1:6` is a fault: put `--fault` before it
+2|debugger five.obj 4:r1:6|`4:r1:6` is a fault: put `--fault` before it
+2|campaign five.obj list|`list` is a fault list: put `--faults` before it
+2|campaign list five.obj|`list` is a fault list: put `--faults` before it
+2|campaign five.obj nosuch.faults|`nosuch.faults` is a fault list: put `--faults` before it
+2|campaign five.obj nosuch|missing `--faults` before `nosuch`
+2|campaign five.obj --faults list folder|`folder` is a folder: put `--dir` before it
+2|campaign five.obj --faults 4:r1:6|--faults: `4:r1:6` is a fault; give a file with one fault on each line
+2|faults five.obj r1|`r1` is a site: put `--sites` before it
+2|faults five.obj list|unexpected argument `list`: the list is written to standard output: add `>FILE`
+2|lines fibonacci.src five.obj|`five.obj` is an object: put `--object` before it
+2|report lines five.obj|`five.obj` is an object: put `--object` before it
+2|report lines folder|`folder` is a folder: put `--dir` before it
+2|report lines|missing object: give `--dir DIR`, the folder that `tools/campaign` made, or `--object OBJECT`
+2|set five.obj outputs|`outputs` is the output of a run: put `--from` before it
+2|wasm2asm control.wasm x.asm|unexpected argument `x.asm`: the text's name comes after `-o`
+2|build one.src two.src|unexpected argument `two.src`: give one file at a time; to put modules together, build each, and give a link map
+2|build one.src two|unexpected argument `two`: the object's name comes after `-o`
+2|set five.obj out = 5|invalid argument `out`: expected NAME=WORD, without spaces
+2|set five.obj out= 5|invalid argument `out=`: expected NAME=WORD, without spaces
+2|explain five.obj --fault r1:4:6|invalid fault `r1:4:6`: expected STEP:SITE:WORD; the step comes first, then the site
+2|debugger five.obj --fault r1:4:6|invalid fault `r1:4:6`: expected STEP:SITE:WORD; the step comes first, then the site
+2|debugger --batch five.obj|unknown option `--batch`: without a terminal the debugger ends after the commands
+2|debugger --args five.obj|unknown option `--args`: a program has no arguments: `set` changes its inputs
+2|debugger -q five.obj|unknown option `-q`: leave it out: there is no banner
+2|debugger -x script five.obj|unknown option `-x`: commands come after `-c`, or from standard input
+2|cc one.c -ltalft -o x|unknown option `-ltalft`: there are no libraries; this `cc` makes talft objects; for a program of this machine use gcc or /usr/bin/cc
+2|cc one.c -L. -o x|unknown option `-L.`: there are no libraries; this `cc` makes talft objects; for a program of this machine use gcc or /usr/bin/cc
+1|cc one.c nosuch/libtalft.a -o x|nosuch/libtalft.a: this `cc` makes talft objects; for a program of this machine use gcc or /usr/bin/cc; `make library` makes libtalft.a
+1|cc one.c elf.o -o x|elf.o: this `cc` makes talft objects; for a program of this machine use gcc or /usr/bin/cc
+1|cc one.c nosuch.so.1 -o x|nosuch.so.1: this `cc` makes talft objects; for a program of this machine use gcc or /usr/bin/cc
+1|lines lines|lines: is the output of a campaign; expected a source
+1|lines list|list: is a fault list; expected a source
+1|debugger lines|lines: is the output of a campaign; expected an object, an assembly text or a source
+1|explain outputs --fault 4:r1:6|outputs: is the output of a run; expected an object, an assembly text or a source
+1|debugger modules|modules: is a link map; expected an object, an assembly text or a source
+1|wasm2asm five.wat|five.wat: offset 0x0: is not a WebAssembly module of version 1; this is its text: make a module with wat2wasm
+1|plot both|both:1: `campaign: 0 of 1 faults`: this is what `campaign` writes to standard error: redirect only standard output, without `2>&1`
+1|report both --object five.obj|both:1: `campaign: 0 of 1 faults`: this is what `campaign` writes to standard error: redirect only standard output, without `2>&1`
+1|plot noted|noted:3: `campaign: note`: this is what `campaign` writes to standard error: redirect only standard output, without `2>&1`
+2|cc one.c x.obj|missing `-o` before `x.obj`
+2|cc one.c -o x.obj two.c|unexpected argument `two.c`: put all files next to each other
+1|faults list|list: is a fault list; expected an object
+1|faults fibonacci.src|fibonacci.src: is a source; `talft compile` turns it into an object
+1|faults five.asm|five.asm: is an assembly text; `talft asm` turns it into an object
+1|ending modules|modules: is a link map; `talft link` turns it into an object
+1|ending script|script: is a debugger script; expected an object
+1|set answer out=1|answer: is an answer of `talft`; expected an object
+1|set outputs out=1|outputs: is the output of a run; expected an object
+1|campaign lines --faults list|lines: is the output of a campaign; expected an object
+1|campaign list --faults five.obj|list: is a fault list; expected an object
+1|campaign binary --faults list|binary: is a binary file; expected an object
+1|campaign words --faults list|words: is not an object; `talft compile`, `talft asm` and `cc` make objects
+1|plot lines --object control.wasm|control.wasm: is a WebAssembly module; `cc` turns it into an object
+1|report lines --object one.c|one.c: is a C program; `cc` turns it into an object
+1|report lines --object five.obj --source list|list: is a fault list; expected a source
+1|report answer --object five.obj|answer:1: this is an answer of `talft`: expected the lines that a campaign writes
+1|plot fibonacci.src|fibonacci.src:1: this is a source: expected the lines that a campaign writes
+1|lines fibonacci.src --object list|list: is a fault list; expected an object
+1|set five.obj --from five.obj|five.obj:1: this is an object: expected NAME VALUE, as `talft run` writes it
+1|build list|list: is a fault list; expected a .src, .asm or .map file
+1|cc list -o x.obj|list: is a fault list; expected C files, or one .wasm module
+1|wasm2asm control.wasm --map list|--map: list: is not a map of wasm-ld; link with -Wl,-Map=FILE
+1|campaign five.obj --faults five.obj --dir list|five.obj: is an object; expected a fault list
+1|campaign five.obj --faults fibonacci.src --dir damaged|fibonacci.src: is a source; expected a fault list
+1|campaign five.obj --faults nosuch --dir list|nosuch: no such file
+1|campaign five.obj --faults list --dir damaged|damaged/campaign.json: is damaged: remove the folder
+1|report lines --dir damaged|damaged/campaign.json: is damaged, or was not written by `tools/campaign`
+2|campaign five.obj --faults list --dir ''|`--dir` needs a value, DIR
+2|ending five.obj --fault ''|`--fault` needs a value, STEP:SITE:WORD
+2|ending five.obj --fault -1:r1:6|--fault: invalid fault `-1:r1:6`: expected STEP:SITE:WORD; the step `-1` is not a decimal number below 2^64
+2|cc control.wasm -o x.obj --entry ''|`--entry` needs a value, NAME
+2|wasm2asm control.wasm -o ''|`-o` needs a value, TEXT
+2|faults five.obj --flip 0-99999999999999999999|--flip: invalid bit in `0-99999999999999999999`: the bits of a word are 0 to 63
+2|faults five.obj --sample 999999999999999999999|`--sample`: invalid number `999999999999999999999`: expected at most 20 digits
+2|set five.obj out=x|`out`: invalid number `x`: expected decimal digits, or hex after 0x
+2|plot lines lines --dir folder|give --dir or --object once for each file of lines, or not at all
+2|plot lines --title a --title b|more titles than files of lines: give --title at most once for each file
+2|plot --version|unknown option `--version`: `talft --version` gives the version
+END
+report 'no folder is made for a list that is refused' 'damaged folder' \
+  "$(find . -mindepth 1 -type d | sed 's,./,,' | sort | paste -sd ' ')"
+report 'wrong use has two lines' '`set --help` lists the arguments and options' "$("$top/tools/set" five.obj out=x 2>&1 | sed 1d)"
+
+# An input that is also the standard output: the shell has emptied it, or appends to it.
+written_over() {
+  local name=$1 message=$2 file=$3
+  shift 3
+  cp "$file" over
+  "$top/tools/$1" "${@:2}" >over 2>said </dev/null
+  report "$name" "1 ${1##*/}: over: is empty: it is also the standard output, and the shell emptied it; make it again, and $message" \
+    "$? $(cat said)"
+}
+written_over 'a list written over' 'write the lines to another file' list campaign five.obj --faults over --dir over.kept
+written_over 'an object written over by set' 'write `-o over`' five.obj set over out=5
+written_over 'lines written over by set' 'write to another file' outputs set five.obj --from over
+written_over 'an object written over by faults' 'write to another file' five.obj faults over
+written_over 'an object written over by ending' 'write to another file' five.obj ending over
+written_over 'a source written over by lines' 'write to another file' fibonacci.src lines over
+written_over 'a program written over by explain' 'write to another file' five.obj explain over --fault 4:r1:6
+written_over 'a module written over by wasm2asm' 'write to another file' control.wasm wasm2asm over
+cp list over
+report 'a list that the lines would follow' '1 campaign: over: is also the standard output; write the lines to another file' \
+  "$("$top/tools/campaign" five.obj --faults over --dir over.kept 2>said >>over; echo "$? $(cat said)")"
+report 'the list after that' 4:r1:6 "$(cat over)"
+report 'no folder of such a campaign' '' "$(ls -d over.kept 2>/dev/null)"
+
+# Another campaign in the same folder: what differs.
+"$top/tools/campaign" five.obj --faults list --steps 20 --dir same >answer 2>said
+while IFS='|' read -r words differs; do
+  # shellcheck disable=SC2086
+  refuses "a campaign with $words" "campaign: same: holds a campaign with $differs: give another --dir, or, if its verdicts are no \
+longer needed, remove the folder" campaign five.obj --faults list --dir same $words
+done <<'END'
+--steps 30|another --steps (20)
+--steps 20 --wild 5|another --wild (none)
+--steps 30 --survey|another command (campaign) and another --steps (20)
+END
+
+# Targets and variables of other projects. They are refused before anything is proved.
+mkdir no_kit && printf '#!/bin/sh\nexit 1\n' >no_kit/rt && chmod +x no_kit/rt
+made_wrong() { PATH=$PWD/no_kit:$PATH timeout 20 env -u MAKEFLAGS -u MAKELEVEL make -C "$top" --no-print-directory "$@" 2>&1 </dev/null | sed 's/^Makefile:[0-9]*: //'; echo "${PIPESTATUS[0]}"; }
+while IFS='|' read -r words message; do
+  # shellcheck disable=SC2086
+  report "make $words" "$(printf '*** %s.  Stop.\n2' "$message")" "$(made_wrong $words)"
+done <<'END'
+test|unknown target `test`: `make check` runs the tests
+instal|unknown target `instal`: expected all, program, program-aarch64, check, wrong-bodies, library, install, install-program, install-library, uninstall, dist, deb, evidence, same-bytes, site, clean, help
+install prefix=/tmp/x|unknown variable `prefix`: write PREFIX=DIR
+uninstall prefix=/tmp/x|unknown variable `prefix`: write PREFIX=DIR
+install libdir=/tmp/x|unknown variable `libdir`: write PREFIX=DIR
+ARCH=arm64|unknown processor `arm64`: expected x86_64 or aarch64
+library ARCH=arm64|unknown processor `arm64`: expected x86_64 or aarch64
+library HEAP=Arena|unknown HEAP `Arena`: expected heap or arena
+END
+report 'an unknown HEAP of the script' '2 talft: error: unknown HEAP `Arena`: expected heap or arena' \
+  "$(PATH=$PWD/no_kit:$PATH HEAP=Arena bash "$top/build/library.sh" >said 2>&1; echo "$? $(cat said)")"
+report 'the targets that make help names' '' "$(made_wrong help >said
+  for target in $(sed -n '/^targets = /,/[^\]$/p' "$top/Makefile" | sed 's/^targets = //; s/\\$//'); do
+    grep -qw -e "$target" said || [ "$target" = help ] || [ "$target" = program-aarch64 ] || echo "$target"
+  done)"
+report 'both are made before anything is installed' 'build/prove.sh build/library.sh install' \
+  "$(made_wrong -n install DESTDIR=/tmp/x | grep -oE '^(install|bash build/prove.sh|HEAP=heap bash build/library.sh)' |
+    sed 's/.*bash //' | uniq | paste -sd ' ')"
+
+# What the tools wrote, and an answer that was changed.
+if has gnuplot 'what the tools wrote'; then
+  "$top/tools/plot" lines 2>said
+  report 'the pictures that are written' 'plot: wrote picture.png and picture.svg' "$(cat said)"
+fi
+"$top/tools/campaign" five.obj --faults list --dir changed >answer 2>said
+echo changed >changed/000000.answer
+refuses 'an answer that was changed' \
+  'campaign: changed/000000.answer: is damaged: remove it, and run the same command again' \
+  campaign five.obj --faults list --dir changed
+
+# Programs that are not `talft`.
+printf '#!/bin/sh\nexit 70\n' >unproved
+printf '#!/bin/sh\necho some words\n' >another
+chmod +x unproved another
+TALFT=$PWD/unproved refuses 'a program that is not proved' 'plot: five.obj: status 70, not proved yet' plot lines --object five.obj
+TALFT=$PWD/another refuses 'another program' 'build: x.obj: `talft check`: status 0' build five.asm -o x.obj
+report 'no object of another program' '' "$(ls x.obj 2>/dev/null)"
+report 'another program that explains' "explain: unexpected IndexError in listing.py: if $PWD/another is not the \`talft\` of these tools, \
+set \$TALFT; otherwise report it" \
+  "$(TALFT=$PWD/another "$top/tools/explain" five.obj --fault 4:r1:6 2>&1 | sed 's/ line [0-9]*:/:/')"
+
+# On a terminal, a tool that reads standard input says so.
+if has script 'tools that read from a terminal'; then
+  report 'the lines of a run from a terminal' 'set: reading the lines of a run from standard input, until Ctrl-D' \
+    "$(timeout 60 script -qec "$top/tools/set five.obj --from - --list" /dev/null </dev/null | tr -d '\r' | grep '^set')"
+  report 'the adapter on a terminal' "dap: waiting for an editor's requests on standard input; Ctrl-C ends it" \
+    "$(timeout 60 script -qec "timeout 2 $top/tools/dap" /dev/null </dev/null | tr -d '\r' | grep '^dap: waiting')"
+fi
+
+# Ctrl-C while the adapter waits for an editor.
+report 'Ctrl-C in the adapter' '1 dap: interrupted' \
+  "$(timeout --preserve-status -k 5 -s INT 2 env --default-signal=INT "$top/tools/dap" 2>said < <(sleep 10)
+    echo "$? $(cat said)")"
+cd "$work" || exit 2

@@ -5,7 +5,7 @@ import re
 from common import SITES, Refused
 from debugging import explaining, views
 from debugging.help import ELSEWHERE, HELP, INFO, SHORT, TOPICS, help_lines, help_of
-from debugging.reading import number, one_word, word_of
+from debugging.reading import no_dollar, no_more, number, one_word, word_of
 from messages import near, quoted
 
 
@@ -64,8 +64,29 @@ class Shown:
 
     def do_registers(self, words):
         every = bool(words) and "all".startswith(words[0])
+        if every:
+            no_more(words[1:])
+        elif words:
+            self.some_registers(words)
+            return
         self.note(*[f"reg {name}" for name in SITES[:67]])
         self.say(*views.register_lines(self.session, self.paint, every, self.before))
+
+    def some_registers(self, words):
+        """Prints the pairs of these registers, and the counters among them."""
+        sites = [site for name in words for site in self.session.registers_of(name)]
+        for site in sites:
+            if site.startswith("$"):
+                raise no_dollar(site)
+            if site not in SITES[:67]:
+                raise Refused(f"unknown register {quoted(site)}: expected r0 to r63, d, pcg, pcb or `all`")
+        wanted = dict.fromkeys(int(site[1:]) % 32 for site in sites if site[0] == "r")
+        others = [site for site in dict.fromkeys(sites) if site[0] != "r"]
+        self.note(*[f"reg r{i + of}" for i in wanted for of in (0, 32)], *[f"reg {name}" for name in others])
+        if wanted:
+            self.say(*views.pair_lines(self.session, self.paint, wanted, self.before))
+        for name in others:
+            self.say(self.told_word(name))
 
     def do_queue(self, words):
         self.note("queue")
@@ -89,6 +110,8 @@ class Shown:
     def do_print(self, words, base=""):
         if not words:
             raise Refused("missing name: write it as in `print r1`")
+        if base[-1:] in ("w", "g", "h") and base[:-1] in views.BASES:
+            raise Refused(f"unknown format `/{base[:40]}`: all words have 64 bits: leave out the `{base[-1]}`, as in `x/4x out`")
         if base not in views.BASES:
             raise Refused(f"unknown format `/{base[:40]}`: expected /x, /b, /o or /d")
         if any(not name[0].isalnum() and name[0] != "$" for name in words):

@@ -31,7 +31,7 @@ HELP = {
     "display": ("display [WORD..]", "print these words after each move", "display r1 out", "`display` alone prints them now"),
     "undisplay": ("undisplay [WORD..]", "stop displaying these words, or all", "undisplay out", ""),
     "info": ("info TOPIC, i", "show a topic", "info breaks", ""),
-    "registers": ("registers [all], r", "both colours side by side", "registers",
+    "registers": ("registers [all|REG..], r", "both colours side by side", "registers",
                   "`*` marks pairs that differ; `~` marks those that differ even without a strike, as between a green\n"
                   "instruction and its blue counterpart"),
     "queue": ("queue", "the pending stores, oldest first", "queue", ""),
@@ -72,7 +72,10 @@ ALONE = {"continue", "reverse-continue", "finish", "run", "end", "undo", "queue"
          "quit"}
 # Commands of other debuggers, and what to use here.
 ELSEWHERE = {"list": "`disassemble` shows the code with the lines of the source",
-             "set": "`zap` changes a word: a strike",
+             "set": "`zap` changes a word in a register: a strike; cells cannot be changed (tools/set changes their initial words)",
+             "layout": "`debugger FILE --tui` shows a full screen", "start": "`run` goes to the start",
+             "kill": "`run` goes to the start, `quit` ends", "up": "`where` shows the place; there are no calls",
+             "down": "`where` shows the place; there are no calls",
              "locals": "`info names` says where names are kept, `print` and `display` write their words",
              "frame": "`where` shows the place; there are no calls",
              "clear": "`delete` forgets breakpoints", "jump": "`goto` goes to a position",

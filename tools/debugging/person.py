@@ -1,11 +1,11 @@
 """A user's session: where it is, its strikes, breakpoints and watches, and what can be undone.
 
 The prompt, the screen and the adapter for editors all use it."""
-from common import ALL_SITES, SITES, WORDS, Refused, invalid_fault
+from common import ALL_SITES, SITES, WORDS, Misused, Refused, invalid_fault
 from debugging import breaks, changes, runs
 from debugging.journal import Journal
 from debugging.machine import is_fetch
-from debugging.reading import NO_WORD, number, word_of
+from debugging.reading import NO_WORD, no_dollar, number, word_of
 from debugging.sessions import Interrupted, Strike, Timeline
 from messages import near, quoted
 
@@ -67,7 +67,7 @@ class Session:
         if word is None and name in self.target.listing.cells:
             word = self.cells([name])[name]
         if word is None and name.startswith("$"):
-            raise Refused(f"{quoted(name)}: names have no `$` here: write {quoted(name[1:] or 'r1')}")
+            raise no_dollar(name)
         if word is None and name in SITES:
             raise Refused(f"`{name}`: the queue has {len(self.state().queue)} entries here")
         if word is None:
@@ -287,12 +287,14 @@ class Session:
         """Reads `STEP:SITE:WORD` as a planned strike."""
         parts = text.split(":")
         if len(parts) != 3 or not all(parts):
-            raise Refused(f"invalid fault {quoted(text)}: expected STEP:SITE:WORD, such as 4:r1:6")
+            raise Misused(f"invalid fault {quoted(text)}: expected STEP:SITE:WORD, such as 4:r1:6")
+        if parts[0] in SITES:
+            raise Misused(invalid_fault(text, "the step comes first, then the site"))
         try:
             strike = Strike(number(parts[:1]), parts[1], word_of(parts[2]), True)
             self.check_strike(strike.site, strike.word)
         except Refused as error:
-            raise Refused(invalid_fault(text, error)) from error
+            raise Misused(invalid_fault(text, error)) from error
         return strike
 
     def unplan(self, text=None):

@@ -21,6 +21,11 @@ def number(words, default=None, least=0):
     return found
 
 
+def no_dollar(name):
+    """The error about a name as gdb writes it."""
+    return Refused(f"{quoted(name)}: names have no `$` here: write {quoted(name[1:] or 'r1')}")
+
+
 def no_more(words, command=None):
     """Refuses superfluous arguments."""
     if words:

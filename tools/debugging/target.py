@@ -4,13 +4,16 @@ import re
 import shlex
 import subprocess
 
-from common import Refused, in_this_process, naming, not_run, program, why
+from common import Refused, emptied, in_this_process, naming, not_run, program, why
 from debugging.listing import Listing
 from debugging.machine import cell_number
 from debugging.source_lines import lines_of
+from kinds import LOOKED_AT, kind_of_data, kind_of_path
 from messages import named, quoted, reason
 
 MAGIC = b"TALFT"
+# What resembles neither an object nor a text.
+NEITHER = "the output of a campaign", "a fault list", "the output of a run", "a link map"
 NOT_BUILT = "the program is not proved yet, so each answer would take most of a minute: run `make` first"
 
 
@@ -44,12 +47,14 @@ def asked_of(words, files=()):
     return run.stdout
 
 
-def kind_of(path, data):
+def kind_of(path, data, wanted="an object, an assembly text or a source"):
     """Whether a file is an object, an assembly text or a source: by its first bytes, its name, or its last word."""
     if data.startswith(MAGIC):
         return "object"
     if not data.strip():
-        raise Refused(f"{named(path)}: is empty; expected an object, an assembly text or a source")
+        raise Refused(f"{named(path)}: " + (f"is empty; expected {wanted}" if data else emptied(path, f"expected {wanted}")))
+    if (found := kind_of_data(path, data[:LOOKED_AT])) in NEITHER:
+        raise Refused(f"{named(path)}: is {found}; expected {wanted}")
     for kind, endings in (("object", (".obj",)), ("source", (".src",)), ("text", (".asm", ".txt", ".s"))):
         if path.endswith(endings):
             return kind
@@ -58,14 +63,14 @@ def kind_of(path, data):
     return "text" if words and words[-1] == "entry" else "source"
 
 
-def kind_of_file(path):
-    """The kind of a file."""
+def kind_of_file(path, *wanted):
+    """The kind of a file. `wanted` may say what it should be."""
     try:
         with open(path, "rb") as file:
             data = file.read()
     except OSError as error:
         raise Refused(f"{named(path)}: {reason(error)}") from error
-    return kind_of(path, data)
+    return kind_of(path, data, *wanted)
 
 
 class Target:
@@ -152,6 +157,9 @@ class Target:
                 text = file.read()
         except OSError as error:
             raise Refused(f"{named(own)}: {reason(error)}") from error
+        if kind := kind_of_path(own):
+            if kind != "a source" and self.kind != "source":
+                raise Refused(f"{named(own)}: is {kind}; expected a source")
         lines, names = lines_of(text, self.code)
         if lines is None:
             if self.kind != "source":

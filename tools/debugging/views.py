@@ -71,17 +71,35 @@ def pairs(session, before=None):
     return [Pair(session, i, state, before, clean) for i in range(32)]
 
 
-def register_lines(session, paint, every=False, before=None):
-    """Both colours side by side, with the marks of pairs that differ."""
-    state, rows = session.state(), pairs(session, before)
-    width = max(24, max(len(row.green) for row in rows) + 2)
+def shown_pairs(paint, rows, width):
+    """The lines of some pairs, under their heading."""
     lines = [f"  {'green':<{width}}blue"]
-    shown = [row for row in rows if every or not row.is_unset]
-    for row in shown:
+    for row in rows:
         style = "differs" if row.mark == "*" else None
         lines.append(paint(style, row.mark + " ")
                      + paint(style or ("changed" if row.changed[0] else "green"), f"{row.green:<{width}}")
                      + paint(style or ("changed" if row.changed[1] else "blue"), row.blue))
+    return lines
+
+
+def marks_of(paint, rows):
+    """What the marks of these pairs mean."""
+    return [paint("dim", MARKS[mark]) for mark in "*~" if any(row.mark == mark for row in rows)]
+
+
+def pair_lines(session, paint, wanted, before=None):
+    """The pairs of these green registers, as `register_lines` has them."""
+    every = pairs(session, before)
+    rows = [every[i] for i in wanted]
+    return shown_pairs(paint, rows, max(24, max(len(row.green) for row in rows) + 2)) + marks_of(paint, rows)
+
+
+def register_lines(session, paint, every=False, before=None):
+    """Both colours side by side, with the marks of pairs that differ."""
+    state, rows = session.state(), pairs(session, before)
+    width = max(24, max(len(row.green) for row in rows) + 2)
+    shown = [row for row in rows if every or not row.is_unset]
+    lines = shown_pairs(paint, shown, width)
     if len(shown) < len(rows):
         lines.append(paint("dim", f"  {len(rows) - len(shown)} pairs still have their initial value, G 0"
                                   " (`info registers all` shows them)"))
@@ -89,7 +107,7 @@ def register_lines(session, paint, every=False, before=None):
     lines.append(paint(None if same else "differs",
                        f"{'  ' if same else '* '}{'pcg G ' + str(state.pcg):<{width}}pcb B {state.pcb}"))
     lines.append(f"  d   G {spelled(session, state.word('d'))}")
-    return lines + [paint("dim", MARKS[mark]) for mark in "*~" if any(row.mark == mark for row in shown)]
+    return lines + marks_of(paint, shown)
 
 
 def queue_lines(session):

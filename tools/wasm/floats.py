@@ -8,6 +8,9 @@ INTEGERS = {"i32": ("si", 32), "i64": ("di", 64)}
 TESTS = {"eq": ("eq", "eq"), "ne": ("ne", "ne"), "lt": ("lt", "lt_s"), "gt": ("gt", "gt_s"), "le": ("le", "le_s"),
          "ge": ("ge", "ge_s")}
 OWN = ("abs", "neg", "copysign")
+# What compiler-rt has no functions for.
+LACKS = {"sqrt": "square root", **dict.fromkeys(("ceil", "floor", "trunc", "nearest"), "rounding"), "min": "minimum",
+         "max": "maximum"}
 
 
 def builtin_name(name):
@@ -38,6 +41,18 @@ def builtin(module, name):
     return module.by_name.get(wanted)
 
 
+def lacks(name):
+    """Whether compiler-rt has no function for an instruction, of integers or of floating-point numbers."""
+    return name.startswith(("f32.", "f64.")) and name.split(".")[1] in LACKS
+
+
+def instead_of(name):
+    """What to do about an instruction whose function is missing."""
+    if lacks(name):
+        return f"compiler-rt has no {LACKS[name.split('.')[1]]}: write it with + - * / and comparisons, or use integers"
+    return f"link {builtin_name(name)} and the other functions of compiler-rt, or use integers"
+
+
 def bits_of_power(form, power, plus=0):
     """The bits of the number 2^power + plus, rounded down; `plus` is below 2^power."""
     _, _, fraction, bias = FORMS[form]
@@ -56,7 +71,7 @@ class Floats:
         func = builtin(self.module, name)
         if func is None:
             self.refuse(ins.at, f"a floating-point instruction ({name})",
-                        f"link {builtin_name(name)} and the other functions of compiler-rt, or use integers")
+                        instead_of(name))
         if op.startswith("trunc_"):
             self.truncate(ins, kind, op, func)
             return

@@ -39,7 +39,9 @@ class Module:
         self.func_names, self.global_names, self.linking, self.by_name = {}, {}, None, None
         self.has_memory, self.pages, self.bodies = False, 0, []
         if data[:8] != b"\0asm\1\0\0\0":
-            raise Refused("is not a WebAssembly module of version 1", "give the output of wasm-ld; `cc` takes C", offset=0)
+            instead = ("this is its text: make a module with wat2wasm" if data.lstrip().startswith(b"(module") else
+                       "give the output of wasm-ld; `cc` takes C")
+            raise Refused("is not a WebAssembly module of version 1", instead, offset=0)
         reader, last = Bytes(data, 8), -1
         while reader.at < reader.end:
             at, kind = reader.at, reader.byte()

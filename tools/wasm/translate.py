@@ -55,7 +55,8 @@ def choose_entry(module, name):
     func = exported[name]
     if func.params:
         raise Refused(f"the entry takes {counted(len(func.params), 'parameter')}",
-                      "no arguments can be passed: name a function without parameters, such as `int main(void)`",
+                      "no arguments can be passed: name a function without parameters, such as `int main(void)`; "
+                      "inputs are global variables",
                       func.name, func.at)
     if len(func.results) > 1:
         raise Refused(f"the entry has {counted(len(func.results), 'result')}",

@@ -7,9 +7,13 @@ use ft_mistakes::{OBJECT_LIMIT, Page, load};
 use ft_types::{CellHead, Program};
 use ft_view::View;
 
+/// What to do about modules with different cells.
+const ALIKE: &str =
+    ": declare the same cells, in the same order and with the same initial words, in each module\n";
+
 /// The type and the initial word of cell `k`; `None` if there is no such cell.
 #[tactic(auto, using(ft_types::proofs::Counted::spellable_counted))]
-fn cell_at<P: Program>(program: &P, k: u32) -> Option<CellHead>
+pub(crate) fn cell_at<P: Program>(program: &P, k: u32) -> Option<CellHead>
     requires { IsSpellable (P.object program.now) }
 {
     if k >= program.counts().cells {
@@ -63,13 +67,17 @@ fn say_unlike_cell<P: Program, Q: Program>(
     requires there { IsSpellable (Q.object first.now) }
 {
     if let Some(k) = unlike_cell(program, first) {
-        return page.say(format_args!("  cell {k} has a different name, type or initial word\n"));
+        page.say(format_args!("  cell {k}, "))?;
+        page.quote(name_at(program, k))?;
+        page.say(", has a different name, type or initial word")?;
+        return page.say(ALIKE);
     }
     let count = program.counts().cells;
     let wanted = first.counts().cells;
     page.say("  it has ")?;
     page.count(count, "cell")?;
-    page.say(format_args!(", but the first module has {wanted}\n"))
+    page.say(format_args!(", but the first module has {wanted}"))?;
+    page.say(ALIKE)
 }
 
 /// Says in which cell an object differs from the first one, or else how many cells each has.

@@ -3,6 +3,7 @@ ghost use Rattle.std.specs.Prelude.{◌≡◌, ◌<◌, length, IfSome};
 ghost use Rattle.ft_types.specs.Objects.{reg_rows};
 ghost use Rattle.ft_types.specs.Spellable.{IsSpellable};
 
+use crate::claims::say_claim;
 use crate::known::{Known, RegKnown};
 use crate::premises::premise;
 use crate::reads::{reads, target_of};
@@ -13,7 +14,7 @@ use ft_mistakes::Page;
 use ft_types::{Block, Program, RegType};
 
 /// Writes a basic type as assembly texts spell it.
-fn say_basic(page: &mut Page, basic: Basic) -> Result<(), NoMemory> {
+pub(crate) fn say_basic(page: &mut Page, basic: Basic) -> Result<(), NoMemory> {
     for _ in 0..basic.refs {
         page.say("ref:")?;
     }
@@ -240,6 +241,19 @@ fn say_stored(page: &mut Page, known: &Known, instr: Instr) -> Result<(), NoMemo
     page.say("\n")
 }
 
+/// If the second register of a store holds an address instead of the first, says that the address comes first.
+fn say_swapped(page: &mut Page, known: &Known, instr: Instr) -> Result<(), NoMemory> {
+    let Instr::St { rs, .. } = instr else {
+        return Ok(());
+    };
+    match known.referred(rs) {
+        Some(_) => page.say(
+            "  the register with the address comes first, then the one with the value\n",
+        ),
+        None => Ok(()),
+    }
+}
+
 /// Says what is known of the registers that an instruction reads.
 fn say_reads(page: &mut Page, known: &Known, instr: Instr) -> Result<(), NoMemory> {
     let [first, second] = reads(instr);
@@ -290,7 +304,11 @@ fn explain_instr<P: Program>(
     let known = Known::before(program, found.code_type, found.start, i);
     say_reads(page, &known, instr)?;
     match number {
-        3 => say_stored(page, &known, instr),
+        3 => {
+            say_stored(page, &known, instr)?;
+            say_claim(page, program, instr)
+        }
+        4 => say_swapped(page, &known, instr),
         13 | 14 | 16 => say_target(page, program, &known, number, instr),
         _ => Ok(()),
     }

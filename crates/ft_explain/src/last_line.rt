@@ -1,4 +1,4 @@
-//! A sink that remembers the last line written.
+//! A sink that remembers the last line written, or that a debugger's command was refused.
 ghost use Rattle.std.specs.Prelude.{◌≡◌, ◌≤◌, [], ◌∷◌, OnOk, OnErr};
 ghost use Rattle.std.specs.Io.KnownBytes.{append_known};
 ghost use Rattle.ft_edge.specs.Causes.{Rose, AddsPrefix};
@@ -7,8 +7,11 @@ ghost use Rattle.ft_edge.specs.Told.{append_told};
 use ft_edge::{Failed, Sink};
 use ft_text::{Line, ROOM};
 
+/// The answer to a line of a debugger session that is not a command.
+const REFUSED: &[u8] = b"bad command\n";
+
 /// A sink that passes each piece on to another sink and remembers the last piece if it has at most `ROOM` bytes, as the
-/// line of a refusal does. A put allocates no memory.
+/// line of a refusal does. Once a piece is `REFUSED`, it remembers this one. A put allocates no memory.
 #[derive(Drop)]
 pub struct LastLine<K: Sink> {
     sink: K,
@@ -26,7 +29,7 @@ impl<K: Sink + Drop> LastLine<K> {
         }
     }
 
-    /// The wrapped sink, and the last piece written; empty if that was longer than `ROOM`.
+    /// The wrapped sink, and the piece that it remembers; empty if that was longer than `ROOM`.
     pub fn into_parts(self) -> (K, Line)
         ensures { result.0 ≡ self.sink }
     {
@@ -39,7 +42,9 @@ impl<K: Sink> Sink for LastLine<K> {
     ghost log = { λ s. K.log s.sink };
 
     fn put(&mut self, bytes: &[u8]) -> Result<(), Failed> {
-        self.line = line_of(bytes);
+        if self.line.as_bytes() != REFUSED {
+            self.line = line_of(bytes);
+        }
         self.sink.put(bytes)
     }
 }

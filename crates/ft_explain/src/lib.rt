@@ -8,6 +8,9 @@
 
 mod cells;
 mod checks;
+mod claims;
+mod comparisons;
+mod declared;
 mod detections;
 mod emptied;
 mod endless;

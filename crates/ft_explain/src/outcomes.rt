@@ -1,6 +1,8 @@
 //! Explains what happened in runs that did not simply succeed.
 ghost use Rattle.ft_types.specs.Spellable.{IsSpellable};
 
+use crate::comparisons::note_comparisons;
+use crate::declared::declared_in;
 use crate::detections::say_detection;
 use crate::endless::note_endless;
 use crate::indices::note_indices;
@@ -10,7 +12,7 @@ use ft_command::{Campaign, Command, Run};
 use ft_edge::Shelf;
 use ft_isa::{NoMemory, Plan, Site, Strike};
 use ft_machine::{Machine, Status};
-use ft_mistakes::{OBJECT_LIMIT, Page, load};
+use ft_mistakes::{OBJECT_LIMIT, Page, SOURCE_LIMIT, load};
 use ft_types::Program;
 use ft_view::View;
 
@@ -213,9 +215,19 @@ fn note_cut<S: Shelf>(page: &mut Page, asked: &Campaign, shelf: &mut S) -> Resul
 }
 
 /// Notes what is notable about an accepted source.
+fn note_text(page: &mut Page, name: &str, source: &[u8]) -> Result<(), NoMemory> {
+    let declared = declared_in(page.alloc(), source)?;
+    note_comparisons(page, name, source)?;
+    note_indices(page, name, source, declared.as_slice())?;
+    note_silent(page, name, source, declared.as_slice())
+}
+
+/// Notes what is notable about an accepted source, if it can be read again.
 fn note_source<S: Shelf>(page: &mut Page, name: &str, shelf: &mut S) -> Result<(), NoMemory> {
-    note_indices(page, name, shelf)?;
-    note_silent(page, name, shelf)
+    match load(page.alloc(), name, SOURCE_LIMIT, shelf)? {
+        Some(source) => note_text(page, name, source.as_slice()),
+        None => Ok(()),
+    }
 }
 
 /// Explains what happened in a call that ended with status 0, 1 or 9; it writes nothing about plain success.

@@ -1,27 +1,11 @@
 //! Finds sources without output.
-use ft_edge::Shelf;
+use crate::declared::{Declared, declaration_of};
 use ft_isa::NoMemory;
 use ft_lexer::{Kind, Lexer};
-use ft_mistakes::{Page, SOURCE_LIMIT, load};
+use ft_mistakes::Page;
 
 /// The maximum number of assignments examined.
 const MOST_ASSIGNMENTS: usize = 256;
-
-/// Whether a name is declared as a cell.
-fn is_cell(source: &[u8], name: &[u8]) -> bool {
-    let mut lexer = Lexer::new(source);
-    let mut declares = false;
-    for _ in 0..source.len() {
-        let Some(Ok(token)) = lexer.next() else {
-            return false;
-        };
-        if declares && token.text == name {
-            return true;
-        }
-        declares = token.kind == Kind::Cell;
-    }
-    false
-}
 
 /// Whether a statement may begin after a token of this kind.
 fn ends_statement(kind: Kind) -> bool {
@@ -30,7 +14,7 @@ fn ends_statement(kind: Kind) -> bool {
 
 /// Whether no statement assigns to a cell. A source with more than `MOST_ASSIGNMENTS` assignments to variables before
 /// the first one to a cell counts as one with an output.
-fn is_silent(source: &[u8]) -> bool {
+fn is_silent(source: &[u8], declared: &[Declared<'_>]) -> bool {
     let mut lexer = Lexer::new(source);
     let mut begins = true;
     let mut left = MOST_ASSIGNMENTS;
@@ -39,7 +23,7 @@ fn is_silent(source: &[u8]) -> bool {
             return true;
         };
         if begins && token.kind == Kind::Name {
-            if left == 0 || is_cell(source, token.text) {
+            if left == 0 || declaration_of(declared, token.text).is_some() {
                 return false;
             }
             left = left.saturating_sub(1);
@@ -50,15 +34,13 @@ fn is_silent(source: &[u8]) -> bool {
 }
 
 /// For an accepted source, notes that it has no output, if that is so.
-pub(crate) fn note_silent<S: Shelf>(
+pub(crate) fn note_silent(
     page: &mut Page,
     name: &str,
-    shelf: &mut S,
+    source: &[u8],
+    declared: &[Declared<'_>],
 ) -> Result<(), NoMemory> {
-    let Some(source) = load(page.alloc(), name, SOURCE_LIMIT, shelf)? else {
-        return Ok(());
-    };
-    if !is_silent(source.as_slice()) {
+    if !is_silent(source, declared) {
         return Ok(());
     }
     page.name(name)?;

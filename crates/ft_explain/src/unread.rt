@@ -3,6 +3,7 @@ use crate::look::{Found, Look};
 use ft_edge::{LoadFault, Shelf};
 use ft_isa::NoMemory;
 use ft_mistakes::{Page, Place, is_fault};
+use std::alloc::Global;
 
 /// The maximum number of bytes of a file that are examined.
 const LIMIT: usize = 134_217_728;
@@ -53,10 +54,10 @@ fn no_folder<'n, L: Look>(name: &'n str, look: &L) -> Option<(&'n str, Found)> {
     }
 }
 
-/// Says what is wrong with a folder.
-fn say_folder(page: &mut Page, before: &str, folder: &str, after: &str) -> Result<(), NoMemory> {
+/// Writes a name between other words.
+fn say_named(page: &mut Page, before: &str, name: &str, after: &str) -> Result<(), NoMemory> {
     page.say(before)?;
-    page.name(folder)?;
+    page.name(name)?;
     page.say(after)
 }
 
@@ -79,12 +80,37 @@ fn advice_on(name: &str) -> &'static str {
     }
 }
 
+/// The extensions of files that the commands read.
+const EXTENSIONS: &[&str] = &[".src", ".obj", ".asm", ".map", ".faults"];
+
+/// A name with an extension.
+fn extended(alloc: Global, name: &str, extension: &str) -> Result<String, NoMemory> {
+    let mut longer = String::new(alloc);
+    longer.push_str(name)?;
+    longer.push_str(extension)?;
+    Ok(longer)
+}
+
+/// If the name with an extension is that of a file, says so.
+fn say_extended<L: Look>(page: &mut Page, name: &str, look: &L) -> Result<(), NoMemory> {
+    for extension in EXTENSIONS {
+        let longer = extended(page.alloc(), name, *extension)?;
+        if look.look(longer.as_str()) == Found::File {
+            say_named(page, "; there is `", longer.as_str(), "`")?;
+        }
+    }
+    Ok(())
+}
+
 /// Says why a file cannot be read.
 fn say_reason<L: Look>(page: &mut Page, name: &str, look: &L) -> Result<(), NoMemory> {
     match wrong_folder(name, look) {
-        Some((folder, Found::Missing)) => say_folder(page, "there is no folder `", folder, "`")?,
-        Some((folder, Found::File)) => say_folder(page, "`", folder, "` is not a folder")?,
+        Some((folder, Found::Missing)) => say_named(page, "there is no folder `", folder, "`")?,
+        Some((folder, Found::File)) => say_named(page, "`", folder, "` is not a folder")?,
         _ => page.say(look.look(name).words())?,
+    }
+    if look.look(name) == Found::Missing {
+        say_extended(page, name, look)?;
     }
     page.say(advice_on(name))
 }

@@ -123,7 +123,7 @@ const TEXTS: &[(&str, &str)] = &[
     ("", "file: error: the file is empty\n"),
     (
         "entry 0\nhalt\n",
-        "file:2:1: error: this line is out of order: first come cells, then nodes, types (each with its `reg` and then `pend` lines), blocks (each with its instructions), and `entry`\n halt\n ^~~~\n",
+        "file:2:1: error: nothing may follow `entry`, which is line 1: move that line to the end\n halt\n ^~~~\n",
     ),
     (
         "node 0 memory\n",

@@ -23,12 +23,12 @@ const REFUSED: &[Refused] = &[
     (
         P3,
         &[],
-        "file: error: block 0, instruction 1: its word is not a value of the type that it claims (premise 3)\n  mov r1 G 5 ref:int\n",
+        "file: error: block 0, instruction 1: its word is not a value of the type that it claims (premise 3)\n  mov r1 G 5 ref:int\n  no cell has the address 5: the only cell is at 1048576\n",
     ),
     (
         P4,
         &[],
-        "file: error: block 0, instruction 4: its address register does not hold the address of a cell (`ref`) (premise 4)\n  st_G r1 r0\n  r1: G int\n  r0: G ref:int\n",
+        "file: error: block 0, instruction 4: its address register does not hold the address of a cell (`ref`) (premise 4)\n  st_G r1 r0\n  r1: G int\n  r0: G ref:int\n  the register with the address comes first, then the one with the value\n",
     ),
     (
         N,

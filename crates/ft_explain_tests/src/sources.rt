@@ -250,6 +250,6 @@ fn large_sources_are_explained(rt: HostRuntime) -> Result<(), Fail> {
     check_source(&rt, cells.as_str(), text)?;
     let variables = declared(&rt, "var ", ";", 31, "n0 = 1;")?;
     let text =
-        "file: error: the source needs 33 pairs of registers, but there are only 32: use fewer variables or shorter expressions\n";
+        "file: error: the source needs 33 pairs of registers, but there are only 32: each variable takes one, and long expressions take more; keep some words in cells or an array instead\n";
     check_source(&rt, variables.as_str(), text)
 }

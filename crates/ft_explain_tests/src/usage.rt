@@ -6,7 +6,7 @@ use std::test::Fail;
 const WORDS: &[(&str, &str)] = &[
     (
         "check",
-        "talft: error: missing OBJECT after `check`; for standard input write `/dev/stdin`\nusage: talft check OBJECT\n",
+        "talft: error: missing OBJECT after `check`; for standard input write `/dev/stdin`\nusage: talft check OBJECT\n  report whether the typing rules accept an object\n",
     ),
     (
         "check a --steps 3",
@@ -54,7 +54,7 @@ const WORDS: &[(&str, &str)] = &[
     ),
     (
         "debug a --wild go",
-        "talft: error: invalid list `go` for `--wild`: expected at most 4096 answers separated by commas, each a number or `stop`\nusage: talft debug OBJECT [--wild LIST]\n",
+        "talft: error: invalid list `go` for `--wild`: expected at most 4096 answers separated by commas, each a number or `stop`\nusage: talft debug OBJECT [--wild LIST] <SCRIPT\n",
     ),
     (
         "survey a --steps 5",

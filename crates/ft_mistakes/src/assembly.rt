@@ -135,12 +135,22 @@ fn explain_form(
     place.show(page, word.len())
 }
 
-/// Explains that a line is out of order, and gives the order.
-fn explain_order(page: &mut Page, name: &str, start: Place<'_>) -> Result<(), NoMemory> {
+/// Explains that a line is out of order. `entry` is the number of the first line that begins with that word.
+fn explain_order(
+    page: &mut Page,
+    name: &str,
+    start: Place<'_>,
+    entry: Option<usize>,
+) -> Result<(), NoMemory> {
     let place = start.after(word_start(start.line(), 0));
     let word = word_at(start.line(), word_start(start.line(), 0));
     page.head_at(name, &place)?;
-    page.say(ORDER)?;
+    match entry {
+        Some(number) if number < start.number() => page.say(format_args!(
+            "nothing may follow `entry`, which is line {number}: move that line to the end\n"
+        ))?,
+        _ => page.say(ORDER)?,
+    }
     place.show(page, word.len())
 }
 
@@ -173,7 +183,7 @@ pub fn explain_text(
     {
         return match number {
             1 => explain_form(page, name, start, text),
-            _ => explain_order(page, name, start),
+            _ => explain_order(page, name, start, line_with(text, b"entry")),
         };
     }
     page.head(name)?;

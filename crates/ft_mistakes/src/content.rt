@@ -1,7 +1,8 @@
 //! Guesses what a file is from how it begins.
-use crate::mnemonics::is_line;
+use crate::forms::first_word;
+use crate::mnemonics::{form_in_tables, is_line};
 use crate::page::Page;
-use ft_isa::{NoMemory, read_strike};
+use ft_isa::{NoMemory, read_number, read_strike};
 use ft_lexer::{Kind, Lexer, Token};
 use ft_text::read_line;
 use std::alloc::Global;
@@ -24,6 +25,8 @@ pub enum Content {
     Map,
     /// A debugger script.
     Script,
+    /// An output of the program.
+    Answer,
     /// A C program.
     C,
     /// A WebAssembly module.
@@ -54,6 +57,7 @@ impl Content {
             Content::List => "a fault list",
             Content::Map => "a link map",
             Content::Script => "a debugger script",
+            Content::Answer => "output of `talft`",
             Content::C => "a C program",
             Content::Wasm => "a WebAssembly module",
             Content::Wide => "UTF-16 text",
@@ -88,6 +92,8 @@ impl Content {
             Content::Wide => ": save it as ASCII text",
             Content::Gzip => ": `gunzip` unpacks it",
             Content::Zip => ": `unzip` unpacks it",
+            Content::Answer if wanted == Content::Object =>
+                ": the call that wrote it was refused, or writes no object",
             Content::Elf if wanted == Content::Object =>
                 ": `tools/cc` makes an object from C files",
             _ => "",
@@ -106,7 +112,7 @@ fn is_of_text(byte: u8) -> bool {
 }
 
 /// Whether bytes are text.
-fn is_text(bytes: &[u8]) -> bool {
+pub(crate) fn is_text(bytes: &[u8]) -> bool {
     bytes.iter().all(|byte| is_of_text(*byte))
 }
 
@@ -177,6 +183,55 @@ fn content_of_line(alloc: Global, line: &[u8]) -> Result<Content, NoMemory> {
     Ok(content)
 }
 
+/// Whether the program may have written this line: a name and a number, or the answer to a refused call or to a check.
+fn is_line_of_answer(line: &[u8]) -> bool {
+    let line = str::from_utf8(line).unwrap_or("");
+    let Some((name, rest)) = line.split_once(' ') else {
+        return line == "accepted" || line == "usage";
+    };
+    let is_name = matches!(name.as_bytes().first(), Some(b'a'..=b'z' | b'A'..=b'Z'));
+    if REFUSALS.iter().any(|word| *word == name) {
+        return name == "check" || are_numbers(rest);
+    }
+    let is_value = read_number(rest.as_bytes()).is_some();
+    is_name && is_value && form_in_tables(name.as_bytes()).is_none()
+}
+
+/// Whether words separated by spaces are numbers.
+fn are_numbers(words: &str) -> bool {
+    words
+        .split(' ')
+        .all(|word| read_number(word.as_bytes()).is_some())
+}
+
+/// The first words of the answers to refused files.
+const REFUSALS: &[&str] = &["source", "object", "asm", "list", "link", "check"];
+
+/// Whether a text begins with the answer to a refused file, which an explanation may follow.
+fn begins_as_refusal(text: &[u8]) -> bool {
+    let line = match read_line(text) {
+        Some((line, _)) => line,
+        None => text,
+    };
+    let first = first_word(str::from_utf8(line).unwrap_or(""));
+    is_line_of_answer(line) && REFUSALS.iter().any(|word| *word == first)
+}
+
+/// Whether the program may have written each line of a text.
+fn is_answer(text: &[u8]) -> bool {
+    let mut rest = text;
+    for _ in 0..text.len() {
+        let Some((line, after)) = read_line(rest) else {
+            break;
+        };
+        if !is_line_of_answer(line) {
+            return false;
+        }
+        rest = after;
+    }
+    true
+}
+
 /// Whether a text has a C preprocessor directive.
 fn has_directive(text: &[u8]) -> bool {
     let mut rest = text;
@@ -244,7 +299,11 @@ fn content_of(alloc: Global, bytes: &[u8]) -> Result<Content, NoMemory> {
     if !is_text(bytes) {
         return Ok(Content::Binary);
     }
-    content_of_line(alloc, first_said(bytes))
+    let content = content_of_line(alloc, first_said(bytes))?;
+    if content == Content::Unknown && (begins_as_refusal(bytes) || is_answer(bytes)) {
+        return Ok(Content::Answer);
+    }
+    Ok(content)
 }
 
 /// Says what a file is, what was expected, and what to do.

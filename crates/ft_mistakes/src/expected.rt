@@ -173,14 +173,20 @@ fn habit_of_word(word: &[u8]) -> Option<&'static str> {
             Some("loops are written `while (..) { .. }`")
         }
         b"return" => Some("there is no `return`: a program ends after its last statement"),
-        b"break" | b"continue" | b"goto" | b"switch" | b"else" | b"elif" => {
-            Some("a statement is an assignment, a `while`, or an `if` with or without `else`")
-        }
+        b"break" | b"continue" | b"goto" | b"switch" | b"else" | b"elif" => Some(STATEMENT),
         b"def" | b"fn" | b"func" | b"function" | b"void" => Some("there are no functions"),
         b"print" | b"println" | b"printf" | b"puts" | b"write" | b"echo" => Some(OUTPUT),
         _ => None,
     }
 }
+
+/// What a statement is.
+const STATEMENT: &str =
+    "a statement is an assignment, a `while`, or an `if` with or without `else`";
+
+/// What a source begins with.
+const BEGINS: &str =
+    "a source has declarations, such as `cell a = 0;`, and then statements, such as `a = 1;`";
 
 /// What to do instead of calling a function that prints.
 const OUTPUT: &str = "there are no calls or macros: an assignment to a cell is the output";
@@ -322,12 +328,14 @@ fn habit_after(last: Kind, next: Kind) -> Option<&'static str> {
         Kind::Var | Kind::Cell if begins_statement(last) => {
             Some("declarations come before the first statement")
         }
+        Kind::Number | Kind::LParen if begins_statement(last) => Some(STATEMENT),
         _ => None,
     }
 }
 
 /// The message for an array with several initial values.
-const SAME_VALUE: &str = "all cells of an array have the same initial value";
+const SAME_VALUE: &str =
+    "all cells of an array have the same initial value: write `= 0`, and assign the others, as in `a[1] = 3;`";
 
 /// What is wrong with the initial value or the length in the declaration of a cell.
 fn habit_of_cell(before: Before<'_>, next: Kind) -> Option<&'static str> {
@@ -379,7 +387,9 @@ pub(crate) fn habit(source: &[u8], at: usize) -> Option<&'static str> {
     if next == Kind::RBrace && before.depth == 0 {
         return Some("no matching `{`");
     }
-    let last = before.last?;
+    let Some(last) = before.last else {
+        return Some(BEGINS);
+    };
     if next == Kind::RParen && before.open == 0 {
         return Some("no matching `(`");
     }

@@ -32,7 +32,7 @@ talft survey mixed.obj --faults mixed.faults",
     "mean SOURCE [--turns N]
 write the output that a source specifies
 talft mean fibonacci.src",
-    "debug OBJECT [--wild LIST]
+    "debug OBJECT [--wild LIST] <SCRIPT
 run debugger commands from standard input
 talft debug five.obj <five.script",
     "demo N

@@ -80,6 +80,12 @@ pub(crate) fn say_form(page: &mut Page, command: &'static str) -> Result<(), NoM
     page.say(format_args!("usage: talft {written}\n"))
 }
 
+/// Says what a command does.
+pub(crate) fn say_summary(page: &mut Page, command: &'static str) -> Result<(), NoMemory> {
+    let (summary, _) = summary_and_example(command);
+    page.say(format_args!("  {summary}\n"))
+}
+
 /// Lists the options that a command takes.
 fn say_options(page: &mut Page, command: &'static str) -> Result<(), NoMemory> {
     let mut is_first = true;
@@ -97,10 +103,10 @@ fn say_options(page: &mut Page, command: &'static str) -> Result<(), NoMemory> {
 
 /// Writes the help for a command: how it is written, what it does, its options and an example.
 pub(crate) fn say_help_of(page: &mut Page, command: &'static str) -> Result<(), NoMemory> {
-    let (summary, example) = summary_and_example(command);
+    let (_, example) = summary_and_example(command);
     say_version(page)?;
     say_form(page, command)?;
-    page.say(format_args!("  {summary}\n"))?;
+    say_summary(page, command)?;
     say_options(page, command)?;
     page.say(format_args!("\nexample:\n  {example}\n\nmore: `man talft`\n"))
 }

@@ -44,7 +44,7 @@ const INSTRS: &[&str] = &[
 const OTHER: &str = "other words";
 
 /// The words after the first word of a line that is not an instruction.
-fn form_in_tables(word: &[u8]) -> Option<&'static str> {
+pub(crate) fn form_in_tables(word: &[u8]) -> Option<&'static str> {
     for (first, rest) in TABLES {
         if first.as_bytes() == word {
             return Some(*rest);

@@ -1,5 +1,5 @@
 //! Explains why objects are refused.
-use crate::content::{Content, content_of_file, say_kind};
+use crate::content::{Content, begins_as_object, content_of_file, is_text, say_kind};
 use crate::excerpt::part;
 use crate::fields::{Field, HEADER, field_at};
 use crate::page::Page;
@@ -51,6 +51,14 @@ const AS_TEXT: &str =
 const LINE_FEED: &str =
     "  a line feed follows its end; an editor or a text tool may have added it: copy the object in binary mode\n";
 
+/// The message for an object with another one after it.
+const JOINED: &str =
+    "  another object follows its end: `talft link MAP` joins objects, and `cat` does not\n";
+
+/// The message for an object with text after its end.
+const TEXT: &str =
+    "  text follows its end: messages belong elsewhere, so redirect only standard output (no `2>&1`)\n";
+
 /// The message for an object without zero bytes, which each header has.
 const NO_ZEROS: &str =
     "the object has no zero bytes, because a text tool removed or replaced them: copy it in binary mode\n";
@@ -94,8 +102,13 @@ fn say_length(page: &mut Page, bytes: &[u8]) -> Result<(), NoMemory> {
             if has_line_feed(bytes, wanted) {
                 return page.say(LINE_FEED);
             }
+            if begins_as_object(part(bytes, wanted, length)) {
+                return page.say(JOINED);
+            }
             page.say(if is_as_text(bytes, wanted) {
                 AS_TEXT
+            } else if length > wanted && is_text(part(bytes, wanted, length)) {
+                TEXT
             } else {
                 ""
             })

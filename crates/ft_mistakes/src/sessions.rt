@@ -130,13 +130,13 @@ fn explain_lines(page: &mut Page, script: &[u8], commands: &[Command<'_>]) -> Re
 /// The answer to a line that is not a command.
 const BAD: &[u8] = b"bad command";
 
-/// Explains a session whose script cannot be read again, from the last line that it wrote.
+/// Explains a session whose script cannot be read again, if `line` is the answer to a line that is not a command.
 fn explain_last(page: &mut Page, line: &[u8]) -> Result<(), NoMemory> {
     if line.trim_ascii() != BAD {
         return Ok(());
     }
     page.head("standard input")?;
-    page.say("the last line is not a command: the commands are ")?;
+    page.say("a line is not a command: the commands are ")?;
     say_commands(page)?;
     page.say("; put the script into a file and add `<FILE` to see what is wrong with each line\n")
 }
@@ -147,8 +147,8 @@ fn begins_wrong(commands: &[Command<'_>]) -> bool {
 }
 
 /// Explains which lines of a session's script are not commands, or that the script is a file of another kind. If the
-/// script cannot be read again (`name` is `None`), says only that its last line is not a command, and only if `line`,
-/// the last line that the session wrote, is `bad command`.
+/// script cannot be read again (`name` is `None`), says only that a line is not a command, and only if `line`, which the
+/// session wrote, is `bad command`.
 pub fn explain_session<S: Shelf>(
     page: &mut Page,
     name: Option<&'static str>,

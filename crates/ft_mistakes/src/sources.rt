@@ -215,7 +215,7 @@ fn say_whole(page: &mut Page, number: u64, told: u64) -> Result<(), NoMemory> {
         1 => page.say(format_args!("the source is too long: at most {told} bytes are allowed")),
         8 => page.say(format_args!("the source has {told} cells: at most 1024 are allowed")),
         9 => page.say(format_args!(
-            "the source needs {told} pairs of registers, but there are only 32: use fewer variables or shorter expressions"
+            "the source needs {told} pairs of registers, but there are only 32: each variable takes one, and long expressions take more; keep some words in cells or an array instead"
         )),
         10 => page.say(format_args!(
             "the source is too large: its weight is {told}, and at most 65536 is allowed"

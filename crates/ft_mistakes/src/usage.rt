@@ -3,13 +3,13 @@ use crate::dashes::{Dashed, dashed_option, first_dashed, say_dashed};
 use crate::forms::{COMMANDS, OPTIONS, command_lines, first_word, most_of, operand_of, value_of};
 use crate::help::{
     asks_for_help, asks_for_version, is_help, say_commands, say_form, say_help, say_help_of,
-    say_version,
+    say_summary, say_version,
 };
 use crate::lists::second_fault;
 use crate::near::{is_near, say_near};
 use crate::numbers::{is_number, say_misfit};
 use crate::page::Page;
-use crate::strikes::say_wrong_part;
+use crate::strikes::{is_fault, say_wrong_part};
 use ft_isa::{NoMemory, read_strike, read_wild};
 
 /// Whether an option was given among these words, which alternate between options and values.
@@ -218,18 +218,52 @@ fn say_split(page: &mut Page, word: &str) -> Result<(), NoMemory> {
     page.say(" after the list of `--wild`: write the list without spaces, as in `1,2`")
 }
 
+/// What an argument after the operand was probably meant to be; `None` if that is not known.
+fn advice_on_extra(command: &'static str, word: &str) -> Option<&'static str> {
+    let takes_steps = value_of(command, "--steps").is_some();
+    let is_count = is_number(word.as_bytes(), u64::MAX);
+    match first_word(command).as_bytes() {
+        b"link" => Some(
+            "`link` takes one MAP, a text with a line `module FILE` for each object, and writes to standard output",
+        ),
+        b"debug" => Some("commands come from standard input: put `<` before the script's name"),
+        b"mean" if is_count => Some("put `--turns` before the number of turns"),
+        _ if is_count && takes_steps => Some("put `--steps` before the number of steps"),
+        b"campaign" | b"survey" if is_fault(word) => {
+            Some("`--faults` takes a FILE with one fault per line")
+        }
+        b"campaign" | b"survey" => Some("the fault list comes after `--faults`"),
+        b"run" | b"trial" | b"recover" if is_fault(word) => Some("put `--fault` before a fault"),
+        b"run" | b"trial" | b"recover" if word.ends_with(".faults") => {
+            Some("`talft campaign OBJECT --faults FILE` tries each fault of a list")
+        }
+        _ => None,
+    }
+}
+
+/// Whether a command writes an object or an assembly text, which people keep in a file.
+fn writes_file(command: &'static str) -> bool {
+    matches!(
+        first_word(command).as_bytes(),
+        b"compile" | b"asm" | b"dis" | b"upgrade" | b"schedule"
+    )
+}
+
 /// Says that an argument follows the operand where only options may.
 fn say_extra(page: &mut Page, command: &'static str, word: &str) -> Result<(), NoMemory> {
     page.say("unexpected argument ")?;
     page.quote(word.as_bytes())?;
     let operand = operand_of(command);
     page.say(format_args!(" after {operand}: "))?;
-    match first_word(command).as_bytes() {
-        b"link" => page.say("a link map is a text with a line `module FILE` for each object"),
-        b"campaign" | b"survey" => page.say("the fault list comes after `--faults`"),
-        b"debug" => page.say("commands come from standard input"),
-        _ => page.say(format_args!("give only one {operand}")),
+    if let Some(advice) = advice_on_extra(command, word) {
+        return page.say(advice);
     }
+    page.say(format_args!("give only one {operand}"))?;
+    page.say(if writes_file(command) {
+        "; to write to a file, add `>FILE`"
+    } else {
+        ""
+    })
 }
 
 /// Says that a command does not take this argument where only options may follow.
@@ -421,13 +455,35 @@ fn say_unknown(page: &mut Page, word: &str) -> Result<(), NoMemory> {
     page.say("more: `talft help`, `talft help COMMAND`\n")
 }
 
+/// The option with this name, which may lack its dashes.
+fn option_lines(name: &str) -> Option<&'static str> {
+    for option in OPTIONS {
+        let known = first_word(*option);
+        if known == name || known.strip_prefix("--") == Some(name) {
+            return Some(*option);
+        }
+    }
+    None
+}
+
+/// Writes the help for an option: its text, and the commands that take it.
+fn say_help_of_option(page: &mut Page, option: &'static str) -> Result<(), NoMemory> {
+    say_version(page)?;
+    page.say(format_args!("  {option}\n\ntaken by "))?;
+    say_takers(page, first_word(option))?;
+    page.say("\n\nmore: `talft help COMMAND`, `man talft`\n")
+}
+
 /// Writes the requested help.
 fn say_help_for(page: &mut Page, rest: &[String]) -> Result<(), NoMemory> {
     let [name, ..] = rest else {
         return say_help(page);
     };
-    match command_lines(name.as_str()) {
-        Some(command) => say_help_of(page, command),
+    if let Some(command) = command_lines(name.as_str()) {
+        return say_help_of(page, command);
+    }
+    match option_lines(name.as_str()) {
+        Some(option) => say_help_of_option(page, option),
         None => say_unknown(page, name.as_str()),
     }
 }
@@ -456,5 +512,9 @@ pub fn explain_usage(page: &mut Page, words: &[String]) -> Result<(), NoMemory> 
     page.say("talft: error: ")?;
     say_words(page, command, rest)?;
     page.say("\n")?;
-    say_form(page, command)
+    say_form(page, command)?;
+    if rest.is_empty() {
+        return say_summary(page, command);
+    }
+    Ok(())
 }
