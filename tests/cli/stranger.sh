@@ -196,7 +196,7 @@ done <<'END'
 0^mean got^cell a = 0;\na = a < 1 | a == 2;\n^got:2:15: note: `&`, `|` and `^` bind more tightly than `<` and `==`: write `(a < b) & (c == d)` to test both
 0^exec got^cell a = 0;\na = a == 0 == 1;\n^got:2:12: note: this compares the result of the `==` before it, which is 0 or 1; write `(a == b) & (b == c)` to test both
 0^exec got^cell a = 0;\na = 1 < 2 < 3;\n^got:2:11: note: this compares the result of the `<` before it, which is 0 or 1; write `(a < b) & (b < c)` to test both
-0^mean got^cell a = 0;\nvar x;\nx = 3;\nif (x < 0) { a = 1; } else { a = 2; }\n^got:4:9: note: this is always 0: words have no sign, so none is below 0; compare before you subtract
+0^mean got^cell a = 0;\nvar x;\nx = 3;\nif (x < 0) { a = 1; } else { a = 2; }\n^got:4:7: note: this comparison is always 0: words have no sign, so none is below 0; compare before you subtract
 0^exec got^cell b[3] = 0;\ncell a = 0;\na = b[0 - 1];\n^got:3:7: note: `b` has 3 cells: the index 18446744073709551615 selects cell 0
 0^exec got^cell b[3] = 0;\nb[0 - 0] = 1;\nb[1 - 1] = 1;\n^
 0^exec got^cell a = 0;\nvar x;\na = (1 < x) & (x < 3) == (0 < x);\na = 1 < x == x < 3;\n^

@@ -104,7 +104,10 @@ impl<'s> Read<'s> {
     fn below_zero(self) -> Option<usize> {
         let less = self.before?;
         let last = self.last?;
-        if less.kind == Kind::Less && last.kind == Kind::Number && read_number(last.text) == Some(0) {
+        if less.kind == Kind::Less
+            && last.kind == Kind::Number
+            && read_number(last.text) == Some(0)
+        {
             Some(less.at)
         } else {
             None

@@ -5,13 +5,11 @@ ghost use Rattle.ft_edge.specs.Causes.{Rose, AddsPrefix};
 ghost use Rattle.ft_edge.specs.Told.{append_told};
 
 use ft_edge::{Failed, Sink};
+use ft_mistakes::BAD_COMMAND;
 use ft_text::{Line, ROOM};
 
-/// The answer to a line of a debugger session that is not a command.
-const REFUSED: &[u8] = b"bad command\n";
-
 /// A sink that passes each piece on to another sink and remembers the last piece if it has at most `ROOM` bytes, as the
-/// line of a refusal does. Once a piece is `REFUSED`, it remembers this one. A put allocates no memory.
+/// line of a refusal does. Once a piece is `BAD_COMMAND`, it remembers this one. A put allocates no memory.
 #[derive(Drop)]
 pub struct LastLine<K: Sink> {
     sink: K,
@@ -42,7 +40,7 @@ impl<K: Sink> Sink for LastLine<K> {
     ghost log = { λ s. K.log s.sink };
 
     fn put(&mut self, bytes: &[u8]) -> Result<(), Failed> {
-        if self.line.as_bytes() != REFUSED {
+        if self.line.as_bytes().trim_ascii_end() != BAD_COMMAND {
             self.line = line_of(bytes);
         }
         self.sink.put(bytes)

@@ -47,7 +47,7 @@ pub use near::{is_near, say_near};
 pub use numbers::{is_number, say_misfit};
 pub use objects::{explain_long, explain_object, rule};
 pub use page::Page;
-pub use sessions::explain_session;
+pub use sessions::{BAD_COMMAND, explain_session};
 pub use sources::{explain_source, has_place};
 pub use strikes::is_fault;
 pub use tables::explain_tables;

@@ -128,11 +128,11 @@ fn explain_lines(page: &mut Page, script: &[u8], commands: &[Command<'_>]) -> Re
 }
 
 /// The answer to a line that is not a command.
-const BAD: &[u8] = b"bad command";
+pub const BAD_COMMAND: &[u8] = b"bad command";
 
 /// Explains a session whose script cannot be read again, if `line` is the answer to a line that is not a command.
 fn explain_last(page: &mut Page, line: &[u8]) -> Result<(), NoMemory> {
-    if line.trim_ascii() != BAD {
+    if line.trim_ascii() != BAD_COMMAND {
         return Ok(());
     }
     page.head("standard input")?;
