@@ -107,10 +107,7 @@ fn wrong_byte(line: &[u8]) -> Option<(usize, &'static str)> {
 
 /// Whether the line with this number is among the instructions of a text.
 fn is_in_code(text: &[u8], number: usize) -> bool {
-    match line_with(text, b"block") {
-        Some(first) => first < number,
-        None => false,
-    }
+    line_with(text, b"block", number.saturating_sub(1)).is_some()
 }
 
 /// Explains why a line that fits no form is refused.
@@ -181,9 +178,10 @@ pub fn explain_text(
     if let Some(text) = text
         && let Some(start) = Place::of_line(text, told as usize)
     {
+        let start = start.in_short_line();
         return match number {
             1 => explain_form(page, name, start, text),
-            _ => explain_order(page, name, start, line_with(text, b"entry")),
+            _ => explain_order(page, name, start, line_with(text, b"entry", text.len())),
         };
     }
     page.head(name)?;

@@ -9,6 +9,9 @@ const WIDTH: usize = 100;
 /// The maximum number of bytes that are shown before the place.
 const BEFORE: usize = 60;
 
+/// The maximum number of bytes of a line that are examined: no line of an assembly text that is accepted has more.
+const EXAMINED: usize = 16_777_216;
+
 /// A place in a text.
 #[derive(Clone, Copy)]
 pub struct Place<'a> {
@@ -95,6 +98,15 @@ impl<'a> Place<'a> {
     /// The place in the same line after this many bytes.
     pub fn after(self, before: usize) -> Place<'a> {
         Place { before, ..self }
+    }
+
+    /// The same place, if only the first `EXAMINED` bytes of the line are examined.
+    pub(crate) fn in_short_line(self) -> Place<'a> {
+        let past = letter_from(self.line, EXAMINED);
+        Place {
+            line: part(self.line, 0, past),
+            ..self
+        }
     }
 
     /// The line's number, counted from 1.

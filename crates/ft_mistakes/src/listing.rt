@@ -119,11 +119,11 @@ pub(crate) fn line_of(text: &[u8], record: Record) -> Option<(Place<'_>, usize)>
     None
 }
 
-/// The number of the first line that begins with this word.
-pub(crate) fn line_with(text: &[u8], first: &[u8]) -> Option<usize> {
+/// The number of the first line that begins with this word, among the first `most` lines of a text.
+pub(crate) fn line_with(text: &[u8], first: &[u8], most: usize) -> Option<usize> {
     let mut rest = text;
     let mut number: usize = 1;
-    for _ in 0..text.len() {
+    for _ in 0..most {
         let (line, after) = read_line(rest)?;
         if word(line, 0) == first {
             return Some(number);

@@ -299,7 +299,9 @@ fn explain_count(page: &mut Page, name: &str, counts: Header, at: usize) -> Resu
 
 /// Explains that the entry block does not exist.
 fn explain_entry(page: &mut Page, name: &str, text: &[u8], counts: Header) -> Result<(), NoMemory> {
-    let line = line_with(text, b"entry").and_then(|number| Place::of_line(text, number));
+    let line = line_with(text, b"entry", text.len()).and_then(|number| Place::of_line(
+        text, number,
+    ));
     let Some(start) = line else {
         page.head(name)?;
         return page.say("the entry block does not exist\n");
