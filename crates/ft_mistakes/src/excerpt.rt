@@ -9,7 +9,8 @@ const WIDTH: usize = 100;
 /// The maximum number of bytes that are shown before the place.
 const BEFORE: usize = 60;
 
-/// The maximum number of bytes of a line that are examined: no line of an assembly text that is accepted has more.
+/// The maximum number of bytes of a line of an assembly text that are examined: a line with 1,048,576 substitution rows,
+/// each after one space, has fewer.
 const EXAMINED: usize = 16_777_216;
 
 /// A place in a text.
