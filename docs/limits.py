@@ -31,11 +31,16 @@ def table(rows):
             yield f"| `{command}` | {row['input']} | {row['size']} | {row['status']} | {row['seconds']} | {row['megabytes']} |"
 
 
+def key(row):
+    """What names a row."""
+    return tuple(row[column] for column in ("command", "input", "words", "status", "last line"))
+
+
 def worse(old, new):
     """The rows that rose by more than a tenth, and by more than the noise of the clock and of memory pages can explain."""
-    before = {(row["command"], row["input"], row["words"]): row for row in old}
+    before = {key(row): row for row in old}
     for row in new:
-        was = before.get((row["command"], row["input"], row["words"]))
+        was = before.get(key(row))
         if was is None:
             continue
         for column, least in (("seconds", 0.01), ("megabytes", 2)):
