@@ -189,7 +189,7 @@ module _ (types : ℕ) (nodes : List Node) (few_types : types ≤ 4096) (few_nod
 
     numbers_fit : (first : ℕ) (i : Instr) (rest : List Subst) → IsInstr types cells i →
         Cover nodes (length substs) first (before (subst_of i) rest) → FitsInstr (placed 0 0 i)
-    numbers_fit first (instrs.Mov rd value basic) rest h c = (h.0, basic_fits types basic few_types h.1)
+    numbers_fit first (instrs.Mov rd basic value) rest h c = (h.0, basic_fits types basic few_types h.1)
     numbers_fit first (instrs.JmpB rd s) rest h c = (omega arith, omega arith, memory_fits first s c.0)
     numbers_fit first (instrs.BzB rz rd s) rest h c = (omega arith, omega arith, memory_fits first s c.0)
     numbers_fit first (instrs.Idx rd rs x m) rest h c = (

@@ -28,7 +28,7 @@ st_word Blue = codes "st_B"
 abbrev pub instr_form : Instr → Form
 instr_form (OpReg op rd rs rt) = form (op_word op) (AReg rd ∷ AReg rs ∷ AReg rt ∷ [])
 instr_form (OpWord op rd rs value) = form (op_word op) (AReg rd ∷ AReg rs ∷ AColour value.colour ∷ AWord value.word ∷ [])
-instr_form (Mov rd value basic) = form (codes "mov") (AReg rd ∷ AColour value.colour ∷ AWord value.word ∷ ABasic basic ∷ [])
+instr_form (Mov rd basic value) = form (codes "mov") (AReg rd ∷ AColour value.colour ∷ AWord value.word ∷ ABasic basic ∷ [])
 instr_form (Ld colour rd rs) = form (ld_word colour) (AReg rd ∷ AReg rs ∷ [])
 instr_form (St colour rd rs) = form (st_word colour) (AReg rd ∷ AReg rs ∷ [])
 instr_form (JmpG rd) = form (codes "jmp_G") (AReg rd ∷ [])
@@ -51,7 +51,7 @@ abbrev pub op_word_row : Op → Row Instr
 op_word_row op = row (op_word op) (OneReg ∷ OneReg ∷ OneColour ∷ OneWord ∷ []) (λ rd rs c w. OpWord op rd rs (record { colour = c; word = w }))
 
 abbrev pub mov_row : Row Instr
-mov_row = row (codes "mov") (OneReg ∷ OneColour ∷ OneWord ∷ OneBasic ∷ []) (λ rd c w b. Mov rd (record { colour = c; word = w }) b)
+mov_row = row (codes "mov") (OneReg ∷ OneColour ∷ OneWord ∷ OneBasic ∷ []) (λ rd c w b. Mov rd b (record { colour = c; word = w }))
 
 abbrev pub idx_row : Row Instr
 idx_row = row (codes "idx") (OneReg ∷ OneReg ∷ OneIndex ∷ OneIndex ∷ []) (λ rd rs first m. Idx rd rs first m)

@@ -235,7 +235,7 @@ fn put_op_word(out: &mut Vec<u8>, op: Op, rd: Reg, rs: Reg, value: Coloured) -> 
 
 /// Appends a `mov`.
 fn put_mov(out: &mut Vec<u8>, rd: Reg, value: Coloured, basic: Basic) -> Result<(), NoMemory>
-    ensures { OnOk result (out.new.items ≡ out.old.items ++ spaced (form_words (instr_form (instrs.Mov rd value basic)))) }
+    ensures { OnOk result (out.new.items ≡ out.old.items ++ spaced (form_words (instr_form (instrs.Mov rd basic value)))) }
 {
     put(out, b"mov ")?;
     put_reg(out, rd)?;

@@ -46,7 +46,7 @@ has_int o v = refl
 module _ (o : Object) where
   -- the rule of a move continues
   pub mov_row : (c : Context) (rd : Reg) (v : ℕ) (k : Colour) (b : Basic) → has_type o v b ≡ true →
-      row o c (instr.Mov rd (record { colour = k; word = v }) b) ≡ Goes (with_type rd.number (ty k b (constant v)) c)
+      row o c (instr.Mov rd b (record { colour = k; word = v })) ≡ Goes (with_type rd.number (ty k b (constant v)) c)
   unfolding need
   mov_row c rd v k b h = rw h refl
 

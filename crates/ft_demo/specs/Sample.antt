@@ -10,7 +10,7 @@ use Rattle.ft_types.specs.declared.object.Object.{Object}
 
 -- the address of `out` and the value 0, in both colours
 abbrev pub opening : List Instr
-opening = Mov r0 (green out) (ref int) ∷ Mov r32 (blue out) (ref int) ∷ Mov r1 (green 0) int ∷ Mov r33 (blue 0) int ∷ []
+opening = Mov r0 (ref int) (green out) ∷ Mov r32 (ref int) (blue out) ∷ Mov r1 int (green 0) ∷ Mov r33 int (blue 0) ∷ []
 
 -- the value becomes three times itself plus i, and is stored in `out`
 abbrev pub turn : ℕ → List Instr

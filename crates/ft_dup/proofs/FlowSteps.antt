@@ -57,8 +57,8 @@ module _ (o : Object) (w : List Wild) where
 
   -- two moves put a word into both registers of a pair
   two_moves : (i p v : ℕ) (m : Registers) (c : Cells) (os : List Output) → i + 2 < 65537 →
-      slice_get (map bare o.instrs) i ≡ Some (instr.Mov (green p) (col Green v) int) →
-      slice_get (map bare o.instrs) (suc i) ≡ Some (instr.Mov (blue p) (col Blue v) int) →
+      slice_get (map bare o.instrs) i ≡ Some (instr.Mov (green p) int (col Green v)) →
+      slice_get (map bare o.instrs) (suc i) ≡ Some (instr.Mov (blue p) int (col Blue v)) →
       Leads o 4 (spot i m 0 [] c w os) (spot (suc (suc i)) (two_held m p (col Green v) (col Blue v)) 0 [] c w os)
   two_moves i p v m c os short a b = lead_on o 2 2 _ _ _ (mov o w i (omega arith) m c os (green p) (col Green v) a)
       (mov o w (suc i) (omega arith) (with_held m (green p).number (col Green v)) c os (blue p) (col Blue v) b)
@@ -241,8 +241,8 @@ module _ (o : Object) (w : List Wild) where
 
   -- two moves leave the target's code address in both registers of the spare pair
   to_spare : (i s t : ℕ) (m : Registers) (c : Cells) (os : List Output) → i + 2 < 65537 →
-      slice_get (map bare o.instrs) i ≡ Some (instr.Mov (green s) (col Green (code_address t)) int) →
-      slice_get (map bare o.instrs) (suc i) ≡ Some (instr.Mov (blue s) (col Blue (code_address t)) int) →
+      slice_get (map bare o.instrs) i ≡ Some (instr.Mov (green s) int (col Green (code_address t))) →
+      slice_get (map bare o.instrs) (suc i) ≡ Some (instr.Mov (blue s) int (col Blue (code_address t))) →
       Leads o 4 (spot i m 0 [] c w os) (spot (suc (suc i)) (two_held m s (col Green (suc t)) (col Blue (suc t))) 0 [] c
       w
       os)

@@ -76,7 +76,7 @@ fetched_state i m d q c I = record (stands (suc i) m d q c) { fetched = Some I }
 
 -- claims and substitutions have no effect
 execute_bare : (I : Instr) (s : State) (w : List Wild) → execute I s w ≡ execute (bare I) s w
-execute_bare (instr.Mov rd v b) s w = refl
+execute_bare (instr.Mov rd b v) s w = refl
 execute_bare (instr.JmpB rd t) s w = refl
 execute_bare (instr.BzB rz rd t) s w = refl
 execute_bare I s w = refl
@@ -151,7 +151,7 @@ module _ (o : Object) (w : List Wild) (i : ℕ) (short : i < 65537) where
 
   -- a move puts its word into its register
   pub mov : (m : Registers) (c : Cells) (os : List Output) (r : Reg) (x : Coloured) → slice_get (map bare o.instrs) i
-      ≡ Some (instr.Mov r x int) → Leads o 2 (spot i m 0 [] c w os) (spot (suc i) (with_held m r.number x) 0 [] c w os)
+      ≡ Some (instr.Mov r int x) → Leads o 2 (spot i m 0 [] c w os) (spot (suc i) (with_held m r.number x) 0 [] c w os)
   mov m c os r x at = two_quiet o _ i m 0 [] c w os _ at (λ I. goes_by (with_held m r.number x) 0 [] c)
 
   -- an operation on registers of one colour puts its result into its register

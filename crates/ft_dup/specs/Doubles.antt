@@ -19,7 +19,7 @@ use Rattle.ft_dup.specs.Images.{green, blue, green_word, blue_word, empty, start
 
 -- the same instruction with no claim and no substitution
 abbrev pub bare : Instr → Instr
-bare (instr.Mov rd v b) = instr.Mov rd v int
+bare (instr.Mov rd b v) = instr.Mov rd int v
 bare (instr.JmpB rd t) = instr.JmpB rd empty
 bare (instr.BzB rz rd t) = instr.BzB rz rd empty
 bare i = i

@@ -43,7 +43,7 @@ empty = record { first = 0; past = 0; memory = 0 }
 
 -- green and blue moves of a word into the two registers of a pair
 abbrev pub moves : ℕ → ℕ → Basic → List Instr → List Instr
-moves p w b rest = instr.Mov (green p) (green_word w) b ∷ instr.Mov (blue p) (blue_word w) b ∷ rest
+moves p w b rest = instr.Mov (green p) b (green_word w) ∷ instr.Mov (blue p) b (blue_word w) ∷ rest
 
 -- a green and a blue `idx`, which put the address of the array cell that the word of pair q selects into the registers
 -- of pair p

@@ -184,7 +184,7 @@ module _ (o : Object) (cs : List Cell) (same : map basic_of cs ≡ map basic_of 
   -- ROWS
 
   row_same : (c : Context) (i : Instr) → row (with_cells o cs) c i ≡ row o c i
-  row_same c (Mov rd value basic) = λ i. need premise.BasicType (has_type_same value.word basic i)
+  row_same c (Mov rd basic value) = λ i. need premise.BasicType (has_type_same value.word basic i)
       (Goes (with_type rd.number (record { colour = value.colour; basic = basic; form = constant value.word }) c))
   row_same c (St Green rd rs) = refl
   row_same c (St Blue rd rs) = refl

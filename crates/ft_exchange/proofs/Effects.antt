@@ -55,7 +55,7 @@ puts (OpWord op rd rs value) m = Some (record {
   colour = (held m.registers rs.number).colour;
   word = apply op (held m.registers rs.number).word value.word;
 })
-puts (Mov rd value basic) m = Some value
+puts (Mov rd basic value) m = Some value
 puts (Ld k rd rs) m = loaded k (seen k m (held m.registers rs.number).word)
 puts (Idx rd rs first n) m = Some (record {
   colour = (held m.registers rs.number).colour;
@@ -108,7 +108,7 @@ put_execute : (i : Instr) (s : State) (w : List Wild) (r : ℕ) (x : Coloured) �
     ≡ Some x → execute i s w ≡ quiet (moved s (with_put r x (core s))) w
 put_execute (OpReg op rd rs rt) s w r x e f = put_there _ _ _ _ s w e f
 put_execute (OpWord op rd rs value) s w r x e f = put_there _ _ _ _ s w e f
-put_execute (Mov rd value basic) s w r x e f = put_there _ _ _ _ s w e f
+put_execute (Mov rd basic value) s w r x e f = put_there _ _ _ _ s w e f
 put_execute (Ld k rd rs) s w r x e f =
     loaded_execute k rd rs s w x (found k s (word s rs)) (ap (loaded k) (sym (seen_found k s (word s rs))) ∙ f)
     ∙ put_there _ _ _ _ s w e refl
@@ -175,7 +175,7 @@ pub executed : (i : Instr) (s : State) → is_fixed i ≡ false → (execute i s
     Done_ i (core s)
 executed (OpReg op rd rs rt) s free h = record { after = _; output = None; does = writes rd.number _ refl refl }
 executed (OpWord op rd rs value) s free h = record { after = _; output = None; does = writes rd.number _ refl refl }
-executed (Mov rd value basic) s free h = record { after = _; output = None; does = writes rd.number value refl refl }
+executed (Mov rd basic value) s free h = record { after = _; output = None; does = writes rd.number value refl refl }
 executed (Ld k rd rs) s free h = load_done k rd rs s (found k s (word s rs)) (seen_found k s (word s rs)) h
 executed (St Green rd rs) s free h = green_done rd rs s (nat_lt (length s.queue) 8) refl h
 executed (St Blue rd rs) s free h = blue_done rd rs s (commits (word s rd) (word s rs) s) refl h

@@ -56,7 +56,7 @@ of_idx first m (Some b) (Some s) = Some (record { colour = s.colour; basic = ref
 pub gives : Object → Context → Instr → Option Typed
 gives o c (OpReg op rd rs rt) = of_op_reg op (typed c rs.number) (typed c rt.number)
 gives o c (OpWord op rd rs value) = of_op_word op value (typed c rs.number)
-gives o c (Mov rd value basic) = of_mov (has_type o value.word basic) value basic
+gives o c (Mov rd basic value) = of_mov (has_type o value.word basic) value basic
 gives o c (Ld k rd rs) = of_ld k (seen_memory k c) (typed c rs.number)
 gives o c (Idx rd rs first m) = of_idx first m (run_type o first m) (typed c rs.number)
 gives o c i = None
@@ -140,7 +140,7 @@ unfolding gives
 gave o c (OpReg op rd rs rt) r e = gave_there _ _ _ _ _ e
     (gave_op_reg op rd.number c (typed c rs.number) (typed c rt.number))
 gave o c (OpWord op rd rs value) r e = gave_there _ _ _ _ _ e (gave_op_word op value rd.number c (typed c rs.number))
-gave o c (Mov rd value basic) r e = gave_there _ _ _ _ _ e
+gave o c (Mov rd basic value) r e = gave_there _ _ _ _ _ e
     (gave_mov value basic rd.number c (has_type o value.word basic))
 gave o c (Ld k rd rs) r e = gave_there _ _ _ _ _ e (gave_ld k (seen_memory k c) rd.number c (typed c rs.number))
 gave o c (Idx rd rs first m) r e = gave_there _ _ _ _ _ e
@@ -184,9 +184,9 @@ gives_same o c d i h m = refl
 -- it depends on the object only through the types of runs and of the words that are moved
 pub gives_there : (o x : Object) (c : Context) (i : Instr) →
     ((first m : ℕ) → run_type x first m ≡ run_type o first m) →
-    ((rd : Reg) (v : Coloured) (y : Basic) → i ≡ Mov rd v y → has_type x v.word y ≡ has_type o v.word y) → gives x c i
+    ((rd : Reg) (v : Coloured) (y : Basic) → i ≡ Mov rd y v → has_type x v.word y ≡ has_type o v.word y) → gives x c i
     ≡ gives o c i
 unfolding gives
-gives_there o x c (Mov rd value basic) runs words = ap (λ h. of_mov h value basic) (words rd value basic refl)
+gives_there o x c (Mov rd basic value) runs words = ap (λ h. of_mov h value basic) (words rd value basic refl)
 gives_there o x c (Idx rd rs first m) runs words = ap (λ b. of_idx first m b (typed c rs.number)) (runs first m)
 gives_there o x c i runs words = refl

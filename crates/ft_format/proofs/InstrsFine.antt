@@ -69,7 +69,7 @@ instr_fit _ h = search (arith, reg_fits, colour_fits, op_fits, basic_number_fits
 
 -- decoding these numbers gives the instruction back
 pub instr_back : (i : Instr) → FitsInstr i → instr_of (instr_row i) ≡ i
-instr_back (Mov rd value basic) h =
+instr_back (Mov rd basic value) h =
     let small = base_small basic.base in
     let own = type_fits basic.base h.1.1 in
     rw (
@@ -117,7 +117,7 @@ subst_fits h nodes first s m i = (
 
 instr_fits : (h : Header) (nodes : List Node) (first : ℕ) (i : Instr) → AreFew h nodes → IsInstr h.types h.cells i
     → Carries nodes h.substs first (subst_of i) → FitsInstr i
-instr_fits h nodes first (Mov rd value basic) m i s = (i.0, basic_fits h.types basic m.types i.1)
+instr_fits h nodes first (Mov rd basic value) m i s = (i.0, basic_fits h.types basic m.types i.1)
 instr_fits h nodes first (JmpB rd subst) m i s = subst_fits h nodes first subst m s
 instr_fits h nodes first (BzB rz rd subst) m i s = subst_fits h nodes first subst m s
 instr_fits h nodes first (Idx rd rs x n) m i s = (omega (arith, i.begins, m.cells), omega (arith, i.length.1))
@@ -139,7 +139,7 @@ instr_unbroken : (h : Header) (nodes : List Node) (first at : ℕ) (i : Instr) �
     IsInstr h.types h.cells i
     → SupportsInstr (version_of h) i → Carries nodes h.substs first (subst_of i) →
     instr_broken h nodes first at (instr_row i) ≡ None
-instr_unbroken h nodes first at (Mov rd value basic) m i has s = rw (
+instr_unbroken h nodes first at (Mov rd basic value) m i has s = rw (
   has_instr_kind (version_of h) 2 (omega arith),
   register_fine (at + 1) rd,
   colour_fine (at + 3) value.colour,

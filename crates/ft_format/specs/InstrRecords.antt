@@ -21,7 +21,7 @@ use Rattle.ft_format.specs.Rules.{must, ◌next◌, zero_broken, some_broken, co
 abbrev pub instr_row : Instr → List ℕ
 instr_row (OpReg op rd rs rt) = 0 ∷ rd.number ∷ rs.number ∷ rt.number ∷ op_code op ∷ 0 ∷ 0 ∷ []
 instr_row (OpWord op rd rs value) = 1 ∷ rd.number ∷ rs.number ∷ colour_code value.colour ∷ op_code op ∷ high_half value.word ∷ low_half value.word ∷ []
-instr_row (Mov rd value basic) = 2 ∷ rd.number ∷ 0 ∷ colour_code value.colour ∷ basic_number basic ∷ high_half value.word ∷ low_half value.word ∷ []
+instr_row (Mov rd basic value) = 2 ∷ rd.number ∷ 0 ∷ colour_code value.colour ∷ basic_number basic ∷ high_half value.word ∷ low_half value.word ∷ []
 instr_row (Ld colour rd rs) = 3 ∷ rd.number ∷ rs.number ∷ colour_code colour ∷ 0 ∷ 0 ∷ 0 ∷ []
 instr_row (St colour rd rs) = 4 ∷ rd.number ∷ rs.number ∷ colour_code colour ∷ 0 ∷ 0 ∷ 0 ∷ []
 instr_row (JmpG rd) = 5 ∷ rd.number ∷ 0 ∷ 0 ∷ 0 ∷ 0 ∷ 0 ∷ []
@@ -50,7 +50,7 @@ abbrev pub instr_by : ℕ → ℕ → ℕ → ℕ → ℕ → ℕ → ℕ → In
 instr_by kind a b c x high low =
     if kind == 0 then OpReg (op_of x) (register_of a) (register_of b) (register_of c)
     else (if kind == 1 then OpWord (op_of x) (register_of a) (register_of b) (coloured c high low)
-    else (if kind == 2 then Mov (register_of a) (coloured c high low) (basic_type_of (x / 2 ^ 24) (x / 2 ^ 16 % 2 ^ 8) (x % 2 ^ 16))
+    else (if kind == 2 then Mov (register_of a) (basic_type_of (x / 2 ^ 24) (x / 2 ^ 16 % 2 ^ 8) (x % 2 ^ 16)) (coloured c high low)
     else (if kind == 3 then Ld (colour_of c) (register_of a) (register_of b)
     else (if kind == 4 then St (colour_of c) (register_of a) (register_of b)
     else (if kind == 5 then jump_of (register_of a) (carried c x high low)
@@ -75,7 +75,7 @@ FitsSubst s = Is32 s.first × Is32 s.past × Is32 s.memory
 -- the numbers of an instruction fit
 abbrev pub FitsInstr : Instr → Type 0
 FitsInstr (OpWord op rd rs value) = IsWord value.word
-FitsInstr (Mov rd value basic) = IsWord value.word × FitsBasic basic
+FitsInstr (Mov rd basic value) = IsWord value.word × FitsBasic basic
 FitsInstr (JmpB rd subst) = FitsSubst subst
 FitsInstr (BzB rz rd subst) = FitsSubst subst
 FitsInstr (Idx rd rs first m) = Is32 first × Is32 m

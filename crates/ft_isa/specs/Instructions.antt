@@ -27,7 +27,7 @@ is_green Blue = false
 abbrev pub is_leading : Instr → Bool
 is_leading (OpReg op rd rs rt) = nat_lt rs.number 32
 is_leading (OpWord op rd rs value) = is_green value.colour
-is_leading (Mov rd value basic) = is_green value.colour
+is_leading (Mov rd basic value) = is_green value.colour
 is_leading (Ld colour rd rs) = is_green colour
 is_leading (St colour rd rs) = is_green colour
 is_leading (Idx rd rs first m) = nat_lt rs.number 32
@@ -44,7 +44,7 @@ number_of (Some r) = Some r.number
 abbrev pub written : Instr → Option ℕ
 written (OpReg op rd rs rt) = Some rd.number
 written (OpWord op rd rs value) = Some rd.number
-written (Mov rd value basic) = Some rd.number
+written (Mov rd basic value) = Some rd.number
 written (Ld colour rd rs) = Some rd.number
 written (Idx rd rs first m) = Some rd.number
 written i = None

@@ -36,8 +36,8 @@ pub enum Instr {
     /// `mov rd, c v`, which claims a basic type for the word.
     Mov {
         rd: Reg,
-        value: Coloured,
         basic: Basic,
+        value: Coloured,
     },
     /// `ld_c rd, rs`
     Ld {

@@ -136,10 +136,10 @@ subst_raises o k u f h =
     }
 
 instr_raises : (o : Object) (k : Before) (i : Instr) → IsSpellable o → Fits k o →
-    IsInstr (length o.types) (length o.cells) i → ((rd : Reg) (v : Coloured) (b : Basic) → i ≡ Mov rd v b →
+    IsInstr (length o.types) (length o.cells) i → ((rd : Reg) (v : Coloured) (b : Basic) → i ≡ Mov rd b v →
     HasType o v.word b) → ((u : Subst) → subst_of i ≡ Some u → (f : ℕ) × IsSubst o.nodes (length o.substs) f u) →
     CanRaise k i
-instr_raises o k (Mov rd v b) s f h m u = mov_raises o k v.word b.refs b.base s f h.1.base (m rd v b refl)
+instr_raises o k (Mov rd b v) s f h m u = mov_raises o k v.word b.refs b.base s f h.1.base (m rd v b refl)
 instr_raises o k (JmpB rd x) s f h m u = subst_raises o k x f (u x refl)
 instr_raises o k (BzB rz rd x) s f h m u = subst_raises o k x f (u x refl)
 instr_raises o k i s f h m u = tt

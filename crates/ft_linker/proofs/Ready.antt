@@ -31,8 +31,8 @@ use Rattle.ft_linker.specs.Linking.{AreAdded}
 -- the word of each `mov` of an accepted module has the type that the `mov` claims
 moves_of : (o : Object) → IsSpellable o → IsAccepted o → HasTypedMoves o
 moves_of o s a = λ n rd v b e.
-    let p = instr_in_block o n (Mov rd v b) s e in
-    typed_moves o (start_context o p.1.code_type) (block_instrs o p.0) p.2 (Mov rd v b) (a.blocks p.0 p.1 p.3) p.4 rd v
+    let p = instr_in_block o n (Mov rd b v) s e in
+    typed_moves o (start_context o p.1.code_type) (block_instrs o p.0) p.2 (Mov rd b v) (a.blocks p.0 p.1 p.3) p.4 rd v
     b refl
 
 pub can_be_laid : (ms : List Object) → AreAdded ms → CanBeLaid ms

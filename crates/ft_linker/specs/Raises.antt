@@ -56,7 +56,7 @@ CanRaiseOver k w (suc n) base = Unit {0}
 
 -- likewise for an instruction
 abbrev pub CanRaise : Before → Instr → Type 0
-CanRaise k (Mov rd value basic) = CanRaiseOver k value.word basic.refs basic.base
+CanRaise k (Mov rd basic value) = CanRaiseOver k value.word basic.refs basic.base
 CanRaise k (JmpB rd subst) = CanRaiseSubst k subst
 CanRaise k (BzB rz rd subst) = CanRaiseSubst k subst
 CanRaise k i = Unit {0}

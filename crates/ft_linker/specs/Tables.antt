@@ -23,7 +23,7 @@ pub record Fits (k : Before) (o : Object) : Type 0 where
 
 -- the word of each `mov` of a module has the type that the `mov` claims
 abbrev pub HasTypedMoves : Object → Type 0
-HasTypedMoves o = (n : ℕ) (rd : Reg) (v : Coloured) (b : Basic) → slice_get o.instrs n ≡ Some (Mov rd v b) → HasType o v.word b
+HasTypedMoves o = (n : ℕ) (rd : Reg) (v : Coloured) (b : Basic) → slice_get o.instrs n ≡ Some (Mov rd b v) → HasType o v.word b
 
 -- modules that can be laid one after another
 pub record CanBeLaid (modules : List Object) : Type 0 where

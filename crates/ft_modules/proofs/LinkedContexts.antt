@@ -54,12 +54,12 @@ pub record SameSubst (o x : Object) (u q : Subst) : Type 0 where
 
 -- the linked object's version of a `mov`, by the code type that it claims
 abbrev pub IsMovOf : (ℕ → ℕ × ℕ) → Reg → Coloured → Basic → Instr → Option ℕ → Type 0
-IsMovOf to rd x b j None = j ≡ Mov rd x b
+IsMovOf to rd x b j None = j ≡ Mov rd b x
 IsMovOf to rd x b j (Some t) = j ≡ moves_to rd x (to x.word).0 (to x.word).1
 
 -- the linked object's version of a module's instruction
 abbrev pub IsInstrOf : Object → Object → (ℕ → ℕ × ℕ) → Instr → Instr → Type 0
-IsInstrOf o x to (Mov rd value basic) j = IsMovOf to rd value basic j (code_claimed basic)
+IsInstrOf o x to (Mov rd basic value) j = IsMovOf to rd value basic j (code_claimed basic)
 IsInstrOf o x to (JmpB rd u) j = (q : Subst) × (j ≡ JmpB rd q) × SameSubst o x u q
 IsInstrOf o x to (BzB rz rd u) j = (q : Subst) × (j ≡ BzB rz rd q) × SameSubst o x u q
 IsInstrOf o x to i j = j ≡ i

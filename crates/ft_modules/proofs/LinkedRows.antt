@@ -189,12 +189,12 @@ module _ (o x : Object) (to : ℕ → ℕ × ℕ) (a : AreSent o x to) (e : Ente
     -- the outcomes for a `mov` correspond: by cases on the code type that it claims
     mov_by : (rd : Reg) (v : Coloured) (n : ℕ) (base : Base) (j : Instr) (k : Option ℕ) → code_over n base ≡ k →
         IsMovOf to rd v (record { refs = n; base = base }) j k →
-        Both (R (Mov rd v (record { refs = n; base = base }))) (row o c (Mov rd v (record { refs = n; base = base })))
+        Both (R (Mov rd (record { refs = n; base = base }) v)) (row o c (Mov rd (record { refs = n; base = base }) v))
         (row x b j)
     unfolding has_type
     mov_by rd v n base j None g is =
         let basic : Basic = record { refs = n; base = base } in
-        subst (B (Mov rd v basic)) (sym is) (both_need (R (Mov rd v basic)) premise.BasicType _ _ _ _ (λ t. (
+        subst (B (Mov rd basic v)) (sym is) (both_need (R (Mov rd basic v)) premise.BasicType _ _ _ _ (λ t. (
           has_same o x v.word n base a.cells g t,
           both_goes _ _ _
               (subst (λ (u : Option ℕ). Beside o to (entered_with rd.number u e)
@@ -206,7 +206,7 @@ module _ (o x : Object) (to : ℕ → ℕ × ℕ) (a : AreSent o x to) (e : Ente
     mov_by rd v (suc n) base j (Some t) g is = cc
     mov_by rd v zero (Code u) j (Some t) g is =
         let same : u ≡ t = cc in
-        subst (B (Mov rd v (code u))) (sym is) (both_need (R (Mov rd v (code u))) premise.BasicType
+        subst (B (Mov rd (code u) v)) (sym is) (both_need (R (Mov rd (code u) v)) premise.BasicType
         (has_type o v.word (code u))
         (has_type x (to v.word).0 (code (to v.word).1)) _ _ (λ k.
         let there : code_type_at o v.word ≡ Some u = (has_type_decides o v.word (code u)).0 k in
@@ -330,7 +330,7 @@ module _ (o x : Object) (to : ℕ → ℕ × ℕ) (a : AreSent o x to) (e : Ente
 
     -- the outcomes for an instruction that writes a register and is not a `mov` correspond
     write_beside : (i : Instr) (r : ℕ) → writes i ≡ Some r → claimed i ≡ None →
-        ((rd : Reg) (v : Coloured) (y : Basic) → i ≡ Mov rd v y → ⊥) →
+        ((rd : Reg) (v : Coloured) (y : Basic) → i ≡ Mov rd y v → ⊥) →
         both_free e (first_read i) (second_read i) ≡ true → Both (R i) (row o c i) (row x b i)
     write_beside i r w n m f =
         let same : gives x b i ≡ gives o c i = gives_there o x b i (λ k l. sym (run_same o x k l a.cells))
@@ -345,7 +345,7 @@ module _ (o x : Object) (to : ℕ → ℕ × ℕ) (a : AreSent o x to) (e : Ente
     -- the outcomes of the rules correspond, if the walk passes the module's instruction
     pub row_beside : (i j : Instr) → is_traced o e i ≡ true → IsInstrOf o x to i j →
         Both (Beside o to (entered_after i e)) (row o c i) (row x b j)
-    row_beside (Mov rd v basic) j f is = mov_by rd v basic.refs basic.base j (code_claimed basic) refl is
+    row_beside (Mov rd basic v) j f is = mov_by rd v basic.refs basic.base j (code_claimed basic) refl is
     row_beside (St Green rd rs) j f is = (let p = and_parts _ _ f in
         subst (B (St Green rd rs)) (sym is) (both_typed _ _ _ _ _ (free_same o to e c b rd h p.0) (λ s _.
         both_typed _ _ _ _ _ (free_same o to e c b rs h p.1) (λ t _. both_need _ premise.Colour _ _ _ _ (λ col. (

@@ -103,20 +103,20 @@ module _ (modules : List Object) (joins : List Link) (x : Object) (spelled : IsS
       (execute i s []).output ≡ (execute z t []).output) (sym ej) out))))
 
   -- the results correspond if both execute a `mov`
-  moves : (rd : Reg) (y : Coloured) (basic : Basic) (j : Instr) (n : Option ℕ) → here_o.instr ≡ Mov rd y basic →
+  moves : (rd : Reg) (y : Coloured) (basic : Basic) (j : Instr) (n : Option ℕ) → here_o.instr ≡ Mov rd basic y →
       here_x.instr ≡ j → IsMovOf home.to rd y basic j n → IsWord y.word → IsInstr (length x.types) (length x.cells) j →
-      Steps modules joins x world a.number (execute (Mov rd y basic) s []) (execute j t [])
+      Steps modules joins x world a.number (execute (Mov rd basic y) s []) (execute j t [])
   moves rd y basic j None eo ex is below k =
-      subst (λ (z : Instr). Steps modules joins x world a.number (execute (Mov rd y basic) s []) (execute z t []))
+      subst (λ (z : Instr). Steps modules joins x world a.number (execute (Mov rd basic y) s []) (execute z t []))
       (sym is)
-      (stays_as (Mov rd y basic) (Mov rd y basic) eo (ex ∙ is) (mov_row o v c s [] ⊥ rd y basic below h.fits.context)
+      (stays_as (Mov rd basic y) (Mov rd basic y) eo (ex ∙ is) (mov_row o v c s [] ⊥ rd y basic below h.fits.context)
       (mov_row x u b t [] ⊥ rd y basic below h.other_fits.context) (λ _ _. refl))
   moves rd y basic j (Some n) eo ex is below k =
       let k' : IsInstr (length x.types) (length x.cells) (moves_to rd y (home.to y.word).0 (home.to y.word).1) =
       subst (IsInstr (length x.types) (length x.cells)) is k in
-      subst (λ (z : Instr). Steps modules joins x world a.number (execute (Mov rd y basic) s []) (execute z t []))
+      subst (λ (z : Instr). Steps modules joins x world a.number (execute (Mov rd basic y) s []) (execute z t []))
       (sym is)
-      (stays_as (Mov rd y basic) (moves_to rd y (home.to y.word).0 (home.to y.word).1) eo (ex
+      (stays_as (Mov rd basic y) (moves_to rd y (home.to y.word).0 (home.to y.word).1) eo (ex
       ∙ is) (mov_row o v c s [] ⊥ rd y basic below h.fits.context)
       (mov_row x u b t [] ⊥ rd _ _ k'.0 h.other_fits.context) (λ _ _. refl))
 
@@ -136,7 +136,7 @@ module _ (modules : List Object) (joins : List Link) (x : Object) (spelled : IsS
       is_traced o h.entered i ≡ true → IsInstr (length o.types) (length o.cells) i →
       IsInstr (length x.types) (length x.cells) j →
       Steps modules joins x world a.number (execute i s []) (execute j t [])
-  executed_by (Mov rd y basic) j eo ex is f k l = moves rd y basic j (code_claimed basic) eo ex is k.0 l
+  executed_by (Mov rd basic y) j eo ex is f k l = moves rd y basic j (code_claimed basic) eo ex is k.0 l
   executed_by (St Blue rd rs) j eo ex is f k l =
       let words = stored_words modules joins x spelled accepted world a t h rd rs eo f in
       subst (λ (z : Instr). Steps modules joins x world a.number (execute (St Blue rd rs) s []) (execute z t []))

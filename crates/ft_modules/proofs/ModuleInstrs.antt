@@ -37,22 +37,22 @@ need_passes p false x y e f = absurd (f p (sym e))
 
 -- if the first instruction is a `mov`, its word has the type that it claims
 first_passes : (o : Object) (c : Context) (rd : Reg) (v : Coloured) (b : Basic) (is : List Instr) →
-    Applies o c (Mov rd v b ∷ is) → has_type o v.word b ≡ true
+    Applies o c (Mov rd b v ∷ is) → has_type o v.word b ≡ true
 first_passes o c rd v b _ (last_row f) = need_passes _ _ _ Ends f (λ n z. cc)
 first_passes o c rd v b is (next_row d f a) = need_passes _ _ _ (Goes d) f (λ n z. cc)
 
 -- the word of each `mov` has the type that the `mov` claims
 moves_typed : (o : Object) (c : Context) (is : List Instr) (n : ℕ) (rd : Reg) (v : Coloured) (b : Basic) →
-    Applies o c is → slice_get is n ≡ Some (Mov rd v b) → HasType o v.word b
+    Applies o c is → slice_get is n ≡ Some (Mov rd b v) → HasType o v.word b
 moves_typed o c [] n rd v b a e = cc
-moves_typed o c (i ∷ is) zero rd v b a e = let same : i ≡ Mov rd v b = cc in
+moves_typed o c (i ∷ is) zero rd v b a e = let same : i ≡ Mov rd b v = cc in
     (has_type_decides o v.word b).0 (first_passes o c rd v b is (subst (λ (z : Instr). Applies o c (z ∷ is)) same a))
 moves_typed o c (i ∷ is) (suc n) rd v b (last_row f) e = cc
 moves_typed o c (i ∷ is) (suc n) rd v b (next_row d f a) e = moves_typed o d is n rd v b a e
 
 -- likewise for an instruction that is a `mov`
 pub typed_moves : (o : Object) (c : Context) (is : List Instr) (n : ℕ) (i : Instr) → Applies o c is → slice_get is n
-    ≡ Some i → (rd : Reg) (v : Coloured) (b : Basic) → i ≡ Mov rd v b → HasType o v.word b
+    ≡ Some i → (rd : Reg) (v : Coloured) (b : Basic) → i ≡ Mov rd b v → HasType o v.word b
 typed_moves o c is n i a e rd v b f = moves_typed o c is n rd v b a (e ∙ ap Some f)
 
 -- the substitution of a later instruction obeys the rules, whether or not the first instruction carries one
@@ -105,17 +105,17 @@ changed_is k o rd v t (Some c) e = refl
 mov_is : (cs : List Change) (k : Before) (o : Object) (rd : Reg) (v : Coloured) (n : ℕ) (base : Base) →
     HasType o v.word (record { refs = n; base = base }) →
     IsMovOf (sent_to cs k o) rd v (record { refs = n; base = base })
-    (linked_instr cs k (Mov rd v (record { refs = n; base = base }))) (code_over n base)
+    (linked_instr cs k (Mov rd (record { refs = n; base = base }) v)) (code_over n base)
 mov_is cs k o rd v zero Int h = refl
 mov_is cs k o rd v zero (Code t) h = changed_is k o rd v t (change_at cs (k.instrs + v.word)) h
 mov_is cs k o rd v (suc n) base h = refl
 
 -- a module's instruction, raised and changed, is the linked object's version of it
 pub instr_is : (o x : Object) (cs : List Change) (k : Before) (i : Instr) →
-    ((rd : Reg) (v : Coloured) (b : Basic) → i ≡ Mov rd v b → HasType o v.word b) →
+    ((rd : Reg) (v : Coloured) (b : Basic) → i ≡ Mov rd b v → HasType o v.word b) →
     ((u : Subst) → subst_of i ≡ Some u → SameSubst o x u (raised_subst k u)) →
     IsInstrOf o x (sent_to cs k o) i (linked_instr cs k i)
-instr_is o x cs k (Mov rd v b) h s = mov_is cs k o rd v b.refs b.base (h rd v b refl)
+instr_is o x cs k (Mov rd b v) h s = mov_is cs k o rd v b.refs b.base (h rd v b refl)
 instr_is o x cs k (JmpB rd u) h s = (raised_subst k u, refl, s u refl)
 instr_is o x cs k (BzB rz rd u) h s = (raised_subst k u, refl, s u refl)
 instr_is o x cs k i h s = refl

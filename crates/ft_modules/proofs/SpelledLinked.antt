@@ -184,7 +184,7 @@ changed_mov_subst cs rd v b (Some t) = changed_subst_by rd v b (change_at cs v.w
 
 -- changing an instruction keeps its substitution
 changed_subst : (cs : List Change) (i : Instr) → subst_of (changed_instr cs i) ≡ subst_of i
-changed_subst cs (Mov rd v b) = changed_mov_subst cs rd v b (code_claimed b)
+changed_subst cs (Mov rd b v) = changed_mov_subst cs rd v b (code_claimed b)
 changed_subst cs i = refl
 
 -- changing instructions keeps their substitutions
@@ -200,7 +200,7 @@ raised_mov_subst k rd v b (Some t) = refl
 
 -- a raised instruction carries its substitution, raised
 raised_subst_is : (k : Before) (i : Instr) → subst_of (raised_instr k i) ≡ option_map (raised_subst k) (subst_of i)
-raised_subst_is k (Mov rd v b) = raised_mov_subst k rd v b (code_claimed b)
+raised_subst_is k (Mov rd b v) = raised_mov_subst k rd v b (code_claimed b)
 raised_subst_is k i = refl
 
 -- a raised substitution obeys the rules

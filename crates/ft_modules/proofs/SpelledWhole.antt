@@ -231,7 +231,7 @@ module _ (linkage : LinkMap) (first : Object) (others : List Object) (h : AreLin
       IsWord v.word → IsBasic (length o.types) (record { refs = n; base = base }) →
       HasType o v.word (record { refs = n; base = base }) →
       IsInstr (length x.types) (length x.cells) (linked_instr cs (before_of modules m)
-      (Mov rd v (record { refs = n; base = base })))
+      (Mov rd (record { refs = n; base = base }) v))
   mov_lawful m o e rd v zero Int w b t = (w, record { refs = omega arith; base = tt })
   mov_lawful m o e rd v zero (Code u) w b t = moved_lawful m o e rd v u b.base t
       (change_at cs ((before_of modules m).instrs + v.word)) (λ d f. found_change _ d f)
@@ -239,10 +239,10 @@ module _ (linkage : LinkMap) (first : Object) (others : List Object) (h : AreLin
       (w, basic_more (length o.types) (length x.types) (record { refs = suc n; base = base }) (omega (arith, many)) b))
 
   instr_lawful : (m : ℕ) (o : Object) → slice_get modules m ≡ Some o → (i : Instr) →
-      IsInstr (length o.types) (length o.cells) i → ((rd : Reg) (v : Coloured) (b : Basic) → i ≡ Mov rd v b →
+      IsInstr (length o.types) (length o.cells) i → ((rd : Reg) (v : Coloured) (b : Basic) → i ≡ Mov rd b v →
       HasType o v.word b) → IsInstr (length x.types) (length x.cells) (linked_instr cs (before_of modules m) i)
   instr_lawful m o e (OpWord op rd rs v) k t = k
-  instr_lawful m o e (Mov rd v b) k t = mov_lawful m o e rd v b.refs b.base k.0 k.1 (t rd v b refl)
+  instr_lawful m o e (Mov rd b v) k t = mov_lawful m o e rd v b.refs b.base k.0 k.1 (t rd v b refl)
   instr_lawful m o e (Idx rd rs begin n) k t = subst (λ cells.
       IsRun cells begin n) (ap (λ (c : List Cell). length c) (is_module m o e).same_cells) k
   instr_lawful m o e i k t = tt

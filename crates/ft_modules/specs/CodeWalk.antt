@@ -37,7 +37,7 @@ entered_with r (Some t) e = finite.insert e r t
 
 -- the code type that an instruction claims for the word that it writes
 abbrev pub claimed : Instr → Option ℕ
-claimed (Mov rd value basic) = code_claimed basic
+claimed (Mov rd basic value) = code_claimed basic
 claimed i = None
 
 -- enters a register with a code type, or removes it, if a register is given

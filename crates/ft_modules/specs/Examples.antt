@@ -21,7 +21,7 @@ no_rows = record { first = 0; past = 0; memory = 0 }
 
 -- the instructions of a module that jumps to its stub
 abbrev pub jumps_to_stub : List Instr
-jumps_to_stub = Mov r1 (green 5) (code 0) ∷ Mov r33 (blue 5) (code 0) ∷ JmpG r1 ∷ JmpB r33 no_rows ∷ Halt ∷ []
+jumps_to_stub = Mov r1 (code 0) (green 5) ∷ Mov r33 (code 0) (blue 5) ∷ JmpG r1 ∷ JmpB r33 no_rows ∷ Halt ∷ []
 
 -- the object of this module: block 0 jumps, and block 1 is the stub
 abbrev pub caller : Object
@@ -50,7 +50,7 @@ hands_address_over = record {
   nodes = record { scope = 0; shape = shape.Memory } ∷ record { scope = 1; shape = shape.Var 0 } ∷ record { scope = 0; shape = shape.Word 1 } ∷ [];
   types = nothing_known ∷ variable_held ∷ [];
   blocks = record { start = 0; code_type = 0 } ∷ record { start = 6; code_type = 1 } ∷ [];
-  instrs = Mov r0 (green 1) (code 0) ∷ Mov r32 (blue 1) (code 0) ∷ Mov r1 (green 7) (code 1) ∷ Mov r33 (blue 7) (code 1) ∷ JmpG r1 ∷ JmpB r33 five ∷ stores_variable;
+  instrs = Mov r0 (code 0) (green 1) ∷ Mov r32 (code 0) (blue 1) ∷ Mov r1 (code 1) (green 7) ∷ Mov r33 (code 1) (blue 7) ∷ JmpG r1 ∷ JmpB r33 five ∷ stores_variable;
   substs = 2 ∷ [];
   entry = 0;
 }
@@ -58,7 +58,7 @@ hands_address_over = record {
 -- the instructions of a module that stores its own code address
 abbrev pub stores_address : List Instr
 stores_address =
-    Mov r0 (green out) (ref int) ∷ Mov r1 (green 1) (code 0) ∷ Mov r32 (blue out) (ref int) ∷ Mov r33 (blue 1) (code 0)
+    Mov r0 (ref int) (green out) ∷ Mov r1 (code 0) (green 1) ∷ Mov r32 (ref int) (blue out) ∷ Mov r33 (code 0) (blue 1)
     ∷ St Green r0 r1 ∷ St Blue r32 r33 ∷ Halt ∷ []
 
 -- a map without exports or imports
@@ -73,7 +73,7 @@ names_cell = record (one_block 0 (takes_address 0 1)) {
 
 -- instructions that use a code address as the index of a cell
 abbrev pub indexes_by_address : List Instr
-indexes_by_address = Mov r1 (green 1) (code 0) ∷ Idx r2 r1 0 1 ∷ Halt ∷ []
+indexes_by_address = Mov r1 (code 0) (green 1) ∷ Idx r2 r1 0 1 ∷ Halt ∷ []
 
 -- a module with a code type that states that a register holds a code address
 abbrev pub knows_address : Object

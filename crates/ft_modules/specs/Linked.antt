@@ -73,16 +73,16 @@ raised_subst k u = record { first = k.substs + u.first; past = k.substs + u.past
 
 -- a `mov` with another word and another code type
 abbrev pub moves_to : Reg → Coloured → ℕ → ℕ → Instr
-moves_to rd x w t = Mov rd (record { colour = x.colour; word = w }) (code t)
+moves_to rd x w t = Mov rd (code t) (record { colour = x.colour; word = w })
 
 -- a `mov`, raised if it claims a code type
 abbrev pub raised_mov : Before → Reg → Coloured → Basic → Option ℕ → Instr
-raised_mov k rd x b None = Mov rd x b
+raised_mov k rd x b None = Mov rd b x
 raised_mov k rd x b (Some t) = moves_to rd x (k.instrs + x.word) (k.types + t)
 
 -- an instruction, raised; the cells that an `idx` selects from are the same in all modules
 abbrev pub raised_instr : Before → Instr → Instr
-raised_instr k (Mov rd value basic) = raised_mov k rd value basic (code_claimed basic)
+raised_instr k (Mov rd basic value) = raised_mov k rd value basic (code_claimed basic)
 raised_instr k (JmpB rd subst) = JmpB rd (raised_subst k subst)
 raised_instr k (BzB rz rd subst) = BzB rz rd (raised_subst k subst)
 raised_instr k i = i
@@ -109,17 +109,17 @@ change_at changes w = find (λ (c : Change). w == c.from) changes
 
 -- a `mov`, changed if there is a change of its word
 abbrev pub changed_by : Reg → Coloured → Basic → Option Change → Instr
-changed_by rd x b None = Mov rd x b
+changed_by rd x b None = Mov rd b x
 changed_by rd x b (Some c) = moves_to rd x c.to c.code_type
 
 -- a `mov`, changed only if it claims a code type
 abbrev pub changed_mov : List Change → Reg → Coloured → Basic → Option ℕ → Instr
-changed_mov changes rd x b None = Mov rd x b
+changed_mov changes rd x b None = Mov rd b x
 changed_mov changes rd x b (Some t) = changed_by rd x b (change_at changes x.word)
 
 -- an instruction, changed if it is a move of an imported address
 abbrev pub changed_instr : List Change → Instr → Instr
-changed_instr changes (Mov rd value basic) = changed_mov changes rd value basic (code_claimed basic)
+changed_instr changes (Mov rd basic value) = changed_mov changes rd value basic (code_claimed basic)
 changed_instr changes i = i
 
 -- THE LINKED OBJECT

@@ -20,7 +20,7 @@ ghost use Rattle.ft_modules.specs.LinkRefusals.{Cells, CodeOf, Missing, NoBlock,
 /// imported, the exported block is the entry. The numbers of the second module's nodes, code types, blocks and
 /// substitution rows are raised; the numbers of cells are not.
 pub fn examples_of_linking()
-    ensures instrs { (linked (importing 1) caller (storer ∷ [])).instrs ≡ Mov r1 (green 6) (code 1) ∷ Mov r33 (blue 6) (code 1) ∷ JmpG r1 ∷ JmpB r33 no_rows ∷ Halt ∷ stores_five }
+    ensures instrs { (linked (importing 1) caller (storer ∷ [])).instrs ≡ Mov r1 (code 1) (green 6) ∷ Mov r33 (code 1) (blue 6) ∷ JmpG r1 ∷ JmpB r33 no_rows ∷ Halt ∷ stores_five }
     ensures accepted { refusal (linked (importing 1) caller (storer ∷ [])) ≡ None }
     ensures entry { (linked (importing 0) only_stub (storer ∷ [])).entry ≡ 1 }
     ensures without { (linked no_links caller (storer ∷ [])).instrs ≡ (caller).instrs ++ stores_five }

@@ -89,7 +89,7 @@ fn claim<P: Program>(
     requires held { HoldsForms forms.old context.old }
     requires types { NamesTypes (P.object program.now) context.old }
     requires base { IsBase (length (P.object program.now).types) basic.base }
-    ensures { Does (row (P.object program.now) (context_in forms.old context.old) (Instr.Mov rd value basic)) (P.object program.now) forms.old forms.new context.old context.new result }
+    ensures { Does (row (P.object program.now) (context_in forms.old context.old) (Instr.Mov rd basic value)) (P.object program.now) forms.old forms.new context.old context.new result }
 {
     need(Why::BasicType, has_type(program, value.word, basic))?;
     let form = forms.word(value.word)?;

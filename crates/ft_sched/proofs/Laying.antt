@@ -23,7 +23,7 @@ use Rattle.ft_sched.proofs.Passing.{none_passed}
 fixed_leads : (i : Instr) → is_fixed i ≡ true → is_leading i ≡ false
 fixed_leads (OpReg op rd rs rt) h = cc
 fixed_leads (OpWord op rd rs value) h = cc
-fixed_leads (Mov rd value basic) h = cc
+fixed_leads (Mov rd basic value) h = cc
 fixed_leads (Ld k rd rs) h = cc
 fixed_leads (St k rd rs) h = cc
 fixed_leads (Idx rd rs first m) h = cc

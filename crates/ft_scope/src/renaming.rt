@@ -112,7 +112,9 @@ pub fn rename_statements(
     ensures nodes { IfOk result (λ v. statement_nodes (plain_list same_slot v.items) ≡ statement_nodes (plain_list named all.entry.items)) }
     ensures err { IfErr result (λ f. Fails f (renamed (look names.now) (plain_list named all.entry.items))) }
 {
-    let mut out = Vec::new(alloc);
+    let Ok(mut out) = Vec::with_capacity(alloc, all.len()) else {
+        return Err(SourceError::NoMemory);
+    };
     for s in all {
         let s = match rename_statement(alloc, names, s, misuse) {
             Ok(s) => s,

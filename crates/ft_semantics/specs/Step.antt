@@ -118,7 +118,7 @@ pass s w = if s.d == 0 then quiet (goes_on s) w else detected s w
 abbrev pub execute : Instr → State → List Wild → Stepping
 execute (OpReg op rd rs rt) s w = writes rd (colour s rs) (apply op (word s rs) (word s rt)) s w
 execute (OpWord op rd rs value) s w = writes rd (colour s rs) (apply op (word s rs) value.word) s w
-execute (Mov rd value basic) s w = writes rd value.colour value.word s w
+execute (Mov rd basic value) s w = writes rd value.colour value.word s w
 execute (Ld c rd rs) s w = load c rd (found c s (word s rs)) s w
 execute (St c rd rs) s w = store c (word s rd) (word s rs) s w
 execute (JmpG rd) s w = jump_green (word s rd) s w
@@ -196,7 +196,7 @@ operate_word_row other o s w = None
 
 -- mov rd, c v | always | rd gets c and v; goes on
 abbrev pub move_row : Row
-move_row (Some (Mov rd value basic)) o s w = Some (writes rd value.colour value.word s w)
+move_row (Some (Mov rd basic value)) o s w = Some (writes rd value.colour value.word s w)
 move_row other o s w = None
 
 -- ld_G rd, rs | a pending entry has the address rs | rd gets green and the value of the newest such entry; goes on

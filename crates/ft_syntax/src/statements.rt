@@ -208,7 +208,9 @@ impl<'a, 't> Parser<'a, 't> {
         ensures same { OnOk result (self.new.opened ≡ self.old.opened) }
         ensures shorter { OnOk result (length self.new.rest.now ≤ length self.old.rest.now) }
     {
-        let mut all = Vec::new(alloc);
+        let Ok(mut all) = Vec::with_capacity(alloc, 1) else {
+            return Err(SourceError::NoMemory);
+        };
         while let Some(s) = self.statement(alloc)? {
             let Ok(()) = all.push(s) else {
                 return Err(SourceError::NoMemory);

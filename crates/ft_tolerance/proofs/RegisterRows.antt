@@ -126,9 +126,9 @@ op_word_row o v c s w E op rd rs x below h =
 
 pub mov_row : (o : Object) (v : Valuation) (c : Context) (s : State) (w : List Wild) (E : Type 0) (rd : Reg)
     (x : Coloured) (b : Basic) → IsWord x.word → FitsContext o v c s →
-    After (GoesOn o v s w (execute (Mov rd x b) s w)) E (row o c (Mov rd x b))
+    After (GoesOn o v s w (execute (Mov rd b x) s w)) E (row o c (Mov rd b x))
 mov_row o v c s w E rd x b below h =
-    let G = GoesOn o v s w (execute (Mov rd x b) s w) in
+    let G = GoesOn o v s w (execute (Mov rd b x) s w) in
     after_need G E premise.BasicType (has_type o x.word b) _ (λ t.
     after_goes G E _ (write_fits o v c s w rd (record { colour = x.colour; basic = b; form = constant x.word }) x h
     (record { colour = refl; word = constant_denotes x.word v below; basic = (has_type_decides o x.word b).0 t })))

@@ -101,7 +101,7 @@ pub staying_row : (o : Object) (v : Valuation) (c : Context) (s : State) (w : Li
     FitsContext o v c s → After (GoesOn o v s w (execute i s w)) E (row o c i)
 staying_row o v c s w E (OpReg op rd rs rt) u n few k h = op_row o v c s w E op rd rs rt h
 staying_row o v c s w E (OpWord op rd rs x) u n few k h = op_word_row o v c s w E op rd rs x k h
-staying_row o v c s w E (Mov rd x b) u n few k h = mov_row o v c s w E rd x b k.0 h
+staying_row o v c s w E (Mov rd b x) u n few k h = mov_row o v c s w E rd x b k.0 h
 staying_row o v c s w E (Ld col rd rs) u n few k h = load_row o v c s w E col rd rs h
 staying_row o v c s w E (St Green rd rs) u n few k h = store_green_row o v c s w E rd rs h
 staying_row o v c s w E (St Blue rd rs) u n few k h = store_blue_row o v c s w E rd rs h

@@ -108,7 +108,7 @@ pub record IsRun (cells first m : ℕ) : Type 0 where
 -- the rules for a single instruction: its number is a word, its basic type is valid, and its cells exist
 abbrev pub IsInstr : ℕ → ℕ → Instr → Type 0
 IsInstr types cells (OpWord op rd rs value) = IsWord value.word
-IsInstr types cells (Mov rd value basic) = IsWord value.word × IsBasic types basic
+IsInstr types cells (Mov rd basic value) = IsWord value.word × IsBasic types basic
 IsInstr types cells (Idx rd rs first m) = IsRun cells first m
 IsInstr types cells i = Unit {0}
 

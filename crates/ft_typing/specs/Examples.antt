@@ -98,37 +98,37 @@ with_instr k i is = slice_set is k i
 -- five is stored in `out`
 abbrev pub stores_five : List Instr
 stores_five =
-    Mov r0 (green out) (ref int) ∷ Mov r1 (green 5) int ∷ Mov r32 (blue out) (ref int) ∷ Mov r33 (blue 5) int
+    Mov r0 (ref int) (green out) ∷ Mov r1 int (green 5) ∷ Mov r32 (ref int) (blue out) ∷ Mov r33 int (blue 5)
     ∷ St Green r0 r1 ∷ St Blue r32 r33 ∷ Halt ∷ []
 
 -- five and six are stored; green reads six while both are pending, blue after both are committed; six is stored again
 abbrev pub reads_pending : List Instr
 reads_pending =
-    Mov r0 (green out) (ref int) ∷ Mov r1 (green 5) int ∷ Mov r2 (green 6) int
-    ∷ Mov r32 (blue out) (ref int) ∷ Mov r33 (blue 5) int ∷ Mov r34 (blue 6) int
+    Mov r0 (ref int) (green out) ∷ Mov r1 int (green 5) ∷ Mov r2 int (green 6)
+    ∷ Mov r32 (ref int) (blue out) ∷ Mov r33 int (blue 5) ∷ Mov r34 int (blue 6)
     ∷ St Green r0 r1 ∷ St Green r0 r2 ∷ Ld Green r3 r0 ∷ St Blue r32 r33 ∷ St Blue r32 r34 ∷ Ld Blue r35 r32
     ∷ St Green r0 r3 ∷ St Blue r32 r35 ∷ Halt ∷ []
 
 -- `out` is doubled, by a product in green and by a sum in blue
 abbrev pub doubles : List Instr
 doubles =
-    Mov r0 (green out) (ref int) ∷ Ld Green r1 r0 ∷ OpWord Mul r2 r1 (green 2)
-    ∷ Mov r32 (blue out) (ref int) ∷ Ld Blue r33 r32 ∷ OpReg Add r34 r33 r33
+    Mov r0 (ref int) (green out) ∷ Ld Green r1 r0 ∷ OpWord Mul r2 r1 (green 2)
+    ∷ Mov r32 (ref int) (blue out) ∷ Ld Blue r33 r32 ∷ OpReg Add r34 r33 r33
     ∷ St Green r0 r2 ∷ St Blue r32 r34 ∷ Halt ∷ []
 
 -- 9 is stored in the cell that index 4 selects in a run of three: the second
 abbrev pub stores_in_run : List Instr
 stores_in_run =
-    Mov r0 (green 4) int ∷ Idx r1 r0 0 3 ∷ Mov r2 (green 9) int ∷ Mov r32 (blue 4) int ∷ Idx r33 r32 0 3 ∷ Mov r34 (blue 9) int
+    Mov r0 int (green 4) ∷ Idx r1 r0 0 3 ∷ Mov r2 int (green 9) ∷ Mov r32 int (blue 4) ∷ Idx r33 r32 0 3 ∷ Mov r34 int (blue 9)
     ∷ St Green r1 r2 ∷ St Blue r33 r34 ∷ Halt ∷ []
 
 -- the address of a cell in a run is computed but not used
 abbrev pub takes_address : ℕ → ℕ → List Instr
-takes_address first length = Mov r0 (green 4) int ∷ Idx r1 r0 first length ∷ Halt ∷ []
+takes_address first length = Mov r0 int (green 4) ∷ Idx r1 r0 first length ∷ Halt ∷ []
 
 -- nine green stores
 abbrev pub stores_nine_times : List Instr
 stores_nine_times =
-    Mov r0 (green out) (ref int) ∷ Mov r1 (green 5) int
+    Mov r0 (ref int) (green out) ∷ Mov r1 int (green 5)
     ∷ St Green r0 r1 ∷ St Green r0 r1 ∷ St Green r0 r1 ∷ St Green r0 r1 ∷ St Green r0 r1 ∷ St Green r0 r1
     ∷ St Green r0 r1 ∷ St Green r0 r1 ∷ St Green r0 r1 ∷ Halt ∷ []

@@ -38,23 +38,23 @@ five = record { first = 0; past = 1; memory = 0 }
 
 -- the variable is stored in `out`
 abbrev pub stores_variable : List Instr
-stores_variable = Mov r2 (green out) (ref int) ∷ Mov r34 (blue out) (ref int) ∷ St Green r2 r0 ∷ St Blue r34 r32 ∷ Halt ∷ []
+stores_variable = Mov r2 (ref int) (green out) ∷ Mov r34 (ref int) (blue out) ∷ St Green r2 r0 ∷ St Blue r34 r32 ∷ Halt ∷ []
 
 -- five is passed to a block that stores it
 abbrev pub jumps : List Instr
 jumps =
-    Mov r0 (green 5) int ∷ Mov r32 (blue 5) int ∷ Mov r1 (green 7) (code 1) ∷ Mov r33 (blue 7) (code 1)
+    Mov r0 int (green 5) ∷ Mov r32 int (blue 5) ∷ Mov r1 (code 1) (green 7) ∷ Mov r33 (code 1) (blue 7)
     ∷ JmpG r1 ∷ JmpB r33 five ∷ stores_variable
 
 -- five is not zero, so the branch is not taken
 abbrev pub branches : List Instr
 branches =
-    Mov r0 (green 5) int ∷ Mov r32 (blue 5) int ∷ Mov r1 (green 8) (code 1) ∷ Mov r33 (blue 8) (code 1)
+    Mov r0 int (green 5) ∷ Mov r32 int (blue 5) ∷ Mov r1 (code 1) (green 8) ∷ Mov r33 (code 1) (blue 8)
     ∷ BzG r0 r1 ∷ BzB r32 r33 five ∷ Halt ∷ stores_variable
 
 -- five is stored before it is passed on, so the memory isn't the memory variable
 abbrev pub stores_and_jumps : List Instr
 stores_and_jumps =
-    Mov r0 (green 5) int ∷ Mov r32 (blue 5) int ∷ Mov r1 (green 11) (code 1) ∷ Mov r33 (blue 11) (code 1)
-    ∷ Mov r2 (green out) (ref int) ∷ Mov r34 (blue out) (ref int) ∷ St Green r2 r0 ∷ St Blue r34 r32
+    Mov r0 int (green 5) ∷ Mov r32 int (blue 5) ∷ Mov r1 (code 1) (green 11) ∷ Mov r33 (code 1) (blue 11)
+    ∷ Mov r2 (ref int) (green out) ∷ Mov r34 (ref int) (blue out) ∷ St Green r2 r0 ∷ St Blue r34 r32
     ∷ JmpG r1 ∷ JmpB r33 five ∷ stores_variable

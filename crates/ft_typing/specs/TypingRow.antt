@@ -43,7 +43,7 @@ row o c (OpWord op rd rs value) =
     for_typed (typed c rs.number) (λ s.
     need premise.Colour (same_colour value.colour s.colour) (
     Goes (with_type rd.number (record { colour = s.colour; basic = int; form = norm_op op s.form (constant value.word) }) c)))
-row o c (Mov rd value basic) =
+row o c (Mov rd basic value) =
     need premise.BasicType (has_type o value.word basic) (
     Goes (with_type rd.number (record { colour = value.colour; basic = basic; form = constant value.word }) c))
 row o c (Ld colour rd rs) =
@@ -114,7 +114,7 @@ row o c (Idx rd rs first m) =
 abbrev pub tests : Instr → List Test
 tests (OpReg op rd rs rt) = is_typed rs ∷ is_typed rt ∷ is_coloured_as rt rs ∷ []
 tests (OpWord op rd rs value) = is_typed rs ∷ is_colour_of value.colour rs ∷ []
-tests (Mov rd value basic) = is_claimed value.word basic ∷ []
+tests (Mov rd basic value) = is_claimed value.word basic ∷ []
 tests (Ld colour rd rs) = is_typed rs ∷ is_coloured rs colour ∷ is_reference rs ∷ []
 tests (St Green rd rs) =
     is_typed rd ∷ is_typed rs ∷ is_coloured rd Green ∷ is_coloured rs Green ∷ is_reference rd ∷ is_stored_as rs rd ∷ has_room ∷ []
@@ -139,7 +139,7 @@ effect o c (OpReg op rd rs rt) =
     Goes (with_type rd.number (record { colour = (known c rs).colour; basic = int; form = norm_op op (known c rs).form (known c rt).form }) c)
 effect o c (OpWord op rd rs value) =
     Goes (with_type rd.number (record { colour = (known c rs).colour; basic = int; form = norm_op op (known c rs).form (constant value.word) }) c)
-effect o c (Mov rd value basic) = Goes (with_type rd.number (record { colour = value.colour; basic = basic; form = constant value.word }) c)
+effect o c (Mov rd basic value) = Goes (with_type rd.number (record { colour = value.colour; basic = basic; form = constant value.word }) c)
 effect o c (Ld colour rd rs) =
     Goes (with_type rd.number (record { colour = colour; basic = type_referred c rs; form = norm_sel (seen_memory colour c) (known c rs).form }) c)
 effect o c (St Green rd rs) = Goes (record c { queue = c.queue ++ ((known c rd).form, (known c rs).form) ∷ [] })

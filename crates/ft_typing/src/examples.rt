@@ -28,19 +28,19 @@ pub fn examples_of_refusal()
     ensures cell_type { refusal (record (one_block 0 stores_five) { cells = record (int_cell (codes "out") 0) { basic = code 0 } ∷ [] }) ≡ Some (CellType 0) }
     ensures untyped { refusal (one_block 0 (with_instr 4 (St Green r0 r9) stores_five)) ≡ Some (Refused 0 4 premise.Untyped) }
     ensures colour { refusal (one_block 0 (with_instr 3 (OpWord Add r33 r1 (blue 0)) stores_five)) ≡ Some (Refused 0 3 premise.Colour) }
-    ensures basic_type { refusal (one_block 0 (with_instr 1 (Mov r1 (green 5) (ref int)) stores_five)) ≡ Some (Refused 0 1 premise.BasicType) }
+    ensures basic_type { refusal (one_block 0 (with_instr 1 (Mov r1 (ref int) (green 5)) stores_five)) ≡ Some (Refused 0 1 premise.BasicType) }
     ensures not_ref { refusal (one_block 0 (with_instr 4 (St Green r1 r0) stores_five)) ≡ Some (Refused 0 4 premise.NotRef) }
     ensures not_code { refusal (one_block 0 (with_instr 4 (JmpG r1) stores_five)) ≡ Some (Refused 0 4 premise.NotCode) }
-    ensures state_of_d { refusal (two_blocks 6 (with_instr 4 (Mov r9 (green 0) int) jumps)) ≡ Some (Refused 0 5 premise.StateOfD) }
+    ensures state_of_d { refusal (two_blocks 6 (with_instr 4 (Mov r9 int (green 0)) jumps)) ≡ Some (Refused 0 5 premise.StateOfD) }
     ensures queue_full { refusal (one_block 0 stores_nine_times) ≡ Some (Refused 0 10 premise.QueueFull) }
-    ensures queue_empty { refusal (one_block 0 (with_instr 4 (Mov r2 (green 0) int) stores_five)) ≡ Some (Refused 0 5 premise.QueueEmpty) }
-    ensures addresses { refusal (record (one_block 0 (with_instr 2 (Mov r32 (blue two) (ref int)) stores_five)) { cells = int_cell (codes "out") 0 ∷ int_cell (codes "two") 0 ∷ [] }) ≡ Some (Refused 0 5 premise.Addresses) }
+    ensures queue_empty { refusal (one_block 0 (with_instr 4 (Mov r2 int (green 0)) stores_five)) ≡ Some (Refused 0 5 premise.QueueEmpty) }
+    ensures addresses { refusal (record (one_block 0 (with_instr 2 (Mov r32 (ref int) (blue two)) stores_five)) { cells = int_cell (codes "out") 0 ∷ int_cell (codes "two") 0 ∷ [] }) ≡ Some (Refused 0 5 premise.Addresses) }
     ensures values { refusal (one_block 3 (with_instr 5 (OpReg Mul r34 r33 r33) doubles)) ≡ Some (Refused 0 7 premise.Values) }
-    ensures conditions { refusal (two_blocks 7 (with_instr 1 (Mov r32 (blue 6) int) branches)) ≡ Some (Refused 0 5 premise.Conditions) }
-    ensures targets { refusal (two_blocks 6 (with_instr 3 (Mov r33 (blue 1) (code 0)) jumps)) ≡ Some (Refused 0 5 premise.Targets) }
-    ensures register_unlike { refusal (two_blocks 6 (with_instr 1 (Mov r32 (blue 6) int) jumps)) ≡ Some (Refused 0 5 premise.RegisterUnlike) }
-    ensures register_missing { refusal (two_blocks 6 (with_instr 1 (Mov r9 (blue 5) int) jumps)) ≡ Some (Refused 0 5 premise.RegisterUnlike) }
-    ensures queue_unlike { refusal (one_block 0 (with_instr 5 (Mov r2 (green 0) int) stores_five)) ≡ Some (Refused 0 6 premise.QueueUnlike) }
+    ensures conditions { refusal (two_blocks 7 (with_instr 1 (Mov r32 int (blue 6)) branches)) ≡ Some (Refused 0 5 premise.Conditions) }
+    ensures targets { refusal (two_blocks 6 (with_instr 3 (Mov r33 (code 0) (blue 1)) jumps)) ≡ Some (Refused 0 5 premise.Targets) }
+    ensures register_unlike { refusal (two_blocks 6 (with_instr 1 (Mov r32 int (blue 6)) jumps)) ≡ Some (Refused 0 5 premise.RegisterUnlike) }
+    ensures register_missing { refusal (two_blocks 6 (with_instr 1 (Mov r9 int (blue 5)) jumps)) ≡ Some (Refused 0 5 premise.RegisterUnlike) }
+    ensures queue_unlike { refusal (one_block 0 (with_instr 5 (Mov r2 int (green 0)) stores_five)) ≡ Some (Refused 0 6 premise.QueueUnlike) }
     ensures memory_unlike { refusal (two_blocks 10 stores_and_jumps) ≡ Some (Refused 0 9 premise.MemoryUnlike) }
     ensures annotation { refusal (record (two_blocks 6 (with_instr 5 (JmpB r33 (record five { past = 0 })) jumps)) { substs = [] }) ≡ Some (Refused 0 5 premise.Annotation) }
     ensures block_end { refusal (one_block 0 (take 6 stores_five)) ≡ Some (Refused 0 5 premise.BlockEnd) }

@@ -17,7 +17,7 @@ use Rattle.ft_scope.proofs.renaming.+renaming.Goals as goal
 
 pub rename_statements-loop-s-init : goal.rename_statements-loop-s-init
 rename_statements-loop-s-init t c =
-    let nothing : plain_list same_slot c.new-out.result.items ≡ none = ap (plain_list same_slot) c.new-out.ensures.items
+    let nothing : plain_list same_slot c.in-Ok.out.items ≡ none = ap (plain_list same_slot) c.in-Ok.ensures.items
     ∙ list_empty same_slot in
     record {
       so_far = ap (renamed (look c.args.names.now)) (list_empty named) ∙ ap Ok (sym nothing);
@@ -38,9 +38,9 @@ rename_statements-returns-in-Err-clause-err t c =
 pub rename_statements-loop-s-preserved : goal.rename_statements-loop-s-preserved
 rename_statements-loop-s-preserved t c =
     let at = c.loop-s in
-    let one = c.in-Ok.ensures in
+    let one = c.in-Ok-rename_statement.ensures in
     let old = c.in-Some.s in
-    let new = c.in-Ok.s in
+    let new = c.in-Ok-rename_statement.s in
     let table = look c.args.names.now in
     let out = ap (plain_list same_slot) c.in-Ok-push.ensures.items ∙ list_push same_slot at.out.items new in
     record {
