@@ -197,6 +197,20 @@ impl<'a, 't> Parser<'a, 't> {
         }
     }
 
+    /// How much room to make for the statements that begin here: none before a brace that closes, otherwise for one,
+    /// as most bodies hold one.
+    fn room(&self) -> usize
+        ensures { result ≤ 1 }
+    {
+        let [t, ..] = self.rest else {
+            return 0;
+        };
+        match t.kind {
+            Kind::RBrace => 0,
+            _ => 1,
+        }
+    }
+
     /// Reads the longest list of statements that begins here.
     #[tactic(auto, using(crate::proofs::PlainForms::while_form, crate::proofs::PlainForms::if_form, crate::proofs::PlainForms::list_push, crate::proofs::PlainForms::list_empty))]
     #[cycle(statement)]
@@ -208,7 +222,7 @@ impl<'a, 't> Parser<'a, 't> {
         ensures same { OnOk result (self.new.opened ≡ self.old.opened) }
         ensures shorter { OnOk result (length self.new.rest.now ≤ length self.old.rest.now) }
     {
-        let Ok(mut all) = Vec::with_capacity(alloc, 1) else {
+        let Ok(mut all) = Vec::with_capacity(alloc, self.room()) else {
             return Err(SourceError::NoMemory);
         };
         while let Some(s) = self.statement(alloc)? {
