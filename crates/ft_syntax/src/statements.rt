@@ -197,8 +197,8 @@ impl<'a, 't> Parser<'a, 't> {
         }
     }
 
-    /// How much room to make for the statements that begin here: none before a brace that closes, otherwise for one,
-    /// as most bodies hold one.
+    /// How much room to make for the statements that begin here: none before a brace that closes, otherwise for one.
+    /// A list makes more as it grows.
     fn room(&self) -> usize
         ensures { result ≤ 1 }
     {
