@@ -103,9 +103,21 @@ fn keep_lengths(entries: u8, taken: u64, lengths: &mut Vec<u8>) -> Result<(), No
     requires { taken ≤ 2 }
     ensures { OnOk result (lengths.new.items ≡ lengths.old.items ++ take taken (entries ∷ entries ∷ [])) }
 {
-    lengths
-        .extend_from_slice(&[entries, entries][..taken as usize])
-        .map_err(|_| NoMemory)
+    match taken {
+        0 => Ok(()),
+        1 => keep_length(entries, lengths),
+        _ => {
+            keep_length(entries, lengths)?;
+            keep_length(entries, lengths)
+        }
+    }
+}
+
+/// Keeps the length of the queue before a step.
+fn keep_length(entries: u8, lengths: &mut Vec<u8>) -> Result<(), NoMemory>
+    ensures { OnOk result (lengths.new.items ≡ lengths.old.items ++ entries ∷ []) }
+{
+    lengths.push(entries).map_err(|_| NoMemory)
 }
 
 /// Keeps the output of a step, if it has one.

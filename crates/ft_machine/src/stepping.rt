@@ -284,6 +284,7 @@ impl Machine {
     }
 
     /// Takes at most `most` steps of a running machine, and stops at the first that is not quiet.
+    #[inline(always)]
     pub fn advance<P: Program>(&mut self, program: &P, wild: &mut WildLeft, most: u64) -> Advance
         requires spellable { IsSpellable (P.object program.now) }
         requires running { self.old.status ≡ Status.Running }
