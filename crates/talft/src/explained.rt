@@ -157,7 +157,8 @@ fn ask_for_session(words: &[String]) -> bool {
 }
 
 /// Does what the words ask for, and writes the explanation to standard error. Standard output and the status do not
-/// depend on the explanation.
+/// depend on the explanation. It is a separate function, apart from the code of calls that are not explained.
+#[inline(never)]
 pub(crate) fn run<R: Env + Files + Print + Eprint + Input + AllocGlobal + Clone + Drop>(
     rt: &R,
     words: &[String],
