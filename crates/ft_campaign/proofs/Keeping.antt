@@ -19,7 +19,7 @@ use Rattle.ft_semantics.specs.Run.{status_after}
 use Rattle.ft_semantics.proofs.Runs.{HasStopped, run_stays}
 use Rattle.ft_campaign.specs.declared.clean.KeptRun.{KeptRun}
 use Rattle.ft_campaign.specs.declared.clean.Snapshot.{Snapshot}
-use Rattle.ft_campaign.specs.Snapshots.{IsSnapshot, IsClean, Kept, AreSnapshots, AreLengths}
+use Rattle.ft_campaign.specs.Snapshots.{IsSnapshot, IsClean, Kept, AreSnapshots, AreLengths, IsDue}
 use Rattle.ft_machine.specs.Spans.{span}
 use Rattle.ft_machine.proofs.Spanned.{joined, span_one}
 use Rattle.ft_campaign.proofs.Following.{not_running}
@@ -27,6 +27,10 @@ use Rattle.ft_campaign.proofs.Meetings.{run_free}
 
 pub snapshots_none : (o : Object) (w : List Wild) → AreSnapshots o w 0 []
 snapshots_none o w = record { row = omega arith; snapshots_are = λ j s e. absurd (cc) }
+
+-- the first snapshot is due before step 0
+pub due_first : (n : ℕ) → IsDue n 0 0
+due_first n = record { within = omega arith; covered = omega arith; later = λ j a b. absurd (omega (arith, b)) }
 
 pub lengths_none : (o : Object) (w : List Wild) → AreLengths o w 0 []
 lengths_none o w = record { long = refl; queues = λ i b e. absurd (cc) }

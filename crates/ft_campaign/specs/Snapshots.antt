@@ -114,6 +114,12 @@ pub record AreSnapshots (o : Object) (w : List Wild) (k : ℕ) (snapshots : List
   pub row : k ≤ 1024 * length snapshots
   pub snapshots_are : (j : ℕ) (s : Snapshot) → slice_get snapshots j ≡ Some s → IsSnapshot o w (1024 * j) s
 
+-- before which step the next snapshot is due, if so many are kept: at most n
+pub record IsDue (n kept due : ℕ) : Type 0 where
+  pub within : due ≤ n
+  pub covered : due ≤ 1024 * kept
+  pub later : (j : ℕ) → j < n → j < 1024 * kept → j < due
+
 -- the length of the queue before each of the first k steps
 pub record AreLengths (o : Object) (w : List Wild) (k : ℕ) (lengths : List ℕ) : Type 0 where
   pub long : length lengths ≡ k

@@ -5,7 +5,7 @@ ghost use Rattle.ft_types.specs.Spellable.{IsSpellable};
 ghost use Rattle.ft_semantics.specs.State.{HasCells};
 ghost use Rattle.ft_machine.specs.Advances.{output_told};
 ghost use Rattle.ft_semantics.specs.Run.{state_after, wild_after, outputs_after};
-ghost use Rattle.ft_campaign.specs.Snapshots.{IsClean, IsSnapshot, AreSnapshots};
+ghost use Rattle.ft_campaign.specs.Snapshots.{IsClean, IsSnapshot, AreSnapshots, IsDue};
 
 use crate::clean::{KeptRun, SPACING, Snapshot};
 use ft_isa::{NoMemory, Output, Steps, Wild};
@@ -15,12 +15,14 @@ use ft_types::Program;
 use std::alloc::Global;
 use std::sync::ledger::Ledger;
 
-/// The state of the run: its machine, the remaining answers, and the number of its outputs.
+/// The state of the run before a step: its machine, the remaining answers, the number of its outputs, and the number of
+/// the step.
 #[derive(Clone, Copy)]
 struct Moment<'a, 'w> {
     machine: &'a Machine,
     left: &'a WildLeft<'w>,
     count: usize,
+    step: u64,
 }
 
 /// Copies this state of the run into a snapshot.
@@ -47,49 +49,58 @@ fn snapshot_of<'w, P: Program>(
     })
 }
 
-/// Keeps a snapshot before step `k`, if one is due.
+/// Before which step the next snapshot is due, if so many are kept: at most `n`.
+fn next_due(kept: usize, n: u64) -> u64
+    requires { n ≤ 1000000 }
+    ensures { IsDue n kept result }
+{
+    if n / SPACING < kept as u64 {
+        return n;
+    }
+    SPACING * kept as u64
+}
+
+/// Keeps a snapshot of this state of the run, if it is due. Returns before which step the next one is.
 fn keep_snapshot<'w, P: Program>(
     alloc: Global,
     program: &P,
     moment: Moment<'_, 'w>,
     wild: &'w [Wild],
-    k: u64,
+    n: u64,
+    due: u64,
     snapshots: &mut Vec<Snapshot<'w>>,
-) -> Result<(), NoMemory>
+) -> Result<u64, NoMemory>
     requires spellable { IsSpellable (P.object program.now) }
-    requires machine { moment.machine.now ≡ state_after (P.object program.now) None wild.now k }
-    requires left { moment.left.now ≡ wild_after (P.object program.now) None wild.now k }
-    requires count { moment.count ≡ length (outputs_after (P.object program.now) None wild.now k) }
-    requires snapshots { AreSnapshots (P.object program.now) wild.now k snapshots.old.items }
-    requires few { k ≤ 1000000 }
-    ensures { OnOk result (AreSnapshots (P.object program.now) wild.now (k + 1) snapshots.new.items) }
+    requires machine { moment.machine.now ≡ state_after (P.object program.now) None wild.now moment.step }
+    requires left { moment.left.now ≡ wild_after (P.object program.now) None wild.now moment.step }
+    requires count { moment.count ≡ length (outputs_after (P.object program.now) None wild.now moment.step) }
+    requires snapshots { AreSnapshots (P.object program.now) wild.now moment.step snapshots.old.items }
+    requires due { IsDue n (length snapshots.old.items) due }
+    requires before { moment.step < n }
+    requires few { n ≤ 1000000 }
+    ensures snapshots { OnOk result (AreSnapshots (P.object program.now) wild.now (moment.entry.step + 1) snapshots.new.items) }
+    ensures due { IfOk result (IsDue n (length snapshots.new.items)) }
+    ensures after { IfOk result (λ next. moment.entry.step < next) }
 {
-    let kept = snapshots.len() as u64;
-    if k / SPACING < kept {
-        return Ok(());
+    if moment.step < due {
+        return Ok(due);
     }
     let snapshot = snapshot_of(alloc, program, moment, wild)?;
     snapshots.push(snapshot).map_err(|_| NoMemory)?;
-    Ok(())
+    Ok(next_due(snapshots.len(), n))
 }
 
-/// How many steps to take at once from step `k`, with step `n` as the limit: a fetch and its instruction, if nothing is
-/// fetched yet and no snapshot is due in between; otherwise one. `kept` is the number of snapshots.
-fn steps_at_once(machine: &Machine, k: u64, n: u64, kept: usize) -> u64
-    requires before { k < n }
-    requires kept { k < 1024 * kept }
-    requires few { n ≤ 1000000 }
+/// How many steps to take at once from step `k`, with step `stop` as the limit: a fetch and its instruction, if nothing
+/// is fetched yet; otherwise one.
+fn steps_at_once(machine: &Machine, k: u64, stop: u64) -> u64
+    requires before { k < stop }
+    requires few { stop ≤ 1000000 }
     ensures some { 0 < result }
     ensures most { result ≤ 2 }
-    ensures within { k + result ≤ n }
-    ensures kept { k + result ≤ 1024 * kept }
+    ensures within { k + result ≤ stop }
     ensures both { 1 < result → machine.now.fetched ≡ None }
 {
-    let next = k + 1;
-    if next == n {
-        return 1;
-    }
-    if next / SPACING >= kept as u64 {
+    if k + 1 == stop {
         return 1;
     }
     if machine.fetched().is_some() {
@@ -100,17 +111,15 @@ fn steps_at_once(machine: &Machine, k: u64, n: u64, kept: usize) -> u64
 
 /// Keeps the length of the queue before each of one or two steps.
 fn keep_lengths(entries: u8, taken: u64, lengths: &mut Vec<u8>) -> Result<(), NoMemory>
-    requires { taken ≤ 2 }
+    requires some { 0 < taken }
+    requires few { taken ≤ 2 }
     ensures { OnOk result (lengths.new.items ≡ lengths.old.items ++ take taken (entries ∷ entries ∷ [])) }
 {
-    match taken {
-        0 => Ok(()),
-        1 => keep_length(entries, lengths),
-        _ => {
-            keep_length(entries, lengths)?;
-            keep_length(entries, lengths)
-        }
+    keep_length(entries, lengths)?;
+    if taken == 1 {
+        return Ok(());
     }
+    keep_length(entries, lengths)
 }
 
 /// Keeps the length of the queue before a step.
@@ -151,20 +160,23 @@ pub(crate) fn run_clean<'w, P: Program, L: Ledger>(
     let mut lengths = Vec::new(alloc);
     let mut snapshots = Vec::new(alloc);
     let mut k = 0;
+    let mut due = 0;
     while k < n {
         let moment = Moment {
             machine: &machine,
             left: &left,
             count: outputs.len(),
+            step: k,
         };
-        keep_snapshot(alloc, program, moment, wild, k, &mut snapshots)?;
-        let most = steps_at_once(&machine, k, n, snapshots.len());
+        let stop = keep_snapshot(alloc, program, moment, wild, n, due, &mut snapshots)?;
+        let most = steps_at_once(&machine, k, stop);
         let entries = machine.queue().len() as u8;
         let advance = machine.advance(program, &mut left, most);
         steps.count(advance.taken);
         keep_lengths(entries, advance.taken, &mut lengths)?;
         keep_output(advance.last, &mut outputs)?;
         k += advance.taken;
+        due = stop;
         let status = machine.status();
         if status != Status::Running {
             return Ok(KeptRun {

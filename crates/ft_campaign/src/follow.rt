@@ -66,6 +66,8 @@ impl<'a> Outlet for Expected<'a> {
 
     ghost heard_none = { λ expected. (refl, λ within. heeds_none expected.whole.now expected.at within) };
 
+    /// A separate function, so that the loop over instructions keeps none of this in processor registers.
+    #[inline(never)]
     fn take(&mut self, output: Output) -> bool {
         is_next(self.whole, &mut self.at, output)
     }

@@ -153,7 +153,7 @@ fn put_turn(code: &mut Vec<Instr>, i: u64) -> Result<(), AllocError>
 fn instructions(alloc: Global, n: u32) -> Result<Vec<Instr>, AllocError>
     ensures { IfOk result (λ code. code.items ≡ opening ++ turns_from 1 n) }
 {
-    let mut code = Vec::new(alloc);
+    let mut code = Vec::with_capacity(alloc, 6 * n as usize + 5)?;
     put_opening(&mut code)?;
     for i in 0..n {
         put_turn(&mut code, i as u64 + 1)?;

@@ -113,40 +113,8 @@ impl Bank {
             self.old self.new result }
     {
         let Coloured { colour, word } = self.registers.get(rs);
-        match op {
-            Op::Shl => {
-                self.put_shifted_left(rd, colour, word, other);
-                Effect::On
-            }
-            Op::Shr => {
-                self.put_shifted_right(rd, colour, word, other);
-                Effect::On
-            }
-            _ => {
-                let word = applied(op, word, other);
-                self.write(rd, Coloured { colour, word })
-            }
-        }
-    }
-
-    /// Puts the first word, shifted left by the second, into a register. The shifts, `put_index` and `loads` are separate
-    /// functions because they need processor registers that the loop over instructions uses. They write the result
-    /// themselves, so that the loop keeps nothing else while they run.
-    #[inline(never)]
-    fn put_shifted_left(&mut self, rd: Reg, colour: Colour, a: u64, b: u64)
-        ensures { DoesQuietly (writes rd colour (apply Op.Shl a b)) self.old self.new Effect.On }
-    {
-        let word = apply(Op::Shl, a, b);
-        self.put(rd, Coloured { colour, word });
-    }
-
-    /// Puts the first word, shifted right by the second, into a register.
-    #[inline(never)]
-    fn put_shifted_right(&mut self, rd: Reg, colour: Colour, a: u64, b: u64)
-        ensures { DoesQuietly (writes rd colour (apply Op.Shr a b)) self.old self.new Effect.On }
-    {
-        let word = apply(Op::Shr, a, b);
-        self.put(rd, Coloured { colour, word });
+        let word = applied(op, word, other);
+        self.write(rd, Coloured { colour, word })
     }
 
     /// Writes the address of the cell that a register selects in a run of cells, in the colour of that register.
@@ -156,20 +124,9 @@ impl Bank {
         ensures { DoesQuietly (writes rd (held self.old.registers rs.number).colour (cell_in_run first length (held self.old.registers rs.number).word))
             self.old self.new result }
     {
-        self.put_index(rd, rs, first, length);
-        Effect::On
-    }
-
-    /// Puts the address of the cell that a register selects in a run of cells into a register.
-    #[inline(never)]
-    fn put_index(&mut self, rd: Reg, rs: Reg, first: u32, length: u32)
-        requires { 0 < length }
-        ensures { DoesQuietly (writes rd (held self.old.registers rs.number).colour (cell_in_run first length (held self.old.registers rs.number).word))
-            self.old self.new Effect.On }
-    {
         let Coloured { colour, word } = self.registers.get(rs);
         let word = cell_in_run(first, length, word);
-        self.put(rd, Coloured { colour, word });
+        self.write(rd, Coloured { colour, word })
     }
 
     #[inline(always)]
@@ -183,7 +140,8 @@ impl Bank {
         }
     }
 
-    /// Loads, and returns whether the machine goes on.
+    /// Loads, and returns whether the machine goes on. It is a separate function because searching the pending
+    /// stores and taking answers to wild loads require processor registers that the loop over instructions uses.
     #[inline(never)]
     fn loads(&mut self, colour: Colour, rd: Reg, rs: Reg, wild: &mut WildLeft) -> bool
         ensures { Does (λ s w. load colour rd (found colour s (held s.registers rs.number).word) s w) self.old self.new (went result) wild.old wild.new }
@@ -324,8 +282,9 @@ impl Bank {
     }
 }
 
-/// The result of an operation on two words. Each arm names its operation, so that the compiled code branches only once.
-/// `operate` does not call it for shifts.
+/// The result of an operation on two words. Shifts are separate functions because their machine code needs a processor
+/// register that the loop over instructions uses. Each arm names its operation, so that the compiled code branches only
+/// once.
 #[inline(always)]
 fn applied(op: Op, a: u64, b: u64) -> u64
     ensures { result ≡ apply op a b }
@@ -339,13 +298,30 @@ fn applied(op: Op, a: u64, b: u64) -> u64
         Op::And => apply(Op::And, a, b),
         Op::Or => apply(Op::Or, a, b),
         Op::Xor => apply(Op::Xor, a, b),
-        Op::Shl => apply(Op::Shl, a, b),
-        Op::Shr => apply(Op::Shr, a, b),
+        Op::Shl => shifted_left(a, b),
+        Op::Shr => shifted_right(a, b),
     }
 }
 
-/// The address of the cell that a word selects in a run of cells.
-#[inline(always)]
+/// The first word shifted left by the second.
+#[inline(never)]
+fn shifted_left(a: u64, b: u64) -> u64
+    ensures { result ≡ apply Op.Shl a b }
+{
+    apply(Op::Shl, a, b)
+}
+
+/// The first word shifted right by the second.
+#[inline(never)]
+fn shifted_right(a: u64, b: u64) -> u64
+    ensures { result ≡ apply Op.Shr a b }
+{
+    apply(Op::Shr, a, b)
+}
+
+/// The address of the cell that a word selects in a run of cells. It is a separate function, like the shifts, because a
+/// division needs two processor registers.
+#[inline(never)]
 fn cell_in_run(first: u32, length: u32, word: u64) -> u64
     requires { 0 < length }
     ensures { result ≡ cell_in_run first length word }

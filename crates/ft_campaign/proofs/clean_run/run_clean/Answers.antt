@@ -8,8 +8,9 @@ use Rattle.ft_machine.specs.Advances.{output_told}
 use Rattle.ft_semantics.proofs.Runs.{HasStopped}
 use Rattle.ft_machine.proofs.Runs.{has_stopped, still_running}
 use Rattle.ft_campaign.specs.declared.clean.Snapshot.{Snapshot}
-use Rattle.ft_campaign.specs.Snapshots.{AreLengths, AreSnapshots}
-use Rattle.ft_campaign.proofs.Keeping.{snapshots_none, snapshots_on, lengths_none, lengths_on, clean_stopped, run_span}
+use Rattle.ft_campaign.specs.Snapshots.{AreLengths, AreSnapshots, IsDue}
+use Rattle.ft_campaign.proofs.Keeping.{snapshots_none, snapshots_on, due_first, lengths_none, lengths_on, clean_stopped}
+use Rattle.ft_campaign.proofs.Keeping.{run_span}
 use Rattle.ft_campaign.proofs.clean_run.run_clean.Goals as goal
 
 pub loop-k-init : goal.loop-k-init
@@ -25,6 +26,8 @@ loop-k-init g c =
       lengths = subst (λ (xs : List ℕ). AreLengths o w 0 xs) (sym c.new-lengths.ensures.items) (lengths_none o w);
       snapshots = subst (λ (xs : List Snapshot). AreSnapshots o w 0 xs) (sym c.new-snapshots.ensures.items)
           (snapshots_none o w);
+      due = subst (λ (xs : List Snapshot). IsDue c.args.n (length xs) 0) (sym c.new-snapshots.ensures.items)
+          (due_first c.args.n);
       within = omega arith;
       steps = omega arith;
     }
@@ -37,6 +40,7 @@ returns-then-ne-clause-clean g c =
     let v = c.loop-k.invariant in
     let s = c.loop-k.machine in
     let left = c.loop-k.left in
+    let due = c.in_ok-stop.ensures.due in
     let most = c.steps_at_once-most.ensures in
     let went = c.advance-advance.ensures in
     let a = went.advances in
@@ -55,8 +59,8 @@ returns-then-ne-clause-clean g c =
       snapshots = c.keep_snapshot.new.snapshots;
       status = c.status-status.result;
       last = c.loop-k.k + c.advance-advance.result.taken - 1;
-    }) (let within = most.within in
-    omega (arith, within, few, some))
+    }) (let within = most.within in let limit = due.within in
+    omega (arith, within, limit, few, some))
     (subst HasStopped status (has_stopped c.status-status.result (sym c.ne.ensures ∙ c.if-ne.true)))
     (c.in_ok-keep_output.ensures ∙ ap (λ (os : List Output). os
     ++ option_to_list (output_told c.advance-advance.result.last)) v.outputs
@@ -70,8 +74,8 @@ returns-then-ne-clause-clean g c =
     (lengths_on o w k t s left c.loop-k.lengths.items _ v.state v.wild v.lengths (c.len-entries.ensures.pairs
     ∙ ap length c.queue.ensures) some (let two = most.most in omega (arith, two, few)) (λ both.
     most.both (omega (arith, both, few))) (λ j less. (a.before j less).running))))
-    (snapshots_on o w (k + 1) (k + t - 1 + 1) c.keep_snapshot.new.snapshots.items c.in_ok-keep_snapshot.ensures
-    (let kept = most.kept in omega (arith, kept, few, last)))
+    (snapshots_on o w (k + 1) (k + t - 1 + 1) c.keep_snapshot.new.snapshots.items c.in_ok-stop.ensures.snapshots
+    (let within = most.within in let covered = due.covered in omega (arith, within, covered, few, last)))
 
 pub loop-k-preserved : goal.loop-k-preserved
 loop-k-preserved g c =
@@ -81,6 +85,7 @@ loop-k-preserved g c =
     let v = c.loop-k.invariant in
     let s = c.loop-k.machine in
     let left = c.loop-k.left in
+    let due = c.in_ok-stop.ensures.due in
     let most = c.steps_at_once-most.ensures in
     let went = c.advance-advance.ensures in
     let a = went.advances in
@@ -102,8 +107,9 @@ loop-k-preserved g c =
           (lengths_on o w k t s left c.loop-k.lengths.items _ v.state v.wild v.lengths (c.len-entries.ensures.pairs
           ∙ ap length c.queue.ensures) some (let two = most.most in omega (arith, two, few)) (λ both.
           most.both (omega (arith, both, few))) (λ j less. (a.before j less).running));
-      snapshots = snapshots_on o w (k + 1) (k + t) c.keep_snapshot.new.snapshots.items c.in_ok-keep_snapshot.ensures
-          (let kept = most.kept in omega (arith, kept, few));
-      within = (let within = most.within in omega (arith, within, few));
+      snapshots = snapshots_on o w (k + 1) (k + t) c.keep_snapshot.new.snapshots.items c.in_ok-stop.ensures.snapshots
+          (let within = most.within in let covered = due.covered in omega (arith, within, covered, few));
+      due = due;
+      within = (let within = most.within in let limit = due.within in omega (arith, within, limit, few));
       steps = (let counted = c.count.ensures in let before = v.steps in omega (arith, counted, before));
     }

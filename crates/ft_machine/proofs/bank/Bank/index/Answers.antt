@@ -2,13 +2,12 @@ use Rattle.std.proofs.Common.{ℕ, subst}
 use Rattle.ft_isa.specs.declared.colour.Coloured.{Coloured}
 use Rattle.ft_isa.specs.Words.{cell_in_run}
 use Rattle.ft_semantics.specs.Step.{writes}
-use Rattle.ft_machine.specs.declared.bank.Effect.TheVariants.{On}
 use Rattle.ft_machine.specs.Effects.{DoesQuietly}
-use Rattle.ft_machine.proofs.bank.Bank.put_index.Goals as goal
+use Rattle.ft_machine.proofs.bank.Bank.index.Goals as goal
 
 pub returns : goal.returns
 returns c =
     subst (λ (x : Coloured). DoesQuietly (writes c.args.rd x.colour (cell_in_run c.args.first c.args.length x.word))
-    c.args.self.now c.put.new.self On) c.get-colour.ensures
-    (subst (λ (v : ℕ). DoesQuietly (writes c.args.rd c.get-colour.result.colour v) c.args.self.now c.put.new.self On)
-    c.cell_in_run-word.ensures c.put.ensures)
+    c.args.self.now c.write.new.self c.write.result) c.get-colour.ensures
+    (subst (λ (v : ℕ). DoesQuietly (writes c.args.rd c.get-colour.result.colour v) c.args.self.now c.write.new.self
+    c.write.result) c.cell_in_run-word.ensures c.write.ensures)
