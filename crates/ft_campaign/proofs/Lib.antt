@@ -6,5 +6,6 @@ pub mod Judged
 pub mod Judgements
 pub mod Keeping
 pub mod Meetings
+pub mod Queues
 pub mod Racing
 pub mod VerdictLines

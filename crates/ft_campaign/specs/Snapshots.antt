@@ -1,6 +1,9 @@
 -- What a campaign keeps of the run without a fault, and what one fault may cost: private to the crate, except for the
 -- cost.
-use Rattle.std.specs.Prelude.{◌≡◌, ℕ, ◌+◌, ◌-◌, ◌*◌, ◌/◌, ◌<◌, ◌≤◌, List, ◌++◌, length, slice_get, take, None, Some, false, true}
+use Rattle.std.specs.Prelude.{◌≡◌, ℕ, ◌+◌, ◌-◌, ◌*◌, ◌/◌, ◌%◌, ◌<◌, ◌≤◌, List, ◌++◌, length, slice_get, take, Option, None, Some, false, true}
+use Rattle.ft_isa.specs.declared.colour.Colour.TheVariants.{Green, Blue}
+use Rattle.ft_isa.specs.declared.instr.Instr.{Instr}
+use Rattle.ft_isa.specs.declared.instr.Instr.TheVariants.{St, JmpB, BzB, Halt}
 use Rattle.ft_isa.specs.declared.plan.Strike.{Strike}
 use Rattle.ft_isa.specs.declared.plan.Wild.{Wild}
 use Rattle.ft_isa.specs.declared.output.Output.{Output}
@@ -120,7 +123,23 @@ pub record IsDue (n kept due : ℕ) : Type 0 where
   pub covered : due ≤ 1024 * kept
   pub later : (j : ℕ) → j < n → j < 1024 * kept → j < due
 
--- the length of the queue before each of the first k steps
+-- the length of the queue before each of the first k steps that the machine takes
 pub record AreLengths (o : Object) (w : List Wild) (k : ℕ) (lengths : List ℕ) : Type 0 where
   pub long : length lengths ≡ k
-  pub queues : (i b : ℕ) → slice_get lengths i ≡ Some b → (status_after o None w i ≡ Running) × (b ≡ length (state_after o None w i).queue)
+  pub queues : (i b : ℕ) → slice_get lengths i ≡ Some b → status_after o None w i ≡ Running → b ≡ length (state_after o None w i).queue
+
+-- the machine is about to fetch the instruction at this code address, and the queue has b entries
+pub record IsReady (pc b : ℕ) (s : State) : Type 0 where
+  pub nothing : s.fetched ≡ None
+  pub counter : s.pc_green ≡ pc
+  pub entries : b ≡ length s.queue
+
+-- the number of entries in the queue after an instruction, if the machine then goes on to the next one (a green store
+-- needs fewer than 8); none for an instruction after which it may go elsewhere or stop
+abbrev pub entries_after : Instr → ℕ → Option ℕ
+entries_after (St Green rd rs) b = Some ((b + 1) % 256)
+entries_after (St Blue rd rs) b = Some (b - 1)
+entries_after (JmpB rd subst) b = None
+entries_after (BzB rz rd subst) b = None
+entries_after Halt b = None
+entries_after other b = Some b

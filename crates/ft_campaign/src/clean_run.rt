@@ -1,15 +1,14 @@
 //! The run without a fault, with its snapshots.
-ghost use Rattle.std.specs.Prelude.{◌≡◌, ◌≤◌, ◌<◌, ◌+◌, ◌*◌, ◌++◌, ◌∷◌, [], IfOk, OnOk, length, take, None};
-ghost use Rattle.std.specs.Option.{option_to_list};
+ghost use Rattle.std.specs.Prelude.{◌≡◌, ◌≤◌, ◌<◌, ◌+◌, ◌*◌, ◌++◌, IfOk, OnOk, length, None, true};
 ghost use Rattle.ft_types.specs.Spellable.{IsSpellable};
 ghost use Rattle.ft_semantics.specs.State.{HasCells};
-ghost use Rattle.ft_machine.specs.Advances.{output_told};
 ghost use Rattle.ft_semantics.specs.Run.{state_after, wild_after, outputs_after};
 ghost use Rattle.ft_campaign.specs.Snapshots.{IsClean, IsSnapshot, AreSnapshots, IsDue};
 
 use crate::clean::{KeptRun, SPACING, Snapshot};
+use crate::lengths::keep_lengths;
 use ft_isa::{NoMemory, Output, Steps, Wild};
-use ft_machine::{Machine, Stepped, WildLeft};
+use ft_machine::{Machine, Outlet, Pause, WildLeft};
 use ft_semantics::Status;
 use ft_types::Program;
 use std::alloc::Global;
@@ -90,54 +89,23 @@ fn keep_snapshot<'w, P: Program>(
     Ok(next_due(snapshots.len(), n))
 }
 
-/// How many steps to take at once from step `k`, with step `stop` as the limit: a fetch and its instruction, if nothing
-/// is fetched yet; otherwise one.
-fn steps_at_once(machine: &Machine, k: u64, stop: u64) -> u64
-    requires before { k < stop }
-    requires few { stop ≤ 1000000 }
-    ensures some { 0 < result }
-    ensures most { result ≤ 2 }
-    ensures within { k + result ≤ stop }
-    ensures both { 1 < result → machine.now.fetched ≡ None }
-{
-    if k + 1 == stop {
-        return 1;
-    }
-    if machine.fetched().is_some() {
-        return 1;
-    }
-    2
+/// The outputs so far. As an outlet, it stops the run if memory runs out.
+#[derive(Drop)]
+struct OutputList {
+    outputs: Vec<Output>,
 }
 
-/// Keeps the length of the queue before each of one or two steps.
-fn keep_lengths(entries: u8, taken: u64, lengths: &mut Vec<u8>) -> Result<(), NoMemory>
-    requires some { 0 < taken }
-    requires few { taken ≤ 2 }
-    ensures { OnOk result (lengths.new.items ≡ lengths.old.items ++ take taken (entries ∷ entries ∷ [])) }
-{
-    keep_length(entries, lengths)?;
-    if taken == 1 {
-        return Ok(());
-    }
-    keep_length(entries, lengths)
-}
+impl Outlet for OutputList {
+    ghost use Rattle.std.proofs.Common.{sym, append-nil};
 
-/// Keeps the length of the queue before a step.
-fn keep_length(entries: u8, lengths: &mut Vec<u8>) -> Result<(), NoMemory>
-    ensures { OnOk result (lengths.new.items ≡ lengths.old.items ++ entries ∷ []) }
-{
-    lengths.push(entries).map_err(|_| NoMemory)
-}
+    ghost heard = { λ first outputs goes now. goes ≡ true → now.outputs.items ≡ first.outputs.items ++ outputs };
 
-/// Keeps the output of a step, if it has one.
-fn keep_output(last: Stepped, outputs: &mut Vec<Output>) -> Result<(), NoMemory>
-    ensures { OnOk result (outputs.new.items ≡ outputs.old.items ++ option_to_list (output_told last)) }
-{
-    match last {
-        Stepped::Commit(output) => outputs.push(output).map_err(|_| NoMemory),
-        Stepped::Quiet => Ok(()),
-        Stepped::Done => Ok(()),
-        Stepped::Detected => Ok(()),
+    ghost may = { λ list output. Unit {0} };
+
+    ghost heard_none = { λ list goes. sym (append-nil list.outputs.items) };
+
+    fn take(&mut self, output: Output) -> bool {
+        self.outputs.push(output).is_ok()
     }
 }
 
@@ -156,7 +124,9 @@ pub(crate) fn run_clean<'w, P: Program, L: Ledger>(
 {
     let mut machine = Machine::new(alloc, program)?;
     let mut left = WildLeft::new(wild);
-    let mut outputs = Vec::new(alloc);
+    let mut list = OutputList {
+        outputs: Vec::new(alloc),
+    };
     let mut lengths = Vec::new(alloc);
     let mut snapshots = Vec::new(alloc);
     let mut k = 0;
@@ -165,22 +135,22 @@ pub(crate) fn run_clean<'w, P: Program, L: Ledger>(
         let moment = Moment {
             machine: &machine,
             left: &left,
-            count: outputs.len(),
+            count: list.outputs.len(),
             step: k,
         };
-        let stop = keep_snapshot(alloc, program, moment, wild, n, due, &mut snapshots)?;
-        let most = steps_at_once(&machine, k, stop);
-        let entries = machine.queue().len() as u8;
-        let advance = machine.advance(program, &mut left, most);
-        steps.count(advance.taken);
-        keep_lengths(entries, advance.taken, &mut lengths)?;
-        keep_output(advance.last, &mut outputs)?;
-        k += advance.taken;
-        due = stop;
+        due = keep_snapshot(alloc, program, moment, wild, n, due, &mut snapshots)?;
+        let most = keep_lengths(&machine, program, due - k, &mut lengths)?;
+        let gone = machine.go(program, &mut left, most, &mut list);
+        steps.count(gone.taken);
+        if gone.pause == Pause::Refused {
+            return Err(NoMemory);
+        }
+        k += gone.taken;
         let status = machine.status();
         if status != Status::Running {
+            lengths.truncate(k as usize);
             return Ok(KeptRun {
-                outputs,
+                outputs: list.outputs,
                 lengths,
                 snapshots,
                 status,
@@ -189,7 +159,7 @@ pub(crate) fn run_clean<'w, P: Program, L: Ledger>(
         }
     }
     Ok(KeptRun {
-        outputs,
+        outputs: list.outputs,
         lengths,
         snapshots,
         status: Status::Running,

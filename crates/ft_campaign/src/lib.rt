@@ -14,6 +14,7 @@ mod fault_list;
 mod follow;
 mod judge;
 mod laws;
+mod lengths;
 mod lines;
 mod report;
 mod struck_run;

@@ -1,6 +1,5 @@
-use Rattle.std.proofs.Common.{◌≡◌, ◌+◌, true, is_ok, None, List, [], ◌∷◌, length, ap, sym, subst, ◌∙◌, arith}
+use Rattle.std.proofs.Common.{◌≡◌, ◌+◌, true, is_ok, None, List, ap, sym, subst, ◌∙◌, arith}
 use Rattle.std.proofs.lemmas.Bool.{cond-true}
-use Rattle.std.proofs.lemmas.List.{length-append}
 use Rattle.ft_semantics.specs.State.{State, is_cell}
 use Rattle.ft_machine.proofs.Runs.{run_has_cells}
 use Rattle.ft_campaign.specs.declared.clean.Snapshot.{Snapshot}
@@ -31,8 +30,5 @@ returns-clause-snapshots g c =
 
 pub returns-clause-after : goal.returns-clause-after
 returns-clause-after g c =
-    let ok : is_ok c.push.result ≡ true = sym c.map_err.ensures.variant ∙ ap is_ok c.in_ok-map_err.was in
-    let pushed = ap length (c.push.ensures.items ∙ cond-true _ _ _ ok) in
-    let long = length-append c.args.snapshots.now.items (c.in_ok-snapshot.snapshot ∷ []) in
-    let row = c.requires.snapshots.row in
-    c.next_due.ensures.later c.args.moment.step c.requires.before (omega (arith, pushed, long, row, c.len.ensures))
+    let row = (returns-clause-snapshots g c).row in
+    c.next_due.ensures.later c.args.moment.step c.requires.before (omega (arith, row, c.len.ensures))

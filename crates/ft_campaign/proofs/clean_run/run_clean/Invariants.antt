@@ -11,7 +11,7 @@ invariant-loop-k g l =
       state : l.machine ≡ state_after o None l.fn.wild l.k;
       wild : l.left ≡ wild_after o None l.fn.wild l.k;
       running : status_after o None l.fn.wild l.k ≡ Running;
-      outputs : l.outputs.items ≡ outputs_after o None l.fn.wild l.k;
+      outputs : l.list.outputs.items ≡ outputs_after o None l.fn.wild l.k;
       lengths : AreLengths o l.fn.wild l.k l.lengths.items;
       snapshots : AreSnapshots o l.fn.wild l.k l.snapshots.items;
       due : IsDue l.fn.n (length l.snapshots.items) l.due;
