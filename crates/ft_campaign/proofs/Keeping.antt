@@ -90,9 +90,8 @@ clean_whole o w n c running outputs is a b = record {
   running = λ d. absurd (let e : Running ≡ Detected = sym is ∙ d in cc);
   detected = λ d. absurd (let e : Running ≡ Detected = sym is ∙ d in cc);
   upto = n;
-  kept = kept_by o w n c.lengths.items c.snapshots.items (λ i below.
-      running_before o w n i (omega (arith, below)) running)
-      a b;
+  kept = kept_by o w n c.lengths.items c.snapshots.items
+      (λ i below. running_before o w n i (omega (arith, below)) running) a b;
   within = omega arith;
   past = λ i le below e. absurd (omega (arith, le, below));
 }

@@ -1,7 +1,7 @@
 -- The length of the queue before each step of the run without a fault.
-use Rattle.std.proofs.Common.{◌≡◌, ℕ, ◌+◌, ◌-◌, ◌%◌, ◌^◌, ◌<◌, ◌≤◌, List, [], ◌∷◌, ◌++◌, length, take, drop, Option}
-use Rattle.std.proofs.Common.{Some, None}
-use Rattle.std.proofs.Common.{Bool, true, false, ◌&&◌, slice_get, refl, ap, sym, subst, ◌∙◌, ⊎_elim, arith, length-take}
+use Rattle.std.proofs.Common.{◌≡◌, ℕ, ◌+◌, ◌-◌, ◌%◌, ◌^◌, ◌<◌, ◌≤◌, List, [], ◌∷◌, ◌++◌, length, take, drop}
+use Rattle.std.proofs.Common.{Option, Some, None, Bool, true, false, ◌&&◌, slice_get, refl, ap, sym, subst, ◌∙◌}
+use Rattle.std.proofs.Common.{append_assoc, ⊎_elim, arith, length-take}
 use Rattle.std.specs.Prelude.{if◌then◌else◌, ◌==◌, nat_lt}
 use Rattle.std.proofs.lemmas.Bool.Decides.{nat_tests}
 use Rattle.std.proofs.lemmas.List.{length-append}
@@ -10,6 +10,7 @@ use Rattle.ft_isa.specs.declared.colour.Colour.{Colour}
 use Rattle.ft_isa.specs.declared.colour.Colour.TheVariants.{Green, Blue}
 use Rattle.ft_isa.specs.declared.instr.Instr.{Instr}
 use Rattle.ft_isa.specs.declared.instr.Instr.TheVariants.{OpReg, OpWord, Mov, Ld, St, JmpG, JmpB, BzG, BzB, Halt, Idx}
+use Rattle.ft_isa.specs.declared.instr.Subst.{Subst}
 use Rattle.ft_isa.specs.declared.plan.Wild.{Wild}
 use Rattle.ft_isa.specs.declared.plan.Wild.TheVariants.{Word, Stop}
 use Rattle.ft_isa.specs.declared.reg.Reg.{Reg}
@@ -25,15 +26,13 @@ use Rattle.ft_semantics.specs.Step.{Stepping, step, step_at, advance, fetch, exe
 use Rattle.ft_semantics.specs.Step.{writes, load, wild_load, found, commit, commits, jump_green, pass}
 use Rattle.ft_semantics.specs.Run.{Ran, run-add_one, state_after, wild_after}
 use Rattle.ft_machine.proofs.Spanned.{run_start, span_running}
-use Rattle.ft_campaign.specs.Snapshots.{AreLengths, IsReady, entries_after}
+use Rattle.ft_campaign.specs.Snapshots.{AreLengths, IsReady, LeadsOn}
 
 -- ONE INSTRUCTION
 
 -- the machine goes on to the next instruction, with b entries in the queue
-record GoesOn (s t : State) (b : ℕ) : Type 0 where
-  nothing : t.fetched ≡ None
-  counter : t.pc_green ≡ next s.pc_green
-  entries : b ≡ length t.queue
+abbrev GoesOn : State → State → ℕ → Type 0
+GoesOn s t b = IsReady (next s.pc_green) b t
 
 -- a step with a condition
 given : (t : Bool) (s : State) (x : Stepping) (w : List Wild) (b : ℕ) → (t ≡ true → GoesOn s x.state b) →
@@ -81,43 +80,40 @@ one_less : (a v b : ℕ) (q : Pending) (x : Bool) → b ≡ length q → (is_old
 one_less a v b [] x is old = absurd (let e : false ≡ true = old in cc)
 one_less a v b (e ∷ q) x is old = omega (arith, is)
 
-execute_on : (i : Instr) (s : State) (w : List Wild) (b c : ℕ) → b ≡ length s.queue → entries_after i b ≡ Some c →
-    (execute i s w).state.status ≡ Running → GoesOn s (execute i s w).state c
-execute_on (OpReg op rd rs rt) s w b c is after running =
-    writes_on rd _ _ s w c (sym (let e : b ≡ c = cc in e) ∙ is)
-execute_on (OpWord op rd rs value) s w b c is after running =
-    writes_on rd _ _ s w c (sym (let e : b ≡ c = cc in e) ∙ is)
-execute_on (Mov rd basic value) s w b c is after running =
-    writes_on rd _ _ s w c (sym (let e : b ≡ c = cc in e) ∙ is)
-execute_on (Ld c rd rs) s w b d is after running =
-    load_on c rd (found c s (word s rs)) s w d (sym (let e : b ≡ d = cc in e) ∙ is) running
-execute_on (St Green rd rs) s w b c is after running =
+pub green_leads_on : (rd rs : Reg) (b : ℕ) → LeadsOn (St Green rd rs) b ((b + 1) % 256)
+green_leads_on rd rs b = λ s w is running.
     given (nat_lt (length s.queue) 8) s
-    (quiet (goes_on (record s { queue = s.queue ++ (word s rd, word s rs) ∷ [] })) w) w c
-    (λ few. record {
-      nothing = refl;
-      counter = refl;
-      entries = sym (let e : (b + 1) % 256 ≡ c = cc in e) ∙ one_more (word s rd) (word s rs) b s.queue is few;
-    }) running
-execute_on (St Blue rd rs) s w b c is after running =
-    given (commits (word s rd) (word s rs) s) s (commit (word s rd) (word s rs) s w) w c
+    (quiet (goes_on (record s { queue = s.queue ++ (word s rd, word s rs) ∷ [] })) w) w ((b + 1) % 256)
+    (λ few. record { nothing = refl; counter = refl; entries = one_more (word s rd) (word s rs) b s.queue is few })
+    running
+
+pub blue_leads_on : (rd rs : Reg) (b : ℕ) → LeadsOn (St Blue rd rs) b (b - 1)
+blue_leads_on rd rs b = λ s w is running.
+    given (commits (word s rd) (word s rs) s) s (commit (word s rd) (word s rs) s w) w (b - 1)
     (λ old. record {
       nothing = refl;
       counter = refl;
-      entries = sym (let e : b - 1 ≡ c = cc in e)
-          ∙ one_less (word s rd) (word s rs) b s.queue (is_cell s.cells (word s rd)) is old;
+      entries = one_less (word s rd) (word s rs) b s.queue (is_cell s.cells (word s rd)) is old;
     }) running
-execute_on (JmpG rd) s w b c is after running =
-    jump_on (word s rd) s w c (sym (let e : b ≡ c = cc in e) ∙ is) running
-execute_on (JmpB rd subst) s w b c is after running = absurd (let e : None ≡ Some c = after in cc)
-execute_on (BzG rz rd) s w b c is after running =
-    let same = sym (let e : b ≡ c = cc in e) ∙ is in
-    chosen (word s rz == 0) s (jump_green (word s rd) s w) (pass s w) c (jump_on (word s rd) s w c same)
-    (pass_on s w c same) running
-execute_on (BzB rz rd subst) s w b c is after running = absurd (let e : None ≡ Some c = after in cc)
-execute_on Halt s w b c is after running = absurd (let e : None ≡ Some c = after in cc)
-execute_on (Idx rd rs first m) s w b c is after running =
-    writes_on rd _ _ s w c (sym (let e : b ≡ c = cc in e) ∙ is)
+
+-- other instructions, but a blue jump or branch and `halt`, leave the queue as it is
+pub others_lead_on : (i : Instr) (b : ℕ) → ((c : Colour) (rd rs : Reg) → ¬ (i ≡ St c rd rs)) →
+    ((rd : Reg) (rows : Subst) → ¬ (i ≡ JmpB rd rows)) → ((rz rd : Reg) (rows : Subst) → ¬ (i ≡ BzB rz rd rows)) →
+    ¬ (i ≡ Halt) → LeadsOn i b b
+others_lead_on (OpReg op rd rs rt) b store jump branch halt = λ s w is running. writes_on rd _ _ s w b is
+others_lead_on (OpWord op rd rs value) b store jump branch halt = λ s w is running. writes_on rd _ _ s w b is
+others_lead_on (Mov rd basic value) b store jump branch halt = λ s w is running. writes_on rd _ _ s w b is
+others_lead_on (Ld c rd rs) b store jump branch halt = λ s w is running.
+    load_on c rd (found c s (word s rs)) s w b is running
+others_lead_on (St c rd rs) b store jump branch halt = absurd (store c rd rs refl)
+others_lead_on (JmpG rd) b store jump branch halt = λ s w is running. jump_on (word s rd) s w b is running
+others_lead_on (JmpB rd rows) b store jump branch halt = absurd (jump rd rows refl)
+others_lead_on (BzG rz rd) b store jump branch halt = λ s w is running.
+    chosen (word s rz == 0) s (jump_green (word s rd) s w) (pass s w) b (jump_on (word s rd) s w b is)
+    (pass_on s w b is) running
+others_lead_on (BzB rz rd rows) b store jump branch halt = absurd (branch rz rd rows refl)
+others_lead_on Halt b store jump branch halt = absurd (halt refl)
+others_lead_on (Idx rd rs first m) b store jump branch halt = λ s w is running. writes_on rd _ _ s w b is
 
 -- a fetch does not change the queue
 
@@ -180,20 +176,20 @@ module _ (o : Object) (w : List Wild) where
 
   -- the lengths before both steps of an instruction
   pub lengths_two : (m : ℕ) (xs : List ℕ) (pc b : ℕ) → AreLengths o w m xs →
-      ((at m).status ≡ Running → IsReady pc b (at m)) → AreLengths o w (m + 2) ((xs ++ b ∷ []) ++ b ∷ [])
+      ((at m).status ≡ Running → IsReady pc b (at m)) → AreLengths o w (m + 2) (xs ++ b ∷ b ∷ [])
   lengths_two m xs pc b h ready =
       let both : m + 1 + 1 ≡ m + 2 = omega arith in
-      subst (λ j. AreLengths o w j ((xs ++ b ∷ []) ++ b ∷ [])) both
+      subst (AreLengths o w (m + 2)) (append_assoc xs (b ∷ []) (b ∷ []))
+      (subst (λ j. AreLengths o w j ((xs ++ b ∷ []) ++ b ∷ [])) both
       (lengths_more (m + 1) (xs ++ b ∷ []) b (lengths_more m xs b h (λ running. (ready running).entries))
       (λ running. let r = ready (was_running m 1 running) in
       r.entries ∙ sym (ap (λ (s : State). length s.queue) (at_next m)
-      ∙ ap length (fetch_keeps_queue o (at m).status (at m) (wild_after o None w m) r.nothing))))
+      ∙ ap length (fetch_keeps_queue o (at m).status (at m) (wild_after o None w m) r.nothing)))))
 
   -- the machine is ready for the next instruction after this one
   pub ready_after : (m pc b c : ℕ) (i : Instr) → ((at m).status ≡ Running → IsReady pc b (at m)) → instr_at o pc
-      ≡ Some i → pc + 1 < 2 ^ 64 → entries_after i b ≡ Some c → (at (m + 2)).status ≡ Running →
-      IsReady (pc + 1) c (at (m + 2))
-  ready_after m pc b c i ready is below after running =
+      ≡ Some i → pc + 1 < 2 ^ 64 → LeadsOn i b c → (at (m + 2)).status ≡ Running → IsReady (pc + 1) c (at (m + 2))
+  ready_after m pc b c i ready is below leads running =
       let both : m + 2 ≡ m + 1 + 1 = omega arith in
       let s = at m in
       let v = wild_after o None w m in
@@ -210,7 +206,7 @@ module _ (o : Object) (w : List Wild) where
       (ap (λ (q : State). q.status) (sym there) ∙ later) in
       let second : at (m + 2) ≡ (execute i s1 u).state = ap at both ∙ at_next (m + 1)
       ∙ ap (λ q. (step o q u).state) first ∙ ap (λ q. (step_at o q s1 u).state) on in
-      let e = execute_on i s1 u b c r.entries after (ap (λ (q : State). q.status) (sym second) ∙ running) in
+      let e = leads s1 u r.entries (ap (λ (q : State). q.status) (sym second) ∙ running) in
       let next_pc : (pc + 1) % 2 ^ 64 ≡ pc + 1 = omega (arith, below) in
       record {
         nothing = ap (λ (q : State). q.fetched) second ∙ e.nothing;

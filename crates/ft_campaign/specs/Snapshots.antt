@@ -1,9 +1,7 @@
 -- What a campaign keeps of the run without a fault, and what one fault may cost: private to the crate, except for the
 -- cost.
-use Rattle.std.specs.Prelude.{◌≡◌, ℕ, ◌+◌, ◌-◌, ◌*◌, ◌/◌, ◌%◌, ◌<◌, ◌≤◌, List, ◌++◌, length, slice_get, take, Option, None, Some, false, true}
-use Rattle.ft_isa.specs.declared.colour.Colour.TheVariants.{Green, Blue}
+use Rattle.std.specs.Prelude.{◌≡◌, ℕ, ◌+◌, ◌-◌, ◌*◌, ◌/◌, ◌<◌, ◌≤◌, List, ◌++◌, length, slice_get, take, None, Some, false, true}
 use Rattle.ft_isa.specs.declared.instr.Instr.{Instr}
-use Rattle.ft_isa.specs.declared.instr.Instr.TheVariants.{St, JmpB, BzB, Halt}
 use Rattle.ft_isa.specs.declared.plan.Strike.{Strike}
 use Rattle.ft_isa.specs.declared.plan.Wild.{Wild}
 use Rattle.ft_isa.specs.declared.output.Output.{Output}
@@ -13,6 +11,7 @@ use Rattle.ft_semantics.specs.declared.status.Status.TheVariants.{Running, Detec
 use Rattle.ft_campaign.specs.declared.clean.Snapshot.{Snapshot}
 use Rattle.ft_campaign.specs.declared.clean.KeptRun.{KeptRun}
 use Rattle.ft_semantics.specs.State.{State}
+use Rattle.ft_semantics.specs.Step.{execute, next}
 use Rattle.ft_semantics.specs.Strike.{struck_before}
 use Rattle.ft_semantics.specs.Run.{state_after, wild_after, outputs_after, status_after, is_struck}
 
@@ -134,12 +133,8 @@ pub record IsReady (pc b : ℕ) (s : State) : Type 0 where
   pub counter : s.pc_green ≡ pc
   pub entries : b ≡ length s.queue
 
--- the number of entries in the queue after an instruction, if the machine then goes on to the next one (a green store
--- needs fewer than 8); none for an instruction after which it may go elsewhere or stop
-abbrev pub entries_after : Instr → ℕ → Option ℕ
-entries_after (St Green rd rs) b = Some ((b + 1) % 256)
-entries_after (St Blue rd rs) b = Some (b - 1)
-entries_after (JmpB rd subst) b = None
-entries_after (BzB rz rd subst) b = None
-entries_after Halt b = None
-entries_after other b = Some b
+-- in whatever state, with b entries in the queue, the instruction is executed: if the machine then still runs, it is
+-- about to fetch the next instruction, and the queue has c entries
+abbrev pub LeadsOn : Instr → ℕ → ℕ → Type 0
+LeadsOn i b c = (s : State) (w : List Wild) → b ≡ length s.queue → (execute i s w).state.status ≡ Running →
+    IsReady (next s.pc_green) c (execute i s w).state

@@ -1,9 +1,9 @@
 //! The lengths of the queue before the steps of the run without a fault.
-ghost use Rattle.std.specs.Prelude.{◌≡◌, ◌≤◌, ◌<◌, ◌+◌, ◌++◌, ◌∷◌, [], ℕ, List, IfOk, OnOk, None};
+ghost use Rattle.std.specs.Prelude.{◌≡◌, ◌≤◌, ◌<◌, ◌+◌, ◌++◌, ◌∷◌, [], ℕ, List, IfOk, OnOk, IfSome, None};
 ghost use Rattle.ft_isa.specs.declared.plan.Wild.{Wild as Answer};
 ghost use Rattle.ft_types.specs.Spellable.{IsSpellable};
 ghost use Rattle.ft_semantics.specs.Run.{state_after};
-ghost use Rattle.ft_campaign.specs.Snapshots.{AreLengths, IsReady, entries_after};
+ghost use Rattle.ft_campaign.specs.Snapshots.{AreLengths, IsReady, LeadsOn};
 
 use ft_isa::{Colour, Instr, NoMemory};
 use ft_machine::Machine;
@@ -19,17 +19,13 @@ fn keep_length(entries: u8, lengths: &mut Vec<u8>) -> Result<(), NoMemory>
 /// The length of the queue after an instruction, if the machine then goes on to the next one; `None` for an instruction
 /// after which it may go elsewhere or stop.
 fn entries_after(instr: Instr, entries: u8) -> Option<u8>
-    ensures { result ≡ entries_after instr entries }
+    ensures { IfSome result (LeadsOn instr entries) }
 {
     match instr {
-        Instr::St {
-            colour: Colour::Green,
-            ..
-        } => Some(entries.wrapping_add(1)),
-        Instr::St {
-            colour: Colour::Blue,
-            ..
-        } => Some(entries.saturating_sub(1)),
+        Instr::St { colour, .. } => Some(match colour {
+            Colour::Green => entries.wrapping_add(1),
+            Colour::Blue => entries.saturating_sub(1),
+        }),
         Instr::JmpB { .. } | Instr::BzB { .. } | Instr::Halt => None,
         _ => Some(entries),
     }
@@ -57,8 +53,7 @@ fn keep_straight<P: Program>(
     let mut entries = entries;
     let mut steps = 0;
     while steps + 2 <= most && i < count {
-        keep_length(entries, lengths)?;
-        keep_length(entries, lengths)?;
+        lengths.extend_from_slice(&[entries, entries])?;
         steps += 2;
         let instr = program.fetch(code, INSTR_BYTES * i as usize);
         let Some(next) = entries_after(instr, entries) else {

@@ -16,9 +16,9 @@ use ft_campaign::{CampaignEnd, Totals, campaign};
 use ft_checker::{CheckError, Checked, check};
 use ft_edge::{NullSink, Sink};
 use ft_encode::encode;
-use ft_isa::{NoMemory, Steps, Strike};
+use ft_isa::{Instr, NoMemory, Steps, Strike};
 use ft_runs::Clean;
-use ft_types::Program;
+use ft_types::{Program, Table};
 use ft_view::View;
 use std::alloc::Global;
 use std::marker::Brand;
@@ -88,6 +88,14 @@ fn show<P: Program, L: Ledger>(alloc: Global, program: &P, blank: Blank) -> Resu
     show_checked(alloc, &checked, &mut steps)
 }
 
+/// Frees many instructions: their block is made small, and then freed. Once glibc frees a large block, it takes others
+/// of up to that size from its heap (`M_MMAP_THRESHOLD` of mallopt(3)), where a table that grows is copied.
+fn shrink_and_free(instrs: Table<Instr>) {
+    let mut values = instrs.into_vec();
+    values.truncate(1);
+    values.shrink_to_fit();
+}
+
 /// The bytes of the object of `turns` turns.
 fn spelled_sample(alloc: Global, turns: u32) -> Result<Vec<u8>, NoMemory>
     requires some { 1 ≤ turns }
@@ -99,6 +107,7 @@ fn spelled_sample(alloc: Global, turns: u32) -> Result<Vec<u8>, NoMemory>
 {
     let object = sample(alloc, turns)?;
     let bytes = encode(alloc, &object)?;
+    shrink_and_free(object.instrs);
     Ok(bytes)
 }
 
