@@ -1,6 +1,8 @@
 -- The iterations of loops, over plain values.
 use Rattle.std.proofs.Common.{◌≡◌, ℕ, suc, ◌+◌, ◌<◌, ◌≤◌, List, [], ◌∷◌, ◌++◌, length, refl, sym, ap, ◌∙◌, subst, arith}
-use Rattle.std.proofs.Common.{map, drop, get_or, Vec, Global, append_assoc}
+use Rattle.std.proofs.Common.{map, drop, get_or, append_assoc}
+use Rattle.std.specs.List.{All}
+use Rattle.std.proofs.lemmas.List.Elements.{All-tail}
 use Rattle.std.proofs.lemmas.List.{append-nil, drop_all, drop_more, length-set}
 use Rattle.std.specs.List.{range_with_len}
 use Rattle.std.proofs.lemmas.List.FromFn.{map-range_with_len_more, length-map-range_with_len}
@@ -14,7 +16,7 @@ use Rattle.ft_dup.specs.Images.{green, blue}
 use Rattle.ft_lower.specs.declared.step3.Step3.{Step3}
 use Rattle.ft_lower.specs.declared.step3.Step3.TheVariants.{Put, Copy, Op, Load, Store, LoadAt, StoreAt, Exit, Go, Stop}
 use Rattle.ft_lower.specs.Flow.{Blocks}
-use Rattle.ft_lower.specs.Size.{row_size, blocks_size}
+use Rattle.ft_lower.specs.Size.{PairsBelow, pairs_of, row_size, blocks_size}
 use Rattle.ft_compile.specs.Emitted.{block_from, blocks_at}
 use Rattle.ft_compile.specs.Noted.{Noted, step_noted, row_noted, begun, scope_of_block, blocks_noted}
 use Rattle.ft_compile.specs.Emitted.{at_first, green_row, blue_row, variable_node}
@@ -138,28 +140,26 @@ row_turn vars scope w v whole is j d few lt e left room =
       subst (λ z. HasRoom z (row_size rest)) (sym e) r,
     )
 
--- the steps of each block
-abbrev pub items_of : List (Vec Step3 Global) → Blocks
-items_of xs = map (λ b. b.items) xs
+-- these blocks are left to note: the first of them has this scope, and after them the notes are complete
+pub record AreLeft (vars scope : ℕ) (w whole : Noted) (bs : Blocks) : Type 0 where
+  pub block : ℕ
+  pub same : blocks_noted vars block w bs ≡ whole
+  pub of : scope ≡ scope_of_block vars block
+  pub pairs : PairsBelow 32 bs
+  pub room : HasRoom w (blocks_size bs)
 
--- an iteration over the blocks keeps the final notes the same and leaves room for the rest
-pub block_turn : (vars scope : ℕ) (w v whole : Noted) (xs : List (Vec Step3 Global)) (j : ℕ) (x : Vec Step3 Global) →
-    vars ≤ 32 → j < length xs → x ≡ get_or xs j x → scope ≡ scope_of_block vars j → v
-    ≡ row_noted vars scope (begun w) x.items → blocks_noted vars j w (items_of (drop j xs)) ≡ whole →
-    HasRoom w (blocks_size (items_of (drop j xs))) → (blocks_noted vars (j + 1) v (items_of (drop (j + 1) xs)) ≡ whole)
-    × (vars ≡ scope_of_block vars (j + 1)) × HasRoom v (blocks_size (items_of (drop (j + 1) xs)))
-block_turn vars scope w v whole xs j x few lt is sc e left room =
-    let rest = drop (j + 1) xs in
-    let f : drop j xs ≡ x ∷ rest = drop_more xs j x lt ∙ ap (λ y. y ∷ rest) (sym is) in
-    let next : suc j ≡ j + 1 = omega arith in
-    let r = room_blocks vars scope w x.items (items_of rest) few
-    (subst (λ l. HasRoom w (blocks_size (items_of l))) f room) in (
-      ap (λ n. blocks_noted vars n v (items_of rest)) (sym next)
-          ∙ ap (λ z. blocks_noted vars (suc j) z (items_of rest)) (e ∙ ap (λ s. row_noted vars s (begun w) x.items) sc)
-          ∙ ap (λ l. blocks_noted vars j w (items_of l)) (sym f) ∙ left,
-      ap (scope_of_block vars) next,
-      subst (λ z. HasRoom z (blocks_size (items_of rest))) (sym e) r,
-    )
+-- an iteration over the blocks notes the first of those that are left
+pub block_turn : (vars scope : ℕ) (w v whole : Noted) (bs : Blocks) (x : List Step3) (xs : Blocks) → vars ≤ 32 → bs
+    ≡ x ∷ xs → v ≡ row_noted vars scope (begun w) x → AreLeft vars scope w whole bs → AreLeft vars vars v whole xs
+block_turn vars scope w v whole bs x xs few f e h = record {
+  block = suc h.block;
+  same = ap (λ z. blocks_noted vars (suc h.block) z xs) (e ∙ ap (λ s. row_noted vars s (begun w) x) h.of)
+      ∙ ap (blocks_noted vars h.block w) (sym f) ∙ h.same;
+  of = refl;
+  pairs = All-tail (All (λ i. All (λ p. p < 32) (pairs_of i))) x xs (subst (PairsBelow 32) f h.pairs);
+  room = subst (λ z. HasRoom z (blocks_size xs)) (sym e)
+      (room_blocks vars scope w x xs few (subst (λ l. HasRoom w (blocks_size l)) f h.room));
+}
 
 -- at the start there is room for all blocks
 pub room_at_first : (w : Noted) (vars : ℕ) (xs : Blocks) → w ≡ at_first vars → vars ≤ 32 → blocks_size xs ≤ 65536 →

@@ -1,7 +1,7 @@
 //! Emits the object of a flow.
 ghost use Rattle.std.specs.Prelude.{◌≡◌, ◌≤◌, length, IfOk};
 ghost use Rattle.ft_scope.specs.ProgramOf.{program_of};
-ghost use Rattle.ft_lower.specs.Flow.{blocks_of};
+ghost use Rattle.ft_lower.specs.Cutting.{blocks_of};
 ghost use Rattle.ft_lower.specs.Size.{PairsBelow, blocks_size};
 ghost use Rattle.ft_dup.specs.Images.{doubled, starts};
 ghost use Rattle.ft_compile.specs.Emitted.{emitted};

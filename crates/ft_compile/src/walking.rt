@@ -1,7 +1,7 @@
 //! Walks along the steps of a flow and notes the nodes and substitutions.
 ghost use Rattle.std.specs.Prelude.{◌≡◌, ◌≤◌, ◌<◌, ◌+◌, ℕ, length, IfOk, OnOk};
 ghost use Rattle.std.specs.List.{All};
-ghost use Rattle.ft_lower.specs.Flow.{blocks_of};
+ghost use Rattle.ft_lower.specs.Cutting.{blocks_of};
 ghost use Rattle.ft_lower.specs.Size.{PairsBelow, blocks_size, pairs_of, row_size, size};
 ghost use Rattle.ft_compile.specs.Emitted.{noted};
 ghost use Rattle.ft_compile.specs.Noted.{row_noted, step_noted, with_address_nodes};
@@ -9,7 +9,7 @@ ghost use Rattle.ft_compile.specs.Viewed.{HasRoom, noted_of};
 
 use crate::notes::Notes;
 use ft_isa::{FIRST_CELL, Op};
-use ft_lower::{Flow, Step3};
+use ft_lower::{Flow, Step3, next_block};
 use ft_static::Shape;
 use std::alloc::{AllocError, Global};
 
@@ -209,10 +209,13 @@ pub fn note_flow(alloc: Global, flow: &Flow, instrs: usize) -> Result<Notes, All
 {
     let mut notes = Notes::new(alloc, flow.vars, instrs)?;
     let mut scope = 0;
-    for block in &flow.blocks {
+    let mut left = flow.steps.as_slice();
+    while !left.is_empty() {
+        let (block, rest) = next_block(left);
         notes.begin();
         note_row(&mut notes, flow.vars, scope, block)?;
         scope = flow.vars;
+        left = rest;
     }
     Ok(notes)
 }

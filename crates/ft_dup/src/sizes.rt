@@ -1,9 +1,10 @@
 //! How many instructions a step becomes, and where blocks begin.
-ghost use Rattle.std.specs.Prelude.{◌≡◌, ◌≤◌, List, map, IfOk};
+ghost use Rattle.std.specs.Prelude.{◌≡◌, ◌≤◌, [], IfOk};
+ghost use Rattle.ft_lower.specs.Cutting.{blocks_onto};
 ghost use Rattle.ft_lower.specs.Size.{blocks_size, row_size, size};
 ghost use Rattle.ft_dup.specs.Images.{starts};
 
-use ft_lower::Step3;
+use ft_lower::{Step3, next_block};
 use std::alloc::{AllocError, Global};
 
 /// How many instructions a step becomes.
@@ -41,17 +42,20 @@ pub(crate) struct Places {
     pub size: u32,
 }
 
-/// Where the blocks' instructions go.
-pub(crate) fn block_places(alloc: Global, blocks: &[Vec<Step3>]) -> Result<Places, AllocError>
-    requires { blocks_size (map (λ b. b.items) blocks.now) ≤ 65536 }
-    ensures starts { IfOk result (λ places. places.starts.items ≡ starts (map (λ b. b.items) blocks.now)) }
-    ensures size { IfOk result (λ places. places.size ≡ blocks_size (map (λ b. b.items) blocks.now)) }
+/// Where the instructions of the blocks go into which a row of steps is cut.
+pub(crate) fn block_places(alloc: Global, steps: &[Step3]) -> Result<Places, AllocError>
+    requires { blocks_size (blocks_onto [] steps.now) ≤ 65536 }
+    ensures starts { IfOk result (λ places. places.starts.items ≡ starts (blocks_onto [] steps.now)) }
+    ensures size { IfOk result (λ places. places.size ≡ blocks_size (blocks_onto [] steps.now)) }
 {
-    let mut starts = Vec::with_capacity(alloc, blocks.len())?;
+    let mut starts = Vec::new(alloc);
     let mut next = 0;
-    for block in blocks {
+    let mut left = steps;
+    while !left.is_empty() {
+        let (block, rest) = next_block(left);
         starts.push(next)?;
         next += block_size(block);
+        left = rest;
     }
     Ok(Places { starts, size: next })
 }

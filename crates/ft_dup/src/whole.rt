@@ -1,11 +1,11 @@
 //! Doubling a whole flow.
-ghost use Rattle.std.specs.Prelude.{◌≡◌, ◌<◌, ◌++◌, length, map, slice_index, IfOk, OnOk};
+ghost use Rattle.std.specs.Prelude.{◌≡◌, ◌<◌, length, slice_index, IfOk};
 ghost use Rattle.std.specs.List.{All};
-ghost use Rattle.ft_lower.specs.Flow.{blocks_of};
-ghost use Rattle.ft_lower.specs.Size.{PairsBelow, blocks_size, pairs_of};
+ghost use Rattle.ft_lower.specs.Cutting.{blocks_of};
+ghost use Rattle.ft_lower.specs.Size.{blocks_size, pairs_of};
 ghost use Rattle.ft_lower.specs.Well.{IsWell};
 ghost use Rattle.ft_dup.specs.Shape.{HasShape, HasTarget};
-ghost use Rattle.ft_dup.specs.Images.{blocks_images, doubled, row_images, starts};
+ghost use Rattle.ft_dup.specs.Images.{doubled, row_images, starts};
 ghost use Rattle.ft_dup.specs.Doubles.{RunsAs};
 
 use crate::doubled::Doubled;
@@ -15,32 +15,20 @@ use ft_isa::{Instr, NoMemory};
 use ft_lower::{Flow, Step3};
 use std::alloc::{AllocError, Global};
 
-/// Appends the instructions of a block's steps.
-fn put_block(code: &mut Vec<Instr>, starts: &[u32], steps: &[Step3]) -> Result<(), AllocError>
-    requires pairs { All (λ i. All (λ p. p < 32) (pairs_of i)) steps.now }
-    requires targets { All (HasTarget (length starts.now)) steps.now }
-    ensures { OnOk result (code.new.items ≡ code.old.items ++ row_images (slice_index starts.now) steps.now) }
-{
-    for step in steps {
-        put_step(code, starts, step)?;
-    }
-    Ok(())
-}
-
-/// The instructions of the steps of all blocks. Room for all of them is reserved at once.
-fn put_blocks(
+/// The instructions of steps. Room for all of them is reserved at once.
+fn put_steps(
     alloc: Global,
     starts: &[u32],
-    blocks: &[Vec<Step3>],
+    steps: &[Step3],
     room: u32,
 ) -> Result<Vec<Instr>, AllocError>
-    requires pairs { PairsBelow 32 (map (λ b. b.items) blocks.now) }
-    requires targets { All (All (HasTarget (length starts.now))) (map (λ b. b.items) blocks.now) }
-    ensures { IfOk result (λ code. code.items ≡ blocks_images (slice_index starts.now) (map (λ b. b.items) blocks.now)) }
+    requires pairs { All (λ i. All (λ p. p < 32) (pairs_of i)) steps.now }
+    requires targets { All (HasTarget (length starts.now)) steps.now }
+    ensures { IfOk result (λ code. code.items ≡ row_images (slice_index starts.now) steps.now) }
 {
     let mut code = Vec::with_capacity(alloc, room as usize)?;
-    for block in blocks {
-        put_block(&mut code, starts, block)?;
+    for step in steps {
+        put_step(&mut code, starts, step)?;
     }
     Ok(code)
 }
@@ -58,8 +46,8 @@ pub fn duplicate(alloc: Global, flow: &Flow) -> Result<Doubled, NoMemory>
     ensures runs { IfOk result (λ d. IsWell flow.now.vars flow.now.cells (blocks_of flow.now) →
         RunsAs flow.now.vars flow.now.cells (blocks_of flow.now)) }
 {
-    let Places { starts, size } = block_places(alloc, &flow.blocks)?;
-    let instrs = put_blocks(alloc, &starts, &flow.blocks, size)?;
+    let Places { starts, size } = block_places(alloc, &flow.steps)?;
+    let instrs = put_steps(alloc, &starts, &flow.steps, size)?;
     Ok(Doubled {
         vars: flow.vars,
         starts,

@@ -1,8 +1,9 @@
 -- A run of bytes of one kind, byte by byte.
 use Rattle.std.proofs.Common.{◌≡◌, ℕ, ◌+◌, ◌-◌, ◌*◌, ◌<◌, ◌≤◌, true, false, List, [], ◌∷◌, ◌++◌, length, get_or, take}
 use Rattle.std.proofs.Common.{drop, refl, sym, ap, ◌∙◌, subst, arith, drop-cons, length-take-le, add-one}
-use Rattle.std.specs.Prelude.{nat_le}
+use Rattle.std.specs.Prelude.{nat_le, ◌&&◌}
 use Rattle.std.proofs.Math.Seq.{take-suc}
+use Rattle.std.proofs.lemmas.Bool.{and_parts}
 use Rattle.ft_lexer.specs.Numeral.{numeral}
 use Rattle.ft_lexer.specs.Bytes.{is_name_byte, is_digit}
 use Rattle.ft_lexer.specs.Ends.{EndsName, EndsNumber}
@@ -42,6 +43,13 @@ pub name_stop : (text : List ℕ) (n : ℕ) → n < length text → is_name_byte
     EndsName (drop n text)
 name_stop text n h is = subst EndsName (sym (next_drop text n h)) is
 
+-- the first n bytes lie within one number
+pub record IsNumberRun (text : List ℕ) (n : ℕ) : Type 0 where
+  pub low : 0 < n
+  pub high : n ≤ length text
+  pub run : (start at : ℕ) → scan_from (number start (take 1 text)) (at + 1) (drop 1 text)
+      ≡ scan_from (number start (take n text)) (at + n) (drop n text)
+
 one_number : (start at : ℕ) (t : List ℕ) (b : ℕ) (bs : List ℕ) → is_digit b ≡ true →
     scan_from (number start t) at (b ∷ bs) ≡ scan_from (number start (t ++ b ∷ [])) (at + 1) bs
 one_number start at t b bs g = rw g refl
@@ -55,6 +63,28 @@ number_step text n start at h is =
     ∙ one_number start (at + n) (take n text) (get_or text n 0) (drop (n + 1) text) is
     ∙ ap (λ v. scan_from (number start v) (at + n + 1) (drop (n + 1) text)) (next_take text n h)
     ∙ ap (λ v. scan_from (number start (take (n + 1) text)) v (drop (n + 1) text)) place
+
+number_next : (text : List ℕ) (n m start at : ℕ) → n + 1 ≡ m → n < length text →
+    is_digit (get_or text n 0) ≡ true → scan_from (number start (take n text)) (at + n) (drop n text)
+    ≡ scan_from (number start (take m text)) (at + m) (drop m text)
+number_next text n m start at next h is =
+    subst (λ k. scan_from (number start (take n text)) (at + n) (drop n text)
+    ≡ scan_from (number start (take k text)) (at + k) (drop k text)) next (number_step text n start at h is)
+
+-- a number continues with the next four bytes if all four are digits
+pub number_four : (text : List ℕ) (n start at : ℕ) → n + 4 ≤ length text →
+    (is_digit (get_or text n 0) && (is_digit (get_or text (n + 1) 0) && (is_digit (get_or text (n + 2) 0)
+    && is_digit (get_or text (n + 3) 0)))) ≡ true →
+    scan_from (number start (take n text)) (at + n) (drop n text)
+    ≡ scan_from (number start (take (n + 4) text)) (at + (n + 4)) (drop (n + 4) text)
+number_four text n start at h are =
+    let a = and_parts _ _ are in
+    let b = and_parts _ _ a.1 in
+    let c = and_parts _ _ b.1 in
+    number_next text n (n + 1) start at refl (omega (arith, h)) a.0
+    ∙ number_next text (n + 1) (n + 2) start at (omega arith) (omega (arith, h)) b.0
+    ∙ number_next text (n + 2) (n + 3) start at (omega arith) (omega (arith, h)) c.0
+    ∙ number_next text (n + 3) (n + 4) start at (omega arith) (omega (arith, h)) c.1
 
 pub number_stop : (text : List ℕ) (n : ℕ) → n < length text → is_digit (get_or text n 0) ≡ false →
     EndsNumber (drop n text)

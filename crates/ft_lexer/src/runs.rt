@@ -1,5 +1,6 @@
 //! Runs of bytes at the front of a text: names and numbers.
-ghost use Rattle.std.specs.Prelude.{◌≡◌, ℕ, ◌+◌, ◌^◌, ◌<◌, ◌≤◌, length, nat_lt, take, drop, IfNone, IfSome};
+ghost use Rattle.std.specs.Prelude.{◌≡◌, ◌&&◌, ℕ, ◌+◌, ◌^◌, ◌<◌, ◌≤◌, length, nat_lt, take, drop, IfNone, IfSome};
+ghost use Rattle.ft_lexer.specs.Bytes.{is_digit};
 ghost use Rattle.ft_lexer.specs.Numeral.{numeral};
 ghost use Rattle.ft_lexer.specs.Scan.{scan_from, name, number, wrong};
 ghost use Rattle.ft_lexer.specs.Ends.{EndsName, EndsNumber};
@@ -31,8 +32,15 @@ pub fn name_len(text: &[u8]) -> Option<usize>
     Some(n)
 }
 
-/// How many bytes at the front are digits.
-#[tactic(auto, using(crate::proofs::ByteRuns::number_step, crate::proofs::ByteRuns::number_stop))]
+/// Whether all four bytes are digits.
+fn are_digits(a: u8, b: u8, c: u8, d: u8) -> bool
+    ensures { result ≡ (is_digit a && (is_digit b && (is_digit c && is_digit d))) }
+{
+    is_digit(a) & (is_digit(b) & (is_digit(c) & is_digit(d)))
+}
+
+/// How many bytes at the front are digits. They are read four at a time, since a number may have a million.
+#[tactic(auto, using(crate::proofs::ByteRuns::number_four, crate::proofs::ByteRuns::number_step, crate::proofs::ByteRuns::number_stop))]
 pub fn number_len(text: &[u8]) -> usize
     requires { 0 < length text.now }
     ensures low { 0 < result }
@@ -41,6 +49,9 @@ pub fn number_len(text: &[u8]) -> usize
     ensures stops { EndsNumber (drop result text.now) }
 {
     let mut n = 1;
+    while n + 4 <= text.len() && are_digits(text[n], text[n + 1], text[n + 2], text[n + 3]) {
+        n += 4;
+    }
     while n < text.len() && is_digit(text[n]) {
         n += 1;
     }
@@ -54,12 +65,13 @@ pub fn fits(text: &[u8]) -> bool
 {
     let mut n: u64 = 0;
     for d in text {
-        let digit = u64::from(d.saturating_sub(b'0'));
-        let more = u128::from(n) * 10 + u128::from(digit);
-        if more >= 0x1_0000_0000_0000_0000 {
+        let Some(tens) = n.checked_mul(10) else {
             return false;
-        }
-        n = more as u64;
+        };
+        let Some(more) = tens.checked_add(u64::from(d.saturating_sub(b'0'))) else {
+            return false;
+        };
+        n = more;
     }
     true
 }

@@ -6,6 +6,7 @@ pub mod Statements
 pub mod Whole
 pub mod Forms
 pub mod Counts
+pub mod Cuts
 pub mod Sizes
 pub mod Pairs
 pub mod WellFormed

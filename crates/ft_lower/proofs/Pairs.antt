@@ -14,7 +14,8 @@ use Rattle.ft_lower.specs.Flow.{Blocks}
 use Rattle.ft_lower.specs.Size.{pairs_of, PairsBelow}
 use Rattle.ft_lower.specs.Well.{is_last}
 use Rattle.ft_lower.specs.Lowered.{expression_steps, write, block_count, statement_steps, zeros, program_steps}
-use Rattle.ft_lower.specs.Lowered.{blocks_onto, lowered}
+use Rattle.ft_lower.specs.Lowered.{lowered}
+use Rattle.ft_lower.specs.Cutting.{blocks_onto}
 
 -- an expression needs at least one pair
 pub need_some : (e : Expression Slot) → 0 < need e

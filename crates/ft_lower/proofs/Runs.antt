@@ -1,5 +1,5 @@
 -- Runs of a flow, and where the steps of a row are in its blocks.
-use Rattle.std.proofs.Common.{◌≡◌, ℕ, zero, suc, ◌+◌, ◌-◌, ◌<◌, ◌≤◌, Bool, true, false, cond, List, [], ◌∷◌, ◌++◌}
+use Rattle.std.proofs.Common.{◌≡◌, ℕ, zero, suc, ◌+◌, ◌<◌, ◌≤◌, Bool, true, false, cond, List, [], ◌∷◌, ◌++◌}
 use Rattle.std.proofs.Common.{length, Option, Some, None, refl, sym, ap, ◌∙◌, subst, arith, append_assoc, length-append}
 use Rattle.std.proofs.Common.{slice_get}
 use Rattle.std.proofs.Math.Seq.{get_or-append_seam}
@@ -17,7 +17,7 @@ use Rattle.ft_lower.specs.declared.step3.Step3.TheVariants.{Put, Copy, Op, Load,
 use Rattle.ft_lower.specs.Flow.{Blocks, Place, FlowState, on, first, goes_on, goes_to, with_pair, act, step_at, act_if}
 use Rattle.ft_lower.specs.Flow.{flow_step, steps}
 use Rattle.ft_lower.specs.Well.{is_last}
-use Rattle.ft_lower.specs.Lowered.{blocks_onto}
+use Rattle.ft_lower.specs.Cutting.{blocks_onto}
 
 -- RUNS
 

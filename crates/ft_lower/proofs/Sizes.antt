@@ -14,7 +14,8 @@ use Rattle.ft_lower.specs.Flow.{Blocks}
 use Rattle.ft_lower.specs.Size.{size, row_size, blocks_size}
 use Rattle.ft_lower.specs.Well.{is_last}
 use Rattle.ft_lower.specs.Lowered.{read, expression_steps, write, block_count, statement_steps, zeros, program_steps}
-use Rattle.ft_lower.specs.Lowered.{blocks_onto, lowered}
+use Rattle.ft_lower.specs.Lowered.{lowered}
+use Rattle.ft_lower.specs.Cutting.{blocks_onto}
 
 -- two rows become as many instructions together as separately
 pub row_size-append : (a b : List Step3) → row_size (a ++ b) ≡ row_size a + row_size b
@@ -115,7 +116,7 @@ zeros_size zero = refl
 zeros_size (suc k) = row_size-append (zeros k) (Put k 0 ∷ []) ∙ omega (arith, zeros_size k)
 
 -- cutting into blocks adds no instruction
-size_onto : (o is : List Step3) → blocks_size (blocks_onto o is) ≡ row_size o + row_size is
+pub size_onto : (o is : List Step3) → blocks_size (blocks_onto o is) ≡ row_size o + row_size is
 size_onto [] [] = omega arith
 size_onto (x ∷ o) [] = omega arith
 size_onto o (i ∷ is) = by (is_last i) (size_onto [] is) (size_onto (o ++ i ∷ []) is)

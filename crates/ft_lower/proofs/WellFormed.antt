@@ -14,7 +14,8 @@ use Rattle.ft_lower.specs.Flow.{Blocks, Place, on, first, block_of}
 use Rattle.ft_lower.specs.Well.{is_last, IsBlock, IsTarget, StepFits, Known, no_pair, pairs_below, learn, forget}
 use Rattle.ft_lower.specs.Well.{known_after, KeepsVariables, ReadsKnown, RowIsWell, known_first, row_known, IsWell}
 use Rattle.ft_lower.specs.Lowered.{expression_steps, write, block_count, statement_steps, zeros, program_steps}
-use Rattle.ft_lower.specs.Lowered.{blocks_onto, lowered}
+use Rattle.ft_lower.specs.Lowered.{lowered}
+use Rattle.ft_lower.specs.Cutting.{blocks_onto}
 use Rattle.ft_lower.proofs.Runs.{next, after}
 use Rattle.ft_lower.proofs.EndBlocks.{zeros_block, statements_block, block_append}
 use Rattle.ft_lower.proofs.Sizes.{lowered_size}

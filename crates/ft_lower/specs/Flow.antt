@@ -1,20 +1,15 @@
 -- A machine of three-address steps in blocks, and its runs.
-use Rattle.std.specs.Prelude.{ℕ, zero, suc, Bool, true, false, cond, List, [], ◌∷◌, ◌++◌, ◌==◌, map, Option, Some, None, slice_index, slice_set, slice_get}
+use Rattle.std.specs.Prelude.{ℕ, zero, suc, Bool, true, false, cond, List, [], ◌∷◌, ◌++◌, ◌==◌, Option, Some, None, slice_index, slice_set, slice_get}
 use Rattle.std.specs.Option.{unwrap_or}
 use Rattle.ft_isa.specs.Words.{apply, cell_address}
 use Rattle.ft_isa.specs.declared.output.Output.{Output}
 use Rattle.ft_meaning.specs.Meaning.{at_zero, cell_of_run}
 use Rattle.ft_lower.specs.declared.step3.Step3.{Step3}
 use Rattle.ft_lower.specs.declared.step3.Step3.TheVariants.{Put, Copy, Op, Load, Store, LoadAt, StoreAt, Exit, Go, Stop}
-use Rattle.ft_lower.specs.declared.flow.Flow.{Flow}
 
 -- the steps of each block
 abbrev pub Blocks : Type 0
 Blocks = List (List Step3)
-
--- the blocks of a flow
-abbrev pub blocks_of : Flow → Blocks
-blocks_of f = map (λ b. b.items) f.blocks.items
 
 -- a block, and an index into it
 pub record Place : Type 0 where

@@ -1,5 +1,5 @@
--- The steps of a program in one row, and the blocks into which they are cut.
-use Rattle.std.specs.Prelude.{◌≡◌, ℕ, zero, suc, ◌+◌, true, false, List, [], ◌∷◌, ◌++◌}
+-- The steps of a program in one row.
+use Rattle.std.specs.Prelude.{◌≡◌, ℕ, zero, suc, ◌+◌, List, [], ◌∷◌, ◌++◌}
 use Rattle.ft_syntax.specs.Plain.{Expression, literal, name, indexed, operation, StatementList, none, assign, assign_at, loop, choose}
 use Rattle.ft_scope.specs.declared.slot.Slot.{Slot}
 use Rattle.ft_scope.specs.declared.slot.Slot.TheVariants.{Cell, Var, Run}
@@ -7,7 +7,7 @@ use Rattle.ft_scope.specs.Resolved.{Program}
 use Rattle.ft_lower.specs.declared.step3.Step3.{Step3}
 use Rattle.ft_lower.specs.declared.step3.Step3.TheVariants.{Put, Copy, Op, Load, Store, LoadAt, StoreAt, Exit, Go, Stop}
 use Rattle.ft_lower.specs.Flow.{Blocks}
-use Rattle.ft_lower.specs.Well.{is_last}
+use Rattle.ft_lower.specs.Cutting.{blocks_onto}
 
 -- the step that reads a cell or a variable into pair t; for an array, it reads the cell that the word of this pair
 -- selects
@@ -81,13 +81,6 @@ zeros (suc k) = zeros k ++ Put k 0 ∷ []
 -- the steps of a program
 abbrev pub program_steps : Program → List Step3
 program_steps p = zeros p.vars ++ (statement_steps p.vars 0 p.body ++ Stop ∷ [])
-
--- the blocks into which a row of steps is cut, if these steps of an open block come first
-abbrev pub blocks_onto : List Step3 → List Step3 → Blocks
-blocks_onto [] [] = []
-blocks_onto (i ∷ open_block) [] = (i ∷ open_block) ∷ []
-blocks_onto open_block (i ∷ is) =
-    elim (is_last i) as (λ b. Blocks) [ true ↦ (open_block ++ i ∷ []) ∷ blocks_onto [] is | false ↦ blocks_onto (open_block ++ i ∷ []) is ]
 
 -- the blocks of a program
 abbrev pub lowered : Program → Blocks

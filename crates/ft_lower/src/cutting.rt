@@ -1,10 +1,9 @@
-//! A row of steps, cut into blocks.
-ghost use Rattle.std.specs.Prelude.{◌≡◌, map, [], IfOk};
+//! Rows of steps, cut into blocks.
+ghost use Rattle.std.specs.Prelude.{◌≡◌, ◌<◌, ◌∷◌, [], length};
 ghost use Rattle.ft_lower.specs.Well.{is_last};
-ghost use Rattle.ft_lower.specs.Lowered.{blocks_onto};
+ghost use Rattle.ft_lower.specs.Cutting.{blocks_onto};
 
 use crate::step3::Step3;
-use std::alloc::{AllocError, Global};
 
 /// Whether a step ends its block.
 fn ends_block(step: &Step3) -> bool
@@ -13,21 +12,16 @@ fn ends_block(step: &Step3) -> bool
     matches!(step, Step3::Go { .. } | Step3::Stop)
 }
 
-/// The blocks into which a row of steps is cut. Each block that a step ends takes no more memory than its steps.
-pub fn cut(alloc: Global, steps: &[Step3]) -> Result<Vec<Vec<Step3>>, AllocError>
-    ensures { IfOk result (λ blocks. map (λ b. b.items) blocks.items ≡ blocks_onto [] steps.now) }
+/// The first block of a row of steps, and the steps that follow it.
+#[tactic(auto, using(crate::proofs::Cuts::cut_on, crate::proofs::Cuts::cut_here, crate::proofs::Cuts::cut_end))]
+pub fn next_block(steps: &[Step3]) -> (&[Step3], &[Step3])
+    requires { 0 < length steps.now }
+    ensures blocks { blocks_onto [] steps.now ≡ result.0.now ∷ blocks_onto [] result.1.now }
+    ensures shorter { length result.1.now < length steps.now }
 {
-    let mut blocks: Vec<Vec<Step3>> = Vec::new(alloc);
-    let mut open_block: Vec<Step3> = Vec::new(alloc);
-    for step in steps {
-        open_block.push(*step)?;
-        if ends_block(step) {
-            blocks.push(Vec::from_slice(alloc, &open_block)?)?;
-            open_block.clear();
-        }
+    let mut last = 0;
+    while last + 1 < steps.len() && !ends_block(&steps[last]) {
+        last += 1;
     }
-    if !open_block.is_empty() {
-        blocks.push(open_block)?;
-    }
-    Ok(blocks)
+    steps.split_at(last + 1)
 }

@@ -2,12 +2,11 @@
 ghost use Rattle.std.specs.Prelude.{◌≡◌, ◌<◌, ◌≤◌, length, IfOk};
 ghost use Rattle.ft_scope.specs.Resolved.{program_need, program_weight};
 ghost use Rattle.ft_scope.specs.ProgramOf.{program_of};
-ghost use Rattle.ft_lower.specs.Flow.{blocks_of};
+ghost use Rattle.ft_lower.specs.Cutting.{blocks_of};
 ghost use Rattle.ft_lower.specs.Size.{PairsBelow, blocks_size};
 ghost use Rattle.ft_lower.specs.Well.{IsWell};
 ghost use Rattle.ft_lower.specs.Lowers.{Lowers};
 
-use crate::cutting::cut;
 use crate::emission::emit_program;
 use crate::flow::Flow;
 use ft_isa::NoMemory;
@@ -29,10 +28,9 @@ pub fn lower(alloc: Global, prog: &Prog<'_>) -> Result<Flow, NoMemory>
     ensures runs { IfOk result (λ f. Lowers (program_of prog.now) (blocks_of f)) }
 {
     let steps = emit_program(alloc, prog)?;
-    let blocks = cut(alloc, &steps)?;
     Ok(Flow {
         vars: prog.vars,
         cells: prog.inits.len() as u32,
-        blocks,
+        steps,
     })
 }

@@ -47,13 +47,13 @@ fn cell_at(array: Slot, word: u64, cells: usize) -> usize
 /// need not save processor registers.
 #[inline(never)]
 #[cycle(word)]
-fn indexed_word(array: Slot, index: &Expr<Slot>, vars: &[u64], cells: &[u64]) -> u64
-    requires array { RunFits (length cells.now) array }
+fn indexed_word(array: &Slot, index: &Expr<Slot>, vars: &[u64], cells: &[u64]) -> u64
+    requires array { RunFits (length cells.now) array.now }
     requires index { ExpressionFits (length cells.now) (length vars.now) (plain_expression same_slot index.now) }
-    ensures { result ≡ slice_index cells.now (indexed_cell array (value (plain_expression same_slot index.now) vars.now cells.now)) }
+    ensures { result ≡ slice_index cells.now (indexed_cell array.now (value (plain_expression same_slot index.now) vars.now cells.now)) }
 {
     let word = word_of(index, vars, cells);
-    cells[cell_at(array, word, cells.len())]
+    cells[cell_at(*array, word, cells.len())]
 }
 
 /// The word of an operation on two expressions. This is a separate function for the same reason as `indexed_word`.
@@ -80,7 +80,7 @@ fn word_of(e: &Expr<Slot>, vars: &[u64], cells: &[u64]) -> u64
         Expr::Name(Slot::Var(x)) => vars[usize::from(*x)],
         Expr::Name(Slot::Cell(k)) => cells[*k as usize],
         Expr::Name(Slot::Run { .. }) => 0,
-        Expr::At { name, index } => indexed_word(*name, index, vars, cells),
+        Expr::At { name, index } => indexed_word(name, index, vars, cells),
         Expr::Op { op, a, b } => operation_word(*op, a, b, vars, cells),
     }
 }

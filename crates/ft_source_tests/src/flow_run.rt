@@ -1,6 +1,6 @@
 //! A plain interpreter of flows.
 use ft_isa::apply;
-use ft_lower::{Flow, Step3};
+use ft_lower::{Flow, Step3, next_block};
 use std::test::Fail;
 
 /// The state of a run: the words of the pairs and the cells, the block and the place of the next step, the outputs so
@@ -37,6 +37,21 @@ fn cell_of_run(first: u32, length: u32, word: u64) -> u32 {
     }
     let place = word % u64::from(length);
     first.wrapping_add(u32::try_from(place).unwrap_or(u32::MAX))
+}
+
+/// The steps of a block; none if there is no such block.
+fn block_of(flow: &Flow, block: usize) -> &[Step3] {
+    let mut left = flow.steps.as_slice();
+    for _ in 0..block {
+        if left.is_empty() {
+            return left;
+        }
+        left = next_block(left).1;
+    }
+    if left.is_empty() {
+        return left;
+    }
+    next_block(left).0
 }
 
 impl FlowRun {
@@ -133,10 +148,7 @@ impl FlowRun {
             if self.done {
                 return Ok(());
             }
-            let Some(block) = flow.blocks.get(self.block) else {
-                return Ok(());
-            };
-            let Some(step) = block.get(self.index) else {
+            let Some(step) = block_of(flow, self.block).get(self.index) else {
                 return Ok(());
             };
             self.act(*step)?;

@@ -1,5 +1,5 @@
 use Rattle.std.proofs.Common.{ℕ, ◌<◌, ◌≤◌, arith}
-use Rattle.ft_lower.specs.Flow.{blocks_of}
+use Rattle.ft_lower.specs.Cutting.{blocks_of}
 use Rattle.ft_scope.specs.ProgramOf.{program_of}
 use Rattle.ft_dup.proofs.WellFormedBlocks.{shape_of_well}
 use Rattle.ft_compile.proofs.BlockWalks.{module_of_flow}

@@ -1,12 +1,14 @@
-use Rattle.std.proofs.Common.{◌≡◌, ◌+◌, ◌++◌, drop, map}
+use Rattle.std.proofs.Common.{◌≡◌, ◌+◌, ◌++◌, [], length}
+use Rattle.ft_lower.specs.Cutting.{blocks_onto}
 use Rattle.ft_lower.specs.Size.{blocks_size}
 use Rattle.ft_dup.specs.Images.{starts, starts_from}
 use Rattle.ft_dup.proofs.sizes.block_places.Given as goal
 
-abbrev pub invariant-loop-block : goal.invariant-loop-block
-invariant-loop-block l = record {
-  room : l.next + blocks_size (map (λ b. b.items) (drop l.block-index l.blocks))
-      ≡ blocks_size (map (λ b. b.items) l.blocks);
-  left : l.starts.items ++ starts_from l.next (map (λ b. b.items) (drop l.block-index l.blocks))
-      ≡ starts (map (λ b. b.items) l.blocks);
+abbrev pub invariant-loop-left : goal.invariant-loop-left
+invariant-loop-left l = record {
+  room : l.next + blocks_size (blocks_onto [] l.left) ≡ blocks_size (blocks_onto [] l.steps);
+  left : l.starts.items ++ starts_from l.next (blocks_onto [] l.left) ≡ starts (blocks_onto [] l.steps);
 }
+
+abbrev pub decreases-loop-left : goal.decreases-loop-left
+decreases-loop-left l = length l.left
