@@ -1,10 +1,9 @@
 -- The iterations of loops, over plain values.
 use Rattle.std.proofs.Common.{◌≡◌, ℕ, suc, ◌+◌, ◌<◌, ◌≤◌, List, [], ◌∷◌, ◌++◌, length, refl, sym, ap, ◌∙◌, subst, arith}
 use Rattle.std.proofs.Common.{map, drop, get_or, append_assoc}
-use Rattle.std.specs.List.{All}
+use Rattle.std.specs.List.{All, range_with_len}
 use Rattle.std.proofs.lemmas.List.Elements.{All-tail}
 use Rattle.std.proofs.lemmas.List.{append-nil, drop_all, drop_more, length-set}
-use Rattle.std.specs.List.{range_with_len}
 use Rattle.std.proofs.lemmas.List.FromFn.{map-range_with_len_more, length-map-range_with_len}
 use Rattle.ft_isa.specs.declared.colour.Colour.TheVariants.{Green, Blue}
 use Rattle.ft_isa.specs.declared.reg.Reg.{Reg}
@@ -144,7 +143,7 @@ row_turn vars scope w v whole is j d few lt e left room =
 pub record AreLeft (vars scope : ℕ) (w whole : Noted) (bs : Blocks) : Type 0 where
   pub block : ℕ
   pub same : blocks_noted vars block w bs ≡ whole
-  pub of : scope ≡ scope_of_block vars block
+  pub scoped : scope ≡ scope_of_block vars block
   pub pairs : PairsBelow 32 bs
   pub room : HasRoom w (blocks_size bs)
 
@@ -153,9 +152,9 @@ pub block_turn : (vars scope : ℕ) (w v whole : Noted) (bs : Blocks) (x : List 
     ≡ x ∷ xs → v ≡ row_noted vars scope (begun w) x → AreLeft vars scope w whole bs → AreLeft vars vars v whole xs
 block_turn vars scope w v whole bs x xs few f e h = record {
   block = suc h.block;
-  same = ap (λ z. blocks_noted vars (suc h.block) z xs) (e ∙ ap (λ s. row_noted vars s (begun w) x) h.of)
+  same = ap (λ z. blocks_noted vars (suc h.block) z xs) (e ∙ ap (λ s. row_noted vars s (begun w) x) h.scoped)
       ∙ ap (blocks_noted vars h.block w) (sym f) ∙ h.same;
-  of = refl;
+  scoped = refl;
   pairs = All-tail (All (λ i. All (λ p. p < 32) (pairs_of i))) x xs (subst (PairsBelow 32) f h.pairs);
   room = subst (λ z. HasRoom z (blocks_size xs)) (sym e)
       (room_blocks vars scope w x xs few (subst (λ l. HasRoom w (blocks_size l)) f h.room));

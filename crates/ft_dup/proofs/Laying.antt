@@ -1,18 +1,18 @@
 -- Where the instructions of a step are.
-use Rattle.std.proofs.Common.{◌≡◌, ℕ, zero, suc, ◌+◌, ◌<◌, ◌≤◌, Bool, true, false, List, [], ◌∷◌, ◌++◌, length, map}
+use Rattle.std.proofs.Common.{◌≡◌, ℕ, zero, suc, ◌+◌, ◌<◌, ◌≤◌, List, [], ◌∷◌, ◌++◌, length, map}
 use Rattle.std.proofs.Common.{Some, refl, sym, ap}
 use Rattle.std.proofs.Common.{◌∙◌, subst, arith, append_assoc, length-append}
+use Rattle.std.specs.List.{flat_map}
 use Rattle.std.proofs.Math.Seq.{get_or-append_seam}
 use Rattle.std.proofs.lemmas.Option.{slice_get-get_or}
-use Rattle.std.proofs.lemmas.List.{append-nil, length-map}
+use Rattle.std.proofs.lemmas.List.{length-map}
 use Rattle.ft_isa.specs.declared.instr.Instr.{Instr}
 use Rattle.ft_lower.specs.declared.step3.Step3.{Step3}
 use Rattle.ft_lower.specs.declared.step3.Step3.TheVariants.{Put, Copy, Op, Load, Store, LoadAt, StoreAt, Exit, Go, Stop}
 use Rattle.ft_lower.specs.Flow.{Blocks, block_of}
 use Rattle.ft_lower.specs.Size.{size, row_size, blocks_size}
-use Rattle.ft_lower.specs.Well.{is_last}
 use Rattle.ft_lower.specs.Cutting.{blocks_onto}
-use Rattle.ft_lower.proofs.Cuts.{after_step}
+use Rattle.ft_lower.proofs.Cuts.{steps_onto}
 use Rattle.ft_dup.specs.Images.{image, row_images, blocks_images, start_of, doubled}
 use Rattle.ft_dup.specs.Doubles.{bare}
 use Rattle.ft_dup.proofs.FlowSteps.{HasInstrs}
@@ -24,24 +24,15 @@ row_images-append start [] b = refl
 row_images-append start (i ∷ a) b = ap (λ l. image start i ++ l) (row_images-append start a b)
     ∙ sym (append_assoc (image start i) (row_images start a) (row_images start b))
 
--- cutting into blocks changes no image
-pub images_onto : (start : ℕ → ℕ) (o is : List Step3) → blocks_images start (blocks_onto o is) ≡ row_images start o
-    ++ row_images start is
-images_onto start [] [] = refl
-images_onto start (x ∷ o) [] = refl
-images_onto start o (i ∷ is) = by (is_last i) (images_onto start [] is) (images_onto start (o ++ i ∷ []) is)
-  where
-    moved : row_images start (o ++ i ∷ []) ++ row_images start is ≡ row_images start o
-        ++ (image start i ++ row_images start is)
-    moved = ap (λ l. l ++ row_images start is) (row_images-append start o (i ∷ []))
-        ∙ append_assoc (row_images start o) (image start i ++ []) (row_images start is)
-        ∙ ap (λ l. row_images start o ++ (l ++ row_images start is)) (append-nil (image start i))
+-- the images of blocks are those of their steps in sequence
+images_of_blocks : (start : ℕ → ℕ) (bs : Blocks) → blocks_images start bs ≡ row_images start (flat_map (λ b. b) bs)
+images_of_blocks start [] = refl
+images_of_blocks start (b ∷ bs) = ap (λ l. row_images start b ++ l) (images_of_blocks start bs)
+    ∙ sym (row_images-append start b (flat_map (λ b. b) bs))
 
-    by : (b : Bool) → blocks_images start (blocks_onto [] is) ≡ row_images start is →
-        blocks_images start (blocks_onto (o ++ i ∷ []) is) ≡ row_images start (o ++ i ∷ []) ++ row_images start is →
-        blocks_images start (after_step o i is b) ≡ row_images start o ++ (image start i ++ row_images start is)
-    by true p q = ap (λ l. row_images start (o ++ i ∷ []) ++ l) p ∙ moved
-    by false p q = q ∙ moved
+-- cutting into blocks changes no image
+pub images_onto : (start : ℕ → ℕ) (is : List Step3) → blocks_images start (blocks_onto [] is) ≡ row_images start is
+images_onto start is = images_of_blocks start (blocks_onto [] is) ∙ ap (row_images start) (steps_onto [] is)
 
 -- HOW MANY INSTRUCTIONS
 

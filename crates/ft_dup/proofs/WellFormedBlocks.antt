@@ -1,10 +1,8 @@
 -- Where blocks begin, and the shape of well-formed blocks.
-use Rattle.std.proofs.Common.{◌≡◌, ℕ, zero, suc, ◌+◌, ◌<◌, List, [], ◌∷◌, ◌++◌, map, length, slice_index, get_or, refl}
+use Rattle.std.proofs.Common.{◌≡◌, ℕ, zero, suc, ◌+◌, ◌<◌, List, [], ◌∷◌, ◌++◌, length, slice_index, get_or, refl}
 use Rattle.std.proofs.Common.{sym, ap, ◌∙◌, subst, arith}
 use Rattle.std.specs.List.{All}
-use Rattle.std.proofs.Math.ListN.{get_or-map}
 use Rattle.std.proofs.lemmas.List.Elements.{All-head, All-tail, All-cons, All-nil, All-from_get_or}
-use Rattle.std.proofs.lemmas.List.{length-map}
 use Rattle.ft_lower.specs.declared.step3.Step3.{Step3}
 use Rattle.ft_lower.specs.declared.step3.Step3.TheVariants.{Put, Copy, Op, Load, Store, LoadAt, StoreAt, Exit, Go, Stop}
 use Rattle.ft_lower.specs.Flow.{Blocks, block_of}
@@ -12,13 +10,6 @@ use Rattle.ft_lower.specs.Size.{row_size}
 use Rattle.ft_lower.specs.Well.{Known, StepFits, RowIsWell, known_after, known_first, IsWell}
 use Rattle.ft_dup.specs.Shape.{HasTarget, HasShape}
 use Rattle.ft_dup.specs.Images.{image, row_images, blocks_images, starts, starts_from, start_of, doubled}
-
--- what holds of the images of all elements holds of the image of each
-pub all_mapped : {X Y : Type 0} (f : X → Y) (P : Y → Type 0) (xs : List X) (i : ℕ) (x : X) → i < length xs → x
-    ≡ get_or xs i x → All P (map f xs) → P (f x)
-all_mapped f P xs i x h e all =
-    let there : i < length (map f xs) = omega (arith, length-map xs f) in
-    subst P (get_or-map f xs i x ∙ ap f (sym e)) (all i (f x) there)
 
 -- THE STARTS
 

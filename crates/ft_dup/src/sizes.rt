@@ -42,7 +42,7 @@ pub(crate) struct Places {
     pub size: u32,
 }
 
-/// Where the instructions of the blocks go into which a row of steps is cut.
+/// The places of the blocks into which a row of steps is cut.
 pub(crate) fn block_places(alloc: Global, steps: &[Step3]) -> Result<Places, AllocError>
     requires { blocks_size (blocks_onto [] steps.now) ≤ 65536 }
     ensures starts { IfOk result (λ places. places.starts.items ≡ starts (blocks_onto [] steps.now)) }

@@ -15,7 +15,7 @@ use ft_isa::{Instr, NoMemory};
 use ft_lower::{Flow, Step3};
 use std::alloc::{AllocError, Global};
 
-/// The instructions of steps. Room for all of them is reserved at once.
+/// The instructions of steps, with memory for `room` instructions reserved at once.
 fn put_steps(
     alloc: Global,
     starts: &[u32],
@@ -34,9 +34,8 @@ fn put_steps(
 }
 
 /// Doubles a flow: the instructions of its steps, each in green and in blue, block by block. The flow must have this
-/// shape: it has only pairs below 32, each jump goes to an existing block other than the entry, the last step of each
-/// block ends it and no other step does, and there are at most 65,536 instructions in all. The only error is
-/// `NoMemory`.
+/// shape: it has only pairs below 32, each jump goes to an existing block other than the entry, its last step ends a
+/// block, and there are at most 65,536 instructions in all. The only error is `NoMemory`.
 pub fn duplicate(alloc: Global, flow: &Flow) -> Result<Doubled, NoMemory>
     requires { HasShape (blocks_of flow.now) }
     ensures vars { IfOk result (λ d. d.vars ≡ flow.now.vars) }

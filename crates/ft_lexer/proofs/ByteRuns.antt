@@ -64,6 +64,7 @@ number_step text n start at h is =
     ∙ ap (λ v. scan_from (number start v) (at + n + 1) (drop (n + 1) text)) (next_take text n h)
     ∙ ap (λ v. scan_from (number start (take (n + 1) text)) v (drop (n + 1) text)) place
 
+-- the same with a given name for the next place
 number_next : (text : List ℕ) (n m start at : ℕ) → n + 1 ≡ m → n < length text →
     is_digit (get_or text n 0) ≡ true → scan_from (number start (take n text)) (at + n) (drop n text)
     ≡ scan_from (number start (take m text)) (at + m) (drop m text)

@@ -32,14 +32,14 @@ pub fn name_len(text: &[u8]) -> Option<usize>
     Some(n)
 }
 
-/// Whether all four bytes are digits.
+/// Whether all four bytes are digits: with `&`, there is no branch for each byte.
 fn are_digits(a: u8, b: u8, c: u8, d: u8) -> bool
     ensures { result ≡ (is_digit a && (is_digit b && (is_digit c && is_digit d))) }
 {
     is_digit(a) & (is_digit(b) & (is_digit(c) & is_digit(d)))
 }
 
-/// How many bytes at the front are digits. They are read four at a time, since a number may have a million.
+/// The length of the number at the front. Its bytes are read four at a time, since there may be a million.
 #[tactic(auto, using(crate::proofs::ByteRuns::number_four, crate::proofs::ByteRuns::number_step, crate::proofs::ByteRuns::number_stop))]
 pub fn number_len(text: &[u8]) -> usize
     requires { 0 < length text.now }

@@ -1,6 +1,6 @@
 -- How many instructions the steps of a program become.
-use Rattle.std.proofs.Common.{◌≡◌, ℕ, zero, suc, ◌+◌, ◌*◌, ◌≤◌, Bool, true, false, List, [], ◌∷◌, ◌++◌, refl, ◌∙◌}
-use Rattle.std.proofs.Common.{arith}
+use Rattle.std.proofs.Common.{◌≡◌, ℕ, zero, suc, ◌+◌, ◌*◌, ◌≤◌, List, [], ◌∷◌, ◌++◌, refl, ap, ◌∙◌, arith}
+use Rattle.std.specs.List.{flat_map}
 use Rattle.ft_syntax.specs.Plain.{Expression, literal, name, indexed, operation, StatementList, none, assign, assign_at}
 use Rattle.ft_syntax.specs.Plain.{loop, choose}
 use Rattle.ft_scope.specs.declared.slot.Slot.{Slot}
@@ -12,10 +12,10 @@ use Rattle.ft_lower.specs.declared.step3.Step3.{Step3}
 use Rattle.ft_lower.specs.declared.step3.Step3.TheVariants.{Put, Op, Exit, Go, Stop}
 use Rattle.ft_lower.specs.Flow.{Blocks}
 use Rattle.ft_lower.specs.Size.{size, row_size, blocks_size}
-use Rattle.ft_lower.specs.Well.{is_last}
 use Rattle.ft_lower.specs.Lowered.{read, expression_steps, write, block_count, statement_steps, zeros, program_steps}
 use Rattle.ft_lower.specs.Lowered.{lowered}
 use Rattle.ft_lower.specs.Cutting.{blocks_onto}
+use Rattle.ft_lower.proofs.Cuts.{steps_onto}
 
 -- two rows become as many instructions together as separately
 pub row_size-append : (a b : List Step3) → row_size (a ++ b) ≡ row_size a + row_size b
@@ -115,18 +115,14 @@ zeros_size : (k : ℕ) → row_size (zeros k) ≡ 2 * k
 zeros_size zero = refl
 zeros_size (suc k) = row_size-append (zeros k) (Put k 0 ∷ []) ∙ omega (arith, zeros_size k)
 
+-- the steps of blocks become as many instructions as they do in sequence
+size_of_blocks : (bs : Blocks) → blocks_size bs ≡ row_size (flat_map (λ b. b) bs)
+size_of_blocks [] = refl
+size_of_blocks (b ∷ bs) = omega (arith, row_size-append b (flat_map (λ b. b) bs), size_of_blocks bs)
+
 -- cutting into blocks adds no instruction
-pub size_onto : (o is : List Step3) → blocks_size (blocks_onto o is) ≡ row_size o + row_size is
-size_onto [] [] = omega arith
-size_onto (x ∷ o) [] = omega arith
-size_onto o (i ∷ is) = by (is_last i) (size_onto [] is) (size_onto (o ++ i ∷ []) is)
-  where
-    by : (b : Bool) → blocks_size (blocks_onto [] is) ≡ 0 + row_size is → blocks_size (blocks_onto (o ++ i ∷ []) is)
-        ≡ row_size (o ++ i ∷ []) + row_size is → blocks_size
-        (elim b as (λ b. Blocks) [ true ↦ (o ++ i ∷ []) ∷ blocks_onto [] is | false ↦ blocks_onto (o ++ i ∷ []) is ])
-        ≡ row_size o + (size i + row_size is)
-    by true p q = omega (arith, p, row_size-append o (i ∷ []))
-    by false p q = omega (arith, q, row_size-append o (i ∷ []))
+size_onto : (is : List Step3) → blocks_size (blocks_onto [] is) ≡ row_size is
+size_onto is = size_of_blocks (blocks_onto [] is) ∙ ap row_size (steps_onto [] is)
 
 -- a program's blocks become at most as many instructions as the program weighs
 pub lowered_size : (p : Program) → blocks_size (lowered p) ≤ program_weight p
@@ -134,7 +130,7 @@ lowered_size p =
     let cp = statement_steps p.vars 0 p.body in
     omega (
       arith,
-      size_onto [] (program_steps p),
+      size_onto (program_steps p),
       row_size-append (zeros p.vars) (cp ++ Stop ∷ []),
       row_size-append cp (Stop ∷ []),
       zeros_size p.vars,

@@ -12,7 +12,7 @@ fn ends_block(step: &Step3) -> bool
     matches!(step, Step3::Go { .. } | Step3::Stop)
 }
 
-/// The first block of a row of steps, and the steps that follow it.
+/// The first block of a non-empty row of steps, and the steps after it.
 #[tactic(auto, using(crate::proofs::Cuts::cut_on, crate::proofs::Cuts::cut_here, crate::proofs::Cuts::cut_end))]
 pub fn next_block(steps: &[Step3]) -> (&[Step3], &[Step3])
     requires { 0 < length steps.now }

@@ -2,9 +2,9 @@
 //!
 //! The crate promises that `lower` returns a well-formed flow, with at most as many instructions as the program weighs
 //! and no more pairs than it needs, and that the flow's run commits the outputs of the program's meaning and ends when
-//! the meaning ends. Its definitions: `specs/Flow.antt` (steps and runs), `specs/Cutting.antt` (the blocks of a row of
-//! steps), `specs/Well.antt` (well-formed flows), `specs/Lowers.antt` (what a program's flow does). How statements become
-//! steps is defined in `specs/Lowered.antt`, which `lower` does not cite.
+//! the meaning ends. Its definitions: `specs/Flow.antt` (steps and runs), `specs/Well.antt` (well-formed flows),
+//! `specs/Cutting.antt` (the blocks of a row of steps), `specs/Lowers.antt` (what a program's flow does). How statements
+//! become steps is defined in `specs/Lowered.antt`, which `lower` does not cite.
 #![tactic(auto)]
 
 mod counting;

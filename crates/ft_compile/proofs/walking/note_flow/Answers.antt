@@ -19,7 +19,7 @@ loop-left-init c =
       same = ap (λ v. blocks_noted c.args.flow.now.vars 0 v (blocks_onto [] c.as_slice-left.result.now))
           c.in_ok-notes.ensures
           ∙ ap (λ l. blocks_noted c.args.flow.now.vars 0 (at_first c.args.flow.now.vars) (blocks_onto [] l)) e;
-      of = refl;
+      scoped = refl;
       pairs = subst (λ l. PairsBelow 32 (blocks_onto [] l)) (sym e) c.requires.pairs;
       room = subst (λ l. HasRoom w (blocks_size (blocks_onto [] l))) (sym e)
           (room_at_first w c.args.flow.now.vars (blocks_of c.args.flow.now) c.in_ok-notes.ensures c.requires.vars
