@@ -9,7 +9,7 @@ library = crates/ft_c/out/library
 to_bash = $(share)/bash-completion/completions
 to_vim = $(share)/vim/vimfiles
 scripts = tools/faults tools/campaign tools/plot tools/report tools/cc tools/wasm2asm tools/set tools/ending \
-  tools/debugger tools/dap tools/explain tools/lines tools/build
+  tools/debugger tools/dap tools/explain tools/lines tools/build tools/show
 
 # The program to install, if it is not the one that `make` builds here.
 PROGRAM =

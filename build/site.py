@@ -16,7 +16,7 @@ TOP = os.path.dirname(os.path.dirname(os.path.abspath(__file__)))
 READERS = {
     "Use it": ["GUIDE", "C", "COMMANDS", "DEBUGGING", "TOOLS", "EMBEDDING", "LIMITS", "SPEED"],
     "Believe it": ["PROMISES", "TRACE", "READING", "QUALIFICATION", "KNOWN", "RELEASES"],
-    "The rules": ["MACHINE", "TYPING", "OBJECT_FORMAT", "SOURCE_LANGUAGE", "ASSEMBLY", "LINKING", "SCHEDULING", "COMPILER"],
+    "The rules": ["MACHINE", "TYPING", "OBJECT_FORMAT", "SOURCE_LANGUAGE", "ASSEMBLY", "LINKING", "SCHEDULING", "COMPILER", "FLOWS"],
     "Change it": ["ARCHITECTURE", "CRATES", "CHANGING", "PROVING", "DECISIONS"],
 }
 BESIDE = {"README.md": "index.html", "SECURITY.md": "security.html", "CHANGELOG.md": "changelog.html", "examples/README.md": "examples.html"}

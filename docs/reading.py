@@ -1,5 +1,5 @@
 #!/usr/bin/env python3
-"""Writes docs/READING.md: the definitions that the clause `headline` of `tool` reaches, in reading order.
+"""Writes docs/READING.md: the definitions that the clauses `headline` of `whole` and of `tool` reach, in reading order.
 
 A definition is reached if a reached definition or the clause names it. The kit's library is not listed. `tests/cli.sh`
 checks that the file is up to date.
@@ -12,6 +12,10 @@ TOP = os.path.dirname(os.path.dirname(os.path.abspath(__file__)))
 WORD = r"[A-Za-z_][\w'-]*"
 NAME = rf"(?:{WORD}|◌\S+)"  # a definition's name: a word, or an operator with ◌ for each operand
 MARKS = r"(?:abbrev |unfoldable |pub |infix[lr]? \d+ )*"
+# Names that only say which object it is: what the object does is stated beside them.
+WHICH = {("Rattle.ft_compile.specs.Emitted", "compiled_object")}
+# The functions whose clause `headline` is meant.
+HEADLINES = ("crates/ft_tool/src/at_system.rt", "whole"), ("crates/ft_tool/src/top.rt", "tool")
 
 
 def read(path):
@@ -104,10 +108,13 @@ def load():
     return modules
 
 
-def reached(modules):
+def reached(modules, left_out):
+    """The definitions and the types of the code that the headline reaches, not by way of the names that are left out."""
     found, rust, waiting = {}, {}, []
 
     def meet(module, name):
+        if (module, name) in left_out:
+            return
         if module in modules:
             here = modules[module]
             if name in here.place:
@@ -138,10 +145,11 @@ def reached(modules):
                 meet(*names[word])
 
     own_name = None
-    top = read("crates/ft_tool/src/top.rt")
-    clause = re.search(r"ensures headline \{(.*?)\}\n", top, re.S).group(1)
-    names, aliases = imports(top)
-    scan(clause, names, aliases, None)
+    for path, function in HEADLINES:
+        text = read(path)
+        clause = re.search(rf"pub fn {function}\b.*?ensures headline \{{(.*?)\}}\n", text, re.S).group(1)
+        names, aliases = imports(text)
+        scan(clause, names, aliases, None)
     while waiting:
         module, index = waiting.pop()
         here = modules[module]
@@ -151,9 +159,14 @@ def reached(modules):
     return found, rust
 
 
-def main():
-    modules = load()
-    found, rust = reached(modules)
+def without(all_of, some):
+    """What is in the first of two maps from keys to sets, and not in the second."""
+    rest = {key: values - some.get(key, set()) for key, values in all_of.items()}
+    return {key: values for key, values in rest.items() if values}
+
+
+def rows_of(modules, found):
+    """A row for each file with its crate, and how many definitions and lines there are."""
     rows, total, count = [], 0, 0
     for module, here in modules.items():
         if module not in found:
@@ -162,28 +175,47 @@ def main():
         lines = sum(len(part) for _, part in parts)
         total, count = total + lines, count + sum(1 + name.count("`, `") for name, _ in parts)
         rows.append((here.crate, f"| `{here.path[7:]}` | {lines} | {', '.join('`' + name + '`' for name, _ in parts)} |"))
-    print("# What the headline reaches\n")
-    print("The clause `headline` of `tool` (`crates/ft_tool/src/top.rt`) states what the program does unless its status is 3, 4 or 5.")
-    print("These are the definitions that it reaches, in reading order: lowest crate first, and each file in the order of its crate's")
-    print("`specs/Lib.antt`. To believe this clause is to believe that they say what they should, and that the traits `Shelf`, `Source`")
-    print("and `Sink` of `ft_edge` say what a call does to files, script and output. The other clauses of `tool`, and the laws that")
-    print("`PROMISES.md` lists with it, reach about a sixth more. Line counts include comments. The definitions of the kit's library")
-    print("(numbers, including big-endian ones, lists, options, orders, finite maps, bytes of text, known bytes) must be believed as well")
-    print("and are not listed. `docs/reading.py` makes this list.\n")
-    print(f"In all, there are {count} definitions in {total} lines.\n")
-    done = None
+    return rows, count, total
+
+
+def print_crates(rows, rust, sign):
+    """Prints a heading and a table for each crate."""
     for crate in crates():
         mine = [row for c, row in rows if c == crate]
         types = sorted((path, kinds) for (c, path), kinds in rust.items() if c == crate)
         if not mine and not types:
             continue
-        print(f"## `{crate}`\n")
+        print(f"{sign} `{crate}`\n")
         if types:
             listed = "; ".join(f"{', '.join('`' + k + '`' for k in sorted(kinds))} in `{path[7:]}`" for path, kinds in types)
             print(f"Types of the code: {listed}.\n")
         if mine:
             print("| file | lines | definitions |\n|---|---|---|")
             print("\n".join(mine) + "\n")
+
+
+def main():
+    modules = load()
+    all_found, all_rust = reached(modules, set())
+    found, rust = reached(modules, WHICH)
+    rows, count, total = rows_of(modules, found)
+    which, more, lines = rows_of(modules, without(all_found, found))
+    print("# What the headline reaches\n")
+    print("The clause `headline` of `whole` (`crates/ft_tool/src/at_system.rt`) states what the program does unless its status is 3, 4 or")
+    print("5; that of `tool` (`top.rt`), which it calls, states it of any files, script and output. These are the definitions that the two")
+    print("reach, in reading order: lowest crate first, and each file in the order of its crate's `specs/Lib.antt`. To believe these")
+    print("clauses is to believe that they say what they should, and that the traits `Shelf`, `Source` and `Sink` of `ft_edge` say what a")
+    print("call does to files, script and output. The other clauses of both, and the laws that `PROMISES.md` lists with them, reach about")
+    print("a sixth more. Line counts include comments. The definitions of the kit's library")
+    print("(numbers, including big-endian ones, lists, options, orders, finite maps, bytes of text, known bytes) must be believed as well")
+    print("and are not listed. `docs/reading.py` makes this list.\n")
+    print(f"In all, there are {count} definitions in {total} lines. {more} more, [at the end](#which-object-a-source-becomes), need not be")
+    print("believed.\n")
+    print_crates(rows, rust, "##")
+    print("## Which object a source becomes\n")
+    print("These definitions only say which object `compile` writes and `exec` runs (`compiled_object`). What the object does is stated")
+    print(f"beside it (`StandsFor`), so nobody need believe them: {more} definitions in {lines} lines.\n")
+    print_crates(which, without(all_rust, rust), "###")
 
 
 main()

@@ -104,4 +104,4 @@ _talft_tool() {
 }
 
 complete -F _talft talft
-complete -F _talft_tool build campaign cc dap debugger ending explain faults lines plot report set wasm2asm
+complete -F _talft_tool build campaign cc dap debugger ending explain faults lines plot report set show wasm2asm

@@ -1,7 +1,9 @@
 # Counts what passed, failed and was skipped, and makes a temporary folder. The test scripts begin with it.
 work=$(mktemp -d)
 trap 'rm -rf "$work"' EXIT
-passed=0 failed=0 skipped=0
+passed=0 failed=0
+# What was skipped, and the Debian packages that would have kept it from being skipped.
+skipped=() lacking=()
 
 # `report NAME WANTED GOT`
 report() {
@@ -15,20 +17,53 @@ report() {
 
 # `skip NAME WHY`
 skip() {
-  skipped=$((skipped + 1))
+  skipped+=("$1: $2")
   printf 'SKIPPED %s: %s\n' "$1" "$2"
+}
+
+# `package COMMAND` prints the Debian package that has the command.
+package() {
+  case $1 in
+    aarch64-linux-gnu-gcc) echo gcc-aarch64-linux-gnu ;;
+    ar) echo binutils ;;
+    batcat) echo bat ;;
+    c++) echo g++ ;;
+    cc) echo gcc ;;
+    dpkg-deb) echo dpkg ;;
+    gnuplot) echo gnuplot-nox ;;
+    man) echo man-db ;;
+    munged) echo munge ;;
+    node) echo nodejs ;;
+    nvim) echo neovim ;;
+    qemu-aarch64) echo qemu-user ;;
+    sbatch) echo slurm-client ;;
+    script) echo bsdutils ;;
+    slurmctld | slurmd) echo "$1" ;;
+    sshd) echo openssh-server ;;
+    wasm-ld) echo lld ;;
+    *) echo "$1" ;;
+  esac
 }
 
 # `has COMMAND NAME` tests whether the command exists. If not, what needs it is skipped.
 has() {
   command -v "$1" >/dev/null && return
   skip "$2" "$1 is not installed"
+  lacking+=("$(package "$1")")
   return 1
 }
 
-# Prints the last line, and sets the status.
+# Prints what was skipped, how to install what it needs, and the last line, and sets the status.
 close() {
-  [ "$skipped" -eq 0 ] || printf '%d skipped, ' "$skipped"
-  echo "$passed passed, $failed failed"
+  if [ ${#skipped[@]} -ne 0 ]; then
+    echo 'Skipped:'
+    printf '  %s\n' "${skipped[@]}"
+  fi
+  if [ ${#lacking[@]} -ne 0 ]; then
+    echo "To skip less: apt-get install $(printf '%s\n' "${lacking[@]}" | sort -u | paste -sd ' ')"
+  fi
+  printf '%d passed, %d failed' "$passed" "$failed"
+  [ ${#skipped[@]} -eq 0 ] || printf ', %d skipped' "${#skipped[@]}"
+  echo
   [ "$failed" -eq 0 ]
 }

@@ -17,6 +17,11 @@ DETECTED = re.compile(rb" detected \d{1,20}\n")
 AT_ONCE = 8
 
 
+def no_link(path, flags):
+    """Opens a file, but never through a link, which may lead out of the folder."""
+    return os.open(path, flags | os.O_NOFOLLOW, 0o666)
+
+
 def keep_file(path, name):
     """Renames a file to its final name, once all of it is on the disk."""
     try:
@@ -30,7 +35,7 @@ def keep_file(path, name):
 def write(path, data):
     """Writes a file completely or not at all."""
     try:
-        with open(path + ".new", "wb") as out:
+        with open(path + ".new", "wb", opener=no_link) as out:
             out.write(data)
     except OSError as error:
         raise not_kept(path, error) from error
@@ -68,6 +73,17 @@ def digest(path):
         while block := data.read(1 << 20):
             found.update(block)
     return found.hexdigest()
+
+
+def is_list(path, parts):
+    """Whether these files, one after the other, are the list. Its last line feed may be missing."""
+    with open(path, "rb") as data:
+        for name in parts:
+            with open(name, "rb") as part:
+                own = part.read()
+            if data.read(len(own)).ljust(len(own), b"\n") != own:
+                return False
+        return not data.read(1)
 
 
 def size_of(path):

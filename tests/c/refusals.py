@@ -38,12 +38,21 @@ CASES = {
     "without": module(exports=()),
     "two": module(exports=(RUN, b"\x04step\x00\x00")),
     "endless": module(end=None),
+    "alignment": module(const(I32, 1024) + b"\x28" + unsigned(2 ** 32 - 1) + b"\x00\x1A"),
     "large": module(end=1024 + 8 * 1025),
 }
 
 
+# Modules that are not refused, and whose sizes must not be taken at their word: a table of 2^32 - 1 places, and loops
+# that nest as deep as they may.
+SIZES = {
+    "places": module(table=section(4, b"\x01\x70\x00" + unsigned(2 ** 32 - 1))),
+    "nested": module(b"\x03\x40" * 4990 + b"\x0B" * 4990),
+}
+
+
 def main(folder):
-    for name, data in CASES.items():
+    for name, data in {**CASES, **SIZES}.items():
         with open(os.path.join(folder, name + ".wasm"), "wb") as out:
             out.write(data)
 

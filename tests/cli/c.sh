@@ -98,8 +98,65 @@ END
 "$top/talft" asm trap.asm >loop.obj
 tool 'a loop on itself' 1 'running after 1000 steps: block 1 jumps to itself, as a trap does\n' \
   ending loop.obj --steps 1000
+sed 's/^jmp_G r0$/mov r1 G 7 int\nmov r33 B 7 int\n&/' trap.asm | sed 's/ 5 code:1/ 7 code:1/; s/word 5/word 7/' >longer.asm
+"$top/talft" asm longer.asm >longer.obj
+tool 'a trap of four instructions' 1 'trapped within 1000 steps: function run: offset 0x4b: division by zero\n' \
+  ending longer.obj --text longer.asm --steps 1000
 tool 'a trap' 1 'trapped within 1000 steps: function run: offset 0x4b: division by zero\n' \
   ending loop.obj --text trap.asm --steps 1000
+
+# The lines of a run by the C types of its variables, which clang put into the debug information of tests/c/types.wasm.
+tool 'the object of types.wasm' 0 '' cc "$top/tests/c/types.wasm" -o types.obj
+report 'a note about words that variables share' 1 "$(grep -c '^cc: note: types.obj: the word of inside, second and 5 more ' said)"
+"$top/talft" run types.obj >types.lines
+tool 'lines by type' 0 'inside = 0, second = 4
+first = -1, ok = false, small = 0, middle = 0
+first = -1, ok = true, small = 0, middle = 0
+first = -1, ok = true, small = -3, middle = 0
+first = -1, ok = true, small = -3, middle = -7
+wide = 1.5
+narrow = 2.5, letter = 0
+narrow = 2.5, letter = 120 '"'x'"'
+path[1].x = -2, path[1].y = 0
+path[1].x = -2, path[1].y = 4000000000
+path[1].z = 0.25
+whole = -10
+table[0][0] = 0, table[0][1] = 0, table[0][2] = 0, table[1][0] = 0, table[1][1] = 0, table[1][2] = 9
+place = 0x408, colour = 0
+place = 0x408, colour = -1
+inside = 5, second = 4
+' show types.obj types.lines
+echo 'spill[0] 7' >>types.lines
+report 'lines by type, as JSON' '{"cell": "wide", "word": 4609434218613702656, "values": {"wide": 1.5}}
+{"cell": "spill[0]", "word": 7, "values": {}}' "$("$top/tools/show" types.obj types.lines --json | grep -e wide -e spill)"
+report 'a line without a type' '[spill[0] 7]' "$("$top/tools/show" types.obj types.lines | tail -n 1)"
+tool 'another initial word' 0 '' set types.obj whole=5 -o types.set.obj
+tool 'its lines by type' 0 "$("$top/tools/show" types.obj types.lines)\n" show types.set.obj types.lines
+"$top/talft" schedule types.obj >types.later.obj
+cp types.about types.later.about
+refuses 'types of another object' 'show: types.later.about: is about another object than types.later.obj: make it again with `cc`, or use '\
+'--fits if the cells are the same, as after `talft schedule`' show types.later.obj types.lines
+tool 'types of an object with the same cells' 0 "$("$top/tools/show" types.obj types.lines)\n" show types.later.obj types.lines --fits
+refuses 'an object without types' 'show: control.about: no such file: `cc` writes it beside the object; the lines of other objects have '\
+'no types' show control.obj lines
+
+# Each kind of trap, in objects that trap as their modules do, and in objects that do not.
+report 'each kind of trap' "$(while read -r kind; do
+  echo "$kind: accepted, named; verified up to the trap; verified; refused; refused"
+done <<'END'
+an access outside the memory
+an access outside the memory, at its end
+an access outside the memory, of a fill
+a misaligned access
+the stack is full
+an invalid indirect call
+an invalid indirect call, to a function of another type
+unreachable
+division by zero
+division overflow
+a number that does not fit
+END
+)" "$(TALFT=$top/talft python3 -B "$top/tests/c/traps.py" 2>&1)"
 
 # Each refusal of the translator.
 mkdir refused
@@ -131,10 +188,15 @@ said_of parameter 'exports no function without parameters; link with -Wl,--expor
 said_of without 'exports no function without parameters; link with -Wl,--export=NAME'
 said_of two 'exports 2 functions without parameters (run, step); use --entry NAME'
 said_of endless 'does not say where its data ends; link with -Wl,--export=__data_end, or use --memory LO:HI'
+said_of alignment 'function run: offset 0x3e: an alignment larger than the access; the module is not valid: compile and link it again'
 said_of large \
   'the memory from 0x400 to 0x2408 takes 1025 cells, more than 1024; use less data, a smaller '\
 '-Wl,-z,stack-size=, or use --memory LO:HI'
 cd ..
+for module in places nested; do
+  report "the module $module, with 1 GB and 20 s" 0 "$(ulimit -v 1000000 -t 20
+    "$top/tools/cc" "refused/$module.wasm" -o "$module.obj" 2>said >&2; echo $?)"
+done
 refuses 'a module without the requested entry' \
   'cc: refused/two.wasm: exports no function `walk`; use --entry with `run` or `step`' \
   cc refused/two.wasm --entry walk -o two.obj

@@ -159,13 +159,11 @@ report 'nothing is kept of a refused list' '' "$(find . -maxdepth 1 -name fibona
 report 'the parts for two jobs' 2 "$(find even -name '*.faults' | wc -l)"
 report 'the faults of both parts, in order' '' "$(sed '$d; s/ .*//' written | cmp - long.list 2>&1)"
 sed '8000s/.*/8:r64:1/' long.list >bad.list
-mkdir other
-touch other/mine
 refuses 'a bad line of a later part' \
   'campaign: bad.list:8000: invalid fault `8:r64:1`: expected STEP:SITE:WORD; the site `r64` is not one of '\
 'r0 to r63, d, pcg, pcb, qa0 to qa7 and qv0 to qv7' \
   campaign fibonacci.obj --faults bad.list --steps 1000 --jobs 2 --dir other
-report 'the other files in the folder' other/mine "$(find other -type f)"
+report 'nothing is kept of a list that is refused' '' "$(ls -d other 2>/dev/null)"
 refuses 'a missing list' 'campaign: missing: no such file' campaign fibonacci.obj --faults missing
 refuses 'an object that is not accepted' \
   "campaign: $top/examples/mixed.obj: not accepted: check block 0 index 3 premise 2; --survey tries the faults without checking the object" \
@@ -213,3 +211,70 @@ if has parallel 'a campaign by GNU parallel'; then
     campaign 0 'the machine is back' --engine parallel --hosts "$work/near one" --dir away.kept
   fi
 fi
+
+# Two campaigns of two lists in one folder, started together: each writes the lines of its own list, or is refused.
+head -n 400 list >one.list
+tail -n 400 list >two.list
+for turn in 1 2 3 4 5 6; do
+  rm -rf both
+  for each in one two; do
+    (
+      "$top/tools/campaign" fibonacci.obj --faults "$each.list" --steps "$most" --dir both >"$each.lines" 2>"$each.said"
+      echo $? >"$each.status"
+    ) &
+  done
+  wait
+  for each in one two; do
+    if [ "$(cat "$each.status")" = 0 ]; then
+      sed '$d; s/ .*//' "$each.lines" | cmp - "$each.list" 2>&1
+    else
+      tail -n 1 "$each.said" | grep -vE '^campaign: both: (this campaign is already running|holds a campaign with another fault list): '
+    fi
+  done
+done >together 2>&1
+report 'two campaigns started together' '' "$(cat together)"
+
+# A folder from somebody else: what it holds is compared with what is given.
+campaign 0 'a campaign of a few faults' --dir mine
+cp -r mine forged
+sed -i 's/ detected [0-9]*$/ masked/; s/^faults .*/faults 1250 masked 1250 detected 0 idle 0 corrupt 0/' forged/000000.answer
+refuses 'a changed answer' 'campaign: forged/000000.answer: is damaged: remove it, and run the same command again' \
+  campaign fibonacci.obj --faults list --steps "$most" --dir forged
+cp -r mine other.answer
+printf '0:r5:1 masked\nfaults 1 masked 1 detected 0 idle 0 corrupt 0\n' >other.answer/000000.answer
+sha256sum other.answer/000000.answer | cut -d ' ' -f 1 | tr -d '\n' >other.answer/000000.sum
+refuses 'an answer about another fault' 'campaign: other.answer/000000.answer: is damaged: remove it, and run the same command again' \
+  campaign fibonacci.obj --faults list --steps "$most" --dir other.answer
+cp -r mine other.object
+cp "$top/examples/five.obj" other.object/object
+refuses 'another object in the folder' 'campaign: other.object/object: is not a copy of fibonacci.obj: the folder is damaged: remove it' \
+  campaign fibonacci.obj --faults list --steps "$most" --dir other.object
+cp -r mine other.part
+printf '0:r5:1\n' >other.part/000000.faults
+refuses 'another part in the folder' 'campaign: other.part: its parts are not those of list: the folder is damaged: remove it' \
+  campaign fibonacci.obj --faults list --steps "$most" --dir other.part
+cp -r mine linked
+echo precious >victim
+rm linked/lock && ln -s ../victim linked/lock
+refuses 'a link in the folder' 'campaign: linked/lock: is a link, which a campaign never makes: give another --dir' \
+  campaign fibonacci.obj --faults list --steps "$most" --dir linked
+mkdir linked.new && ln -s ../victim linked.new/000000.faults.new
+refuses 'a link in a folder without a campaign' \
+  'campaign: linked.new/000000.faults.new: is a link, which a campaign never makes: give another --dir' \
+  campaign fibonacci.obj --faults list --steps "$most" --dir linked.new
+report 'the files that the links lead to' precious "$(cat victim)"
+mkdir letters && echo Dear >letters/mother
+refuses 'a folder of something else' "campaign: letters: is not a campaign's folder: it holds \`mother\`: give another --dir" \
+  campaign fibonacci.obj --faults list --steps "$most" --dir letters
+# Whoever changes an answer can make its checksum anew: judging some faults again shows it.
+campaign 0 'a campaign that is judged again' --dir mine --again 50
+report 'what it says' 'campaign: 50 faults were judged again, with the same verdicts' "$(tail -n 1 said)"
+for answer in forged/*.answer; do
+  sed -i 's/ detected [0-9]*$/ masked/' "$answer"
+  count=$(($(wc -l <"$answer") - 1))
+  sed -i "\$s/.*/faults $count masked $count detected 0 idle 0 corrupt 0/" "$answer"
+  sha256sum "$answer" | cut -d ' ' -f 1 | tr -d '\n' >"${answer%.answer}.sum"
+done
+"$top/tools/campaign" fibonacci.obj --faults list --steps "$most" --dir forged --again 200 >forged.lines 2>said
+report 'forged answers, judged again' '1 1 0' \
+  "$? $(grep -c ' masked. is line .*, but judged again it is .*: the folder is not from this program and object: remove it$' said) $(wc -l <forged.lines)"

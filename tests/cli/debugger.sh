@@ -1,4 +1,4 @@
-# The debugger, its screen, its adapter for editors, and the tools explain and lines. tests/tools.sh has the longer
+# The debugger, its screen, its adapter for editors, and the tools explain and lines. tests/long.sh has the longer
 # tests: more walks, random sources, Emacs, and times.
 debugging=$top/tests/debugging fibonacci=$top/examples/fibonacci.src
 five=$top/examples/five.obj five_text=$top/examples/five.asm
@@ -239,6 +239,12 @@ report 'the command of a recording over an object' "talft debug $five <$work/rec
   "$(session "$five" "record $work/recorded-object" | sed -n 's/.*; this runs it again: //p')"
 report 'each command has an example' '' "$(session "$five" help | sed '1,3d; /^`/,$d' | while read -r line; do
   [[ $line =~ ' '[[:space:]] ]] || echo "$line"; done)"
+# What a terminal would obey in a comment is a question mark, as in the program's messages.
+printf 'cell out = 0; # \e[2J\xc2\x9b2J\xe2\x80\xae\nout = 5; # \e]0;x\a\n' >escape.src
+report 'invisible characters of a source' '1: cell out = 0; # ?[2J?2J?|2: out = 5; # ?]0;x?' \
+  "$("$top/tools/lines" escape.src | grep '^[12]: ' | paste -sd '|')"
+"$top/tools/explain" escape.src --fault 4:r1:4 >explained
+report 'invisible characters in an explanation' '0 1' "$(grep -c $'\e' explained) $(grep -c '2: out = 5; # ?]0;x?' explained)"
 report 'no lines of an object' 'at 12 running|the next step fetches st_B r32 r33  (block 0 index 5)' \
   "$(session "$five" 'zap r1 9' 'goto 10' | tail -n 2 | sed 's/^at 10/at 12/' | paste -sd '|')"
 report 'pairs that differ by a strike, and without one' '~ r0 G 1048576 out r32 G 0|* r0 G 7 r32 G 0' \

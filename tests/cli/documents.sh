@@ -20,9 +20,18 @@ report 'the files that the promises name' '' "$(named)"
 report 'the lists of what a change touches' '' "$(python3 "$top/docs/changing.py" | diff - "$top/docs/CHANGING.md")"
 report 'the table of limits' '' "$(python3 "$top/docs/limits.py" | diff - "$top/docs/LIMITS.md")"
 
+# README lists the packages with which the tests of the gate skip nothing. gcc and what comes with it is needed anyway.
+needed() {
+  {
+    grep -ohE "\bhas [a-z+-]+ '" "$top"/tests/cli.sh "$top"/tests/cli/*.sh "$top"/tests/speed.sh | cut -d ' ' -f 2
+    sed -n 's/^<!-- needs \(.*\) -->$/\1/p' "$top/docs/GUIDE.md" | tr ' ' '\n'
+  } | while read -r command; do package "$command"; done | sort -u | grep -vxE 'binutils|dpkg|g\+\+|gcc' | paste -sd ' '
+}
+report 'the packages that README lists' "$(needed)" "$(sed -n 's/^ *apt-get install //p' "$top/README.md")"
+
 # The promises quote the clause of the headline exactly.
 clause() { sed -n '/ensures headline {/,/}$/p' "$1" | tr -s ' \n' ' ' | sed 's/^ //'; }
-report 'the clause that the promises quote' "$(clause "$top/crates/ft_tool/src/top.rt")" "$(clause "$top/docs/PROMISES.md")"
+report 'the clause that the promises quote' "$(clause <(sed -n '/^pub fn whole/,$p' "$top/crates/ft_tool/src/at_system.rt"))" "$(clause "$top/docs/PROMISES.md")"
 
 # The documents stay short enough to read.
 report 'at most 40,000 words written by hand' yes "$(python3 "$top/docs/words.py" | tr -d ' ,' | awk '{ print $1 <= 40000 ? "yes" : $1 }')"

@@ -27,7 +27,7 @@ completes 'the remaining options' '--fault --wild' 'talft trial five.obj --steps
 completes 'the options of a campaign' '--faults' 'talft campaign five.obj --f'
 completes 'the option of a meaning' '--turns' 'talft mean sum.src -'
 completes 'no option of check' '' 'talft check five.obj '
-completes 'a fault list' 'five.faults' 'talft campaign five.obj --faults f'
+completes 'a fault list' 'five.faults' 'talft campaign five.obj --faults fi'
 completes 'a step' '' 'talft run five.obj --fault 4'
 completes 'a site' 'r1: r10: r11: r12: r13: r14: r15: r16: r17: r18: r19:' 'talft run five.obj --fault 4:r1'
 completes 'a pending store' 'qa0: qa1: qa2: qa3: qa4: qa5: qa6: qa7:' 'talft run five.obj --fault 4:qa'
@@ -47,7 +47,7 @@ completes_tool() {
     echo "${COMPREPLY[*]}$([ $status -eq 0 ] || echo "status $status")"' bash "$top" "$3" "$4" 2>&1)"
 }
 completes_tool 'the options of cc' '--stack --steps' "$top/tools/cc" --st
-completes_tool 'the options of set' '--from' "$top/tools/set" --f
+completes_tool 'the options of set' '--from --from-run' "$top/tools/set" --f
 completes_tool 'the options of build' '--unchecked' "$top/tools/build" --u
 completes_tool 'the options of the shell' 'noclobber' set nocl
 ln -s "$(type -P true)" cc

@@ -20,7 +20,7 @@ report 'a library without its folder' "ImportError: text.so not found: write its
 if has cc 'the C library' && has ar 'the C library'; then
   report 'the C library is made' 0 "$(bash "$top/build/library.sh" >embed.said 2>&1; echo $?)"
   report 'the symbols that the shared library exports' "$(sed -n 's/^\(uint32_t\|void\) \(talft_[a-z_]*\)(.*/\2/p' "$top/include/talft.h" |
-    grep -v '^talft_arena$' | sort | tr '\n' ' ')" "$(nm -D --defined-only "$library/libtalft.so" | awk '{ print $3 }' | sort | tr '\n' ' ')"
+    grep -v '^talft_arena' | sort | tr '\n' ' ')" "$(nm -D --defined-only "$library/libtalft.so" | awk '{ print $3 }' | sort | tr '\n' ' ')"
   report 'the symbols that it needs from the C library' 'free malloc memcpy memmove memset realloc ' \
     "$(nm -D --undefined-only "$library/libtalft.so" | awk '$1 == "U" { sub(/@.*/, "", $2); print $2 }' | sort | tr '\n' ' ')"
   for name in loader task; do
@@ -28,6 +28,9 @@ if has cc 'the C library' && has ar 'the C library'; then
   done
   ! has c++ 'the header in C++' ||
     report 'the header in C++' '' "$(echo '#include "talft.h"' | c++ -std=c++11 -Wall -Wextra -pedantic -I"$top/include" -xc++ -fsyntax-only - 2>&1)"
+  # The memory from one block, alone.
+  cc "${embed[@]}" -Wconversion -I"$top/embed" "$top/tests/embed/blocks.c" "$top/embed/arena.c" -o embed_blocks 2>errors
+  report 'blocks of one arena' 'all blocks are right' "$(./embed_blocks 3000 7)"
   mkdir embed_objects
   for source in "$top"/examples/*.src; do
     "$top/talft" compile "$source" >"embed_objects/$(basename "$source" .src).obj" 2>/dev/null || rm "embed_objects/$(basename "$source" .src).obj"

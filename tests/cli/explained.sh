@@ -65,6 +65,8 @@ explained 'a run that is detected' 1 '' "$detected" run five.obj --fault 4:r1:6
 explained 'a recovery' 0 'out 5\nagain 0\n' "$detected" recover five.obj --fault 4:r1:6
 explained 'a counter that was struck' 1 '' \
   'five.obj: detected at step 4: the green program counter is 9, but the blue one is 3\n' trial five.obj --fault 4:pcg:9
+"$top/talft" compile "$top/examples/endless.src" >turning.obj
+explained 'a run that goes on' 9 'out 1\nout 2\n' 'turning.obj: still running after 100 steps: raise `--steps`\n' run turning.obj --steps 100
 explained 'a run that is cut' 9 '' 'five.obj: still running after 11 steps: raise `--steps`\n' run five.obj --steps 11
 explained 'a fault after the end' 0 'out 5\n' \
   'five.obj: the fault struck nothing: the run had ended after 14 steps, before step 4000\n' run five.obj --fault 4000:r1:6
@@ -124,6 +126,16 @@ explained 'a name given twice' 7 'object 8 139\n' \
 printf 'node 0 memory\ntype 0 0\nblock 4\nhalt\nentry 0\n' >type.asm
 explained 'a type that does not exist' 7 'object 6 84\n' \
   'type.asm:3:7: error: invalid `4`: there is no type 4: the text has 1 type, numbered from 0\n block 4\n       ^\n' asm type.asm
+# A text that begins with the cell of an array is an assembly text, whatever is wrong with it.
+cp "$top/examples/index.asm" .
+explained 'an array in an assembly text, run' 7 'object 1 0\n' \
+  'index.asm: error: this is an assembly text, not an object: `talft asm FILE >OBJECT` makes an object\n' run index.asm
+sed 's/^ld_G r1 r0$/ld_G r1 64/' "$top/examples/index.asm" >slip.asm
+explained 'a slip behind an array' 12 'asm 1 16\n' \
+  'slip.asm:16:9: error: invalid `64`: a register is r0 to r63\n ld_G r1 64\n         ^~\n' asm slip.asm
+printf 'cell a[0] int\n' >short.asm
+explained 'a short line of an array' 12 'asm 1 1\n' \
+  'short.asm:1:14: error: missing INIT, a number: `cell` is followed by NAME BASIC INIT\n cell a[0] int\n              ^\n' asm short.asm
 
 # Links: the message names the module, its line or instruction, and what may be meant.
 "$top/talft" asm "$top/examples/count.asm" >said-count.obj 2>errors
@@ -556,7 +568,7 @@ else
   explained 'an unreadable file' 3 '' 'secret.obj: error: permission denied\n' check secret.obj
 fi
 
-if command -v script >script.path; then
+if has script 'explanations under a terminal'; then
   printf 'module five.obj\n' >one.map
   got=$(script -qec "$top/talft check mixed.obj" typescript </dev/null | tr -d '\r'; printf '/%d' "${PIPESTATUS[0]}")
   report 'a terminal as standard error' "$(printf 'check block 0 index 3 premise 2\nmixed.obj: error: block 0, instruction 3: its two operands do not have the same colour (premise 2)\n  add r33 r1 B 0\n  r1: G int\n/8')" "$got"
@@ -587,6 +599,4 @@ END
   report 'no note about commands from the terminal' 0 "$(grep -c 'are read from the terminal' said)"
   script -qec "env TALFT_EXPLAIN=0 $top/talft upgrade five.obj 2>said" typescript </dev/null >/dev/null
   report 'an object on a terminal, and no explanation' '' "$(cat said)"
-else
-  echo 'skipped: explanations under a terminal, as there is no `script`'
 fi

@@ -282,19 +282,23 @@ END
 # A limit on the size of files: the message names the file. `TEMP` stands for a name that the tool makes up.
 "$top/talft" compile "$top/examples/sieve.src" >big.obj
 "$top/talft" dis big.obj >big.asm
-while IFS='|' read -r words told; do
-  # shellcheck disable=SC2086
-  report "a limit on files: $words" "${words%% *}: $told" "$(ulimit -f 1
-    TMPDIR=$PWD/folder TALFT=$top/talft "$top"/tools/$words 2>&1 >/dev/null </dev/null | tail -n 1 |
-      sed "s|$PWD/folder/tmp[a-z0-9_]*|TEMP|; s|$PWD/||")"
-done <<'END'
+limited() {
+  local words told
+  while IFS='|' read -r words told; do
+    # shellcheck disable=SC2086
+    report "a limit on files: $words" "${words%% *}: $told" "$(ulimit -f 1
+      TMPDIR=$PWD/folder TALFT=$top/talft "$top"/tools/$words 2>&1 >/dev/null </dev/null | tail -n 1 |
+        sed "s|$PWD/folder/tmp[a-z0-9_]*|TEMP|; s|$PWD/||")"
+  done
+}
+limited <<'END'
 set big.obj prime=5 -o x.obj|TEMP/object: file too large
 ending big.obj --text big.asm|TEMP.obj: file too large
 debugger big.asm -c where|the copy of big.asm in memory: file too large
 explain five.obj --fault 4:r1:6|a temporary file in folder: file too large
-plot lines --out limited.svg|TEMP/picture: file too large
 build big.asm -o x.obj|x.obj: `talft asm`: killed by signal 25: file too large
 END
+! has gnuplot 'a limit on files: plot' || limited <<<'plot lines --out limited.svg|TEMP/picture: file too large'
 report 'standard output that is limited' 'faults: standard output: file too large' \
   "$(ulimit -f 1; "$top/tools/faults" big.obj --flip all --sample 999 2>&1 >limited | tail -n 1)"
 

@@ -81,7 +81,7 @@ if has cc 'writes that are interrupted'; then
 fi
 
 # A terminal ends its lines with a carriage return and a line feed.
-if command -v script >script.path; then
+if has script 'a terminal as standard output'; then
   got=$(script -qec "$top/talft trial $top/examples/five.obj" typescript </dev/null | tr -d '\r'; printf '/%d' "${PIPESTATUS[0]}")
   report 'a terminal as standard output' "$(printf 'out 5\n/0')" "$got"
 fi

@@ -115,6 +115,10 @@ if command -v gnuplot >/dev/null; then
 index 14, line 4)" \
     "$(grep -o '"places":\[[^]]*' lined.html | grep -o '[^"[]* (before[^"]*' | paste -sd /)"
   report 'the path of its slow fault' 1 "$(grep -c 'the strike 60:r4:1' lined.html)"
+  # A comment that would end the page's script early.
+  sed '4s/$/ # <!--<script>/' "$top/examples/fibonacci.src" >early.src
+  tool 'a page with markup in a source' 0 '' report lined.lines --object fibonacci.obj --source early.src --out early.html
+  report 'its markup' '0 yes' "$(grep -c '<!--<script' early.html) $(grep -q 'u003c!--' early.html && echo yes)"
 fi
 
 # The commands in docs/TOOLS.md, run as a reader would. They print only their progress and what they wrote.

@@ -10,7 +10,7 @@ refuses 'a source that is refused' 'build: built.src: refused by `talft compile`
 report 'the old object stays' '' "$(cmp built.obj old.obj 2>&1)"
 cp "$top/examples/mixed.obj" wrong.obj
 "$top/talft" dis wrong.obj >wrong.asm
-refuses 'an object that is not accepted' 'build: wrong.obj: refused by `talft check`: check block 0 index 3 premise 2' \
+refuses 'an object that is not accepted' "build: wrong.asm:$(grep -n '^add r33 r1 B 0$' wrong.asm | cut -d : -f 1): refused by \`talft check\`: check block 0 index 3 premise 2" \
   build wrong.asm
 report 'nothing is left over' '' "$(ls ./*.new 2>&1 | grep -v 'No such file')"
 cp built.src built.txt
@@ -364,6 +364,22 @@ for script in build campaign cc dap debugger ending explain faults lines plot re
   done
 done
 
+# A cell with the name of the line that `recover` adds: `set --from` cannot tell them apart.
+printf 'cell again = 7; cell other = 0; other = other + 1; again = again + 1;\n' >again.src
+tool 'a cell called `again` is built' 0 '' build again.src
+report 'the note about it' 'build: note: again.obj: the cell `again` has the name of the line that `talft recover` adds to those of '\
+'the run: rename the cell' "$(cat said)"
+"$top/talft" recover again.obj --fault 4:pcg:0 >again.lines 2>/dev/null
+refuses 'lines of `recover` for it' "set: again.lines:$(grep -n '^again' again.lines | head -n 1 | cut -d : -f 1): "\
+'`again` is a cell of this object, but also the line that `talft recover` adds: give the lines of `talft run` instead, with --from-run' \
+  set again.obj --from again.lines -o next.obj
+"$top/talft" run again.obj >again.lines
+tool 'lines of `run` for it' 0 '' set again.obj --from-run again.lines -o next.obj
+expect 'the next run of it' 0 'other 2\nagain 9\n' run next.obj
+misused 'both kinds of lines' 'set: --from and --from-run exclude each other' set again.obj --from again.lines --from-run again.lines
+"$top/talft" recover "$top/examples/five.obj" --fault 4:r1:6 >again.lines 2>/dev/null
+tool 'the line of `recover` for another object' 0 '' set "$top/examples/five.obj" --from again.lines -o next.obj
+
 # A terminal that is too small for the screen.
 if has script 'a small terminal'; then
   report 'a screen on a small terminal' 'debugger: --tui: the terminal has 20 columns and 5 rows, but the screen needs at least '\
@@ -377,10 +393,12 @@ report '`run` at the start' 'the run is at its start: `continue` runs it' \
   "$(echo run | "$top/tools/debugger" "$top/examples/five.obj" 2>&1 | tail -n 1)"
 report '`r` for registers' '`r` is short for `registers`; `run` goes to the start, and `continue` runs on from here' \
   "$(printf 'r\nr\n' | "$top/tools/debugger" "$top/examples/five.obj" 2>&1 | grep 'short for')"
-printf '4:r1:6\n' >once.list
-"$top/talft" campaign "$top/examples/five.obj" --faults once.list >once.lines
-report 'no note about runs that `report` repeats' 'report: wrote once.html' \
-  "$("$top/tools/report" once.lines --object "$top/examples/five.obj" --out once.html 2>&1)"
+if has gnuplot 'no note about runs that `report` repeats'; then
+  printf '4:r1:6\n' >once.list
+  "$top/talft" campaign "$top/examples/five.obj" --faults once.list >once.lines
+  report 'no note about runs that `report` repeats' 'report: wrote once.html' \
+    "$("$top/tools/report" once.lines --object "$top/examples/five.obj" --out once.html 2>&1)"
+fi
 
 # What newcomers give to the tools in a wrong place, of a wrong kind, or not at all. Each row has the status, the arguments and the
 # message.

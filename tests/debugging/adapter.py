@@ -1,5 +1,7 @@
 """Talks to tools/dap as an editor does: python3 adapter.py [NAME..]. Ends with `N passed, M failed; K messages`."""
+import json
 import os
+import socket
 import subprocess
 import sys
 import time
@@ -47,7 +49,7 @@ def assembly(tests):
     tests.check("detected", ("exception", "the blue pair does not match the oldest green one"),
                 (stop["reason"], stop.get("text")))
     told = client.body("exceptionInfo", {"threadId": 1})
-    tests.check("exception", "detected at 12: st_B r32 r33  (block 0 index 5, five.asm:20)", told["description"])
+    tests.check("exception", "detected at step 11: st_B r32 r33  (block 0 index 5, five.asm:20)", told["description"])
     tests.check("its way", True, "the strike 4:r1:6" in told["details"]["message"])
     tests.check("queue", {"qa0": "1048576 (out)", "qv0": "6"}, client.scope("Queue")[0])
     tests.check("differences", "6, not 5", client.scope("Differences")[0]["r1"])
@@ -156,16 +158,28 @@ def refusals(tests):
     answer = client.begin({"program": "/nowhere.obj"})
     tests.check("no file", "/nowhere.obj: no such file", answer["message"])
     tests.check("nothing is launched", False, client.ask("threads")["success"])
+    tests.check("a device", "/dev/zero: is not an ordinary file", client.ask("launch", {"program": "/dev/zero"})["message"])
     tests.close(client)
 
 
 def port(tests):
     """An endless run over a port, which `pause` ends; and two clients at once, one of which leaves."""
     server = subprocess.Popen([DAP, "--port", "0"], stderr=subprocess.PIPE, universal_newlines=True)
-    number = int(server.stderr.readline().rsplit(":", 1)[1])
+    told = server.stderr.readline()
+    number, token = int(told.split(":")[2].split(";")[0]), told.split()[-1]
     try:
+        for wrong in ({}, {"token": "0" * 32}):
+            stranger = Client(number)
+            answer = stranger.begin({"program": ENDLESS, **wrong})
+            tests.check("a client without the token", "`launch`: `token` is missing or wrong: it is the one that `dap` wrote when "
+                        "it began to listen", answer["message"])
+        page = socket.create_connection(("127.0.0.1", number))
+        body = json.dumps({"seq": 1, "type": "request", "command": "launch", "arguments": {"program": ENDLESS, "token": token}})
+        page.sendall(f"POST / HTTP/1.1\r\nHost: 127.0.0.1\r\nContent-Length: {len(body)}\r\n\r\n{body}".encode())
+        tests.check("what a web page posts", b"", page.recv(100))
+        page.close()
         client = Client(number)
-        client.begin({"program": ENDLESS}, [20])
+        client.begin({"program": ENDLESS, "token": token}, [20])
         client.event("stopped")
         tests.check("a line of the text", "breakpoint", client.move("continue")["reason"])
         tests.check("the line", 20, client.frame()["line"])
@@ -183,7 +197,7 @@ def port(tests):
             client.answer(sent)
         tests.check("paused at once", "pause", client.event("stopped")["reason"])
         other = Client(number)
-        other.begin({"program": os.path.join(EXAMPLES, "five.asm")})
+        other.begin({"program": os.path.join(EXAMPLES, "five.asm"), "token": token})
         other.event("stopped")
         other.out.close()
         other.socket.close()
@@ -199,7 +213,7 @@ def port(tests):
 
 def broken(tests):
     """An invalid message ends the server, with one line."""
-    for data in (b"nonsense\r\n\r\n", b"Content-Length: x\r\n\r\n", b"Content-Length: 3\r\n\r\n{{{",
+    for data in (b"nonsense\r\n\r\n", b"POST / HTTP/1.1\r\nContent-Length: 2\r\n\r\n{}", b"Content-Length: x\r\n\r\n", b"Content-Length: 3\r\n\r\n{{{",
                  b"Content-Length: 99\r\n\r\n{}", b"Content-Length: 2\r\n\r\n[]"):
         run = subprocess.run([DAP], input=data, stdout=subprocess.PIPE, stderr=subprocess.PIPE, check=False)
         tests.check(f"status after {data!r}", (1, b"", 1), (run.returncode, run.stdout, run.stderr.count(b"\n")))

@@ -38,7 +38,7 @@ REQUESTS = {
                    " supportsInvalidatedEvent?:bool", "exceptionBreakpointFilters?:[Filter] "
                    + " ".join(f"supports{name}?:bool" for name in CAPABILITIES.split())),
     # The other arguments of launch are the adapter's own.
-    "launch": ("noDebug?:bool program:str fault?:str wild?:any text?:str source?:str stopOnEntry?:bool"
+    "launch": ("noDebug?:bool program:str token?:str fault?:str wild?:any text?:str source?:str stopOnEntry?:bool"
                " stopAtEnd?:bool", ""),
     "configurationDone": ("", ""), "restart": ("", ""), "terminate": ("restart?:bool", ""),
     "pause": ("threadId:int", ""),

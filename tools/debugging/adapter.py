@@ -1,4 +1,5 @@
 """A debug adapter: answers an editor's requests from a session of the proved debugger."""
+import hmac
 import os
 import threading
 
@@ -9,7 +10,10 @@ from debugging.adapter_views import THREAD, Views
 from debugging.person import Session
 from debugging.sessions import Interrupted
 from debugging.target import Target
+from messages import named
 
+# The longest assembly text that the program reads; objects and sources are shorter.
+MOST_BYTES = 134_217_728
 # Requests that interrupt a running move.
 BREAKS_OFF = ("pause", "terminate", "disconnect")
 # Requests that need no session.
@@ -24,11 +28,21 @@ FILTER = {"filter": "detected", "label": "Detected", "default": True,
           "description": "Halts where the machine has stopped itself"}
 
 
+def check_file(path):
+    """Refuses a file that cannot be a program, before it is read."""
+    if not isinstance(path, str) or not os.path.exists(path) or os.path.isdir(path):
+        return
+    if not os.path.isfile(path):
+        raise Refused(f"{named(path)}: is not an ordinary file")
+    if os.path.getsize(path) > MOST_BYTES:
+        raise Refused(f"{named(path)}: has more than {MOST_BYTES:,} bytes, the most that a program can have")
+
+
 class Adapter(Views, Breaks):
     """Answers requests; `handle` is called for each of them in turn."""
 
-    def __init__(self, wire):
-        self.wire, self.session, self.over, self.ended = wire, None, False, False
+    def __init__(self, wire, token=None):
+        self.wire, self.token, self.session, self.over, self.ended = wire, token, None, False, False
         self.client, self.asked, self.frame = {}, {}, 0
         self.line_breaks, self.instruction_breaks = {}, {}
         self.filters = {"detected"}
@@ -75,9 +89,18 @@ class Adapter(Views, Breaks):
     def on_attach(self, request, asked):
         raise Refused("`attach` is not possible: a session runs a program from its start; use `launch`")
 
+    def check_token(self, asked):
+        """Refuses a client that does not know the token of a port, which any program of this machine can reach."""
+        if self.token is not None and not hmac.compare_digest(str(asked.get("token")).encode(), self.token.encode()):
+            self.over = True
+            raise Refused("`launch`: `token` is missing or wrong: it is the one that `dap` wrote when it began to listen")
+
     def on_launch(self, request, asked):
+        self.check_token(asked)
         if not isinstance(asked.get("program"), str):
             raise Refused("`launch`: missing `program`: the name of an object, an assembly text or a source")
+        for file in (asked["program"], asked.get("text"), asked.get("source")):
+            check_file(file)
         wild = asked.get("wild")
         wild = ",".join(str(part) for part in wild) if isinstance(wild, list) else wild
         target = Target(asked["program"], wild, asked.get("text"), asked.get("source"))

@@ -198,7 +198,7 @@ def stop_lines(session):
         return [f"at {state.position} running: nothing is detected"]
     instruction, told = reason(session)
     what = f"{instruction.short()}  ({session.target.place_of(instruction)})" if instruction else "a fetch"
-    lines = [f"detected at {state.position}: {what}"]
+    lines = [f"detected at step {state.position - 1}: {what}"]
     if instruction and instruction.source_line:
         lines.append(f"  {instruction.source_line}: {session.target.source[instruction.source_line - 1].strip()}")
     return lines + ([f"  {told.sentence}"] + table(told.compared) if told else

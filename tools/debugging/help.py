@@ -118,8 +118,8 @@ TOPICS = {
     "sites": SITES_TOLD, "d": D_TOLD, "faults": FAULTS_TOLD,
     "positions": """A session `at K` has taken K steps. The next step leads to K + 1.
 A strike at step K is made at position K, before that step: `at K` shows it already made.
-The effect of a step shows at the next position: a run that is detected at 12 was detected by the step from 11,
-which a campaign reports as `detected 11`.
+The effect of a step shows at the next position: a run that shows `detected` at 12 was detected by step 11:
+`explain` says `detected at step 11`, and a campaign reports `detected 11`.
 An instruction is fetched by a step from an even position, and executed by the next.""",
     "operands": """B 0, G 5            a number with its colour, blue or green
 r1, r33             a register; the compiler pairs rI (green) with r(I + 32) (blue)

@@ -73,6 +73,12 @@ def kind_of_file(path, *wanted):
     return kind_of(path, data, *wanted)
 
 
+def shown_lines(text):
+    """The lines of a source as a terminal may show them: each character that it would not print is a question mark."""
+    shown = "".join(letter if letter.isprintable() or letter in "\t\n" else "?" for letter in text)
+    return shown.removesuffix("\n").split("\n")
+
+
 class Target:
     """The object, and what is known about it. Its copy in memory cannot change, and leaves no file behind."""
 
@@ -167,7 +173,7 @@ class Target:
             return
         for instruction, line in zip(self.code, lines):
             instruction.source_line = line
-        self.source, self.source_file, self.names = text.splitlines(), os.path.abspath(own), names
+        self.source, self.source_file, self.names = shown_lines(text), os.path.abspath(own), names
 
     def close(self):
         """Releases the object."""

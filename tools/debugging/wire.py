@@ -24,10 +24,11 @@ def read_length(stream):
         name, _, value = line.strip().partition(b":")
         if not name:
             break
-        if name.strip().lower() == b"content-length":
-            if not value.strip().isdigit() or int(value) > MOST_BYTES:
-                raise Broken("Content-Length is not a number, or is too large")
-            length = int(value)
+        if name.strip().lower() != b"content-length":
+            raise Broken("a header is not Content-Length: the client does not speak the Debug Adapter Protocol")
+        if not value.strip().isdigit() or int(value) > MOST_BYTES:
+            raise Broken("Content-Length is not a number, or is too large")
+        length = int(value)
     if length is None:
         raise Broken("a header has no Content-Length")
     return length

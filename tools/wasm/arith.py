@@ -1,6 +1,7 @@
 """Pass 2a: what each arithmetic instruction of WebAssembly is in 64-bit words. 32-bit values are kept zero-extended."""
 from .divide import Divide
 from .ir import Edge
+from .traps import BY_ZERO, OVERFLOW
 from .words import M32, M64, ones_of
 
 
@@ -132,12 +133,12 @@ class Arith(Divide):
         full = (top << 1) - 1
         kind, sign = name.split("_")
         if isinstance(b, int) and b == 0:
-            self.trap(at, "division by zero")
+            self.trap(at, BY_ZERO)
             return 0
         if isinstance(b, int) and sign == "s" and b == full and kind == "rem":
             return 0
         if not isinstance(b, int):
-            self.trap_if_zero(b, at, "division by zero")
+            self.trap_if_zero(b, at, BY_ZERO)
         if sign == "s" and not (ones_of(a) | ones_of(b)) & top:
             sign = "u"
         if sign == "u":
@@ -146,7 +147,7 @@ class Arith(Divide):
         if kind == "div":    # the lowest number divided by -1 does not fit
             if b == full or not isinstance(b, int):
                 worst = mk("or", mk("xor", a, top), mk("xor", b, full))
-                self.trap_if_zero(worst, at, "division overflow")
+                self.trap_if_zero(worst, at, OVERFLOW)
         if isinstance(b, int) and b & (b - 1) == 0 and b < top:
             return self._signed_power(kind, a, b.bit_length() - 1, bits)
         sign_a, sign_b = mk("shr", a, bits - 1), mk("shr", b, bits - 1)

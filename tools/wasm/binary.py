@@ -9,7 +9,7 @@ class Bytes:
         self.data, self.at, self.end, self.func = data, at, len(data) if end is None else end, func
 
     def refuse(self, what, at=None, fix=DAMAGED):
-        raise Refused(what, fix, self.func, self.at if at is None else at)
+        raise Refused(what, fix, self.func and self.func.name, self.at if at is None else at)
 
     def byte(self):
         if self.at >= self.end:

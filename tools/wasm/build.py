@@ -7,6 +7,7 @@ from .ir import Edge, Graph, Value
 from .memory import Access
 from .opcodes import F32, I32
 from .refused import Refused
+from .traps import UNREACHABLE
 from .words import M32, M64
 
 MOST_VALUES = 400_000
@@ -25,7 +26,7 @@ class Label:
 class Builder(Calls, Arith, Access, Bulk, Floats):
     def __init__(self, module, memory, checked=True, loops=False):
         self.module, self.memory, self.checked, self.loops = module, memory, checked, loops
-        self.traps, self.calls, self.waiting, self.home = {}, [], [], None
+        self.traps, self.calls, self.waiting, self.home, self.of_loops = {}, [], [], None, {}
         self.func = self.locals = self.stack = self.labels = None
         Value.count = 0
         self.steps = {
@@ -86,21 +87,34 @@ class Builder(Calls, Arith, Access, Bulk, Floats):
             self.build_shared(built[-1])
         return main, built
 
-    def assigned(self, body, first, past):
-        """The locals and the globals that a part of a body may set."""
-        local, globals_ = set(), set()
-        for ins in body[first:past]:
-            if ins.op in ("local.set", "local.tee"):
-                local.add(ins.a)
-            elif ins.op == "global.set":
-                globals_.add(ins.a)
-            elif ins.op == "call":
-                globals_ |= self.effects[self.module.funcs[ins.a]][1]
-            elif ins.op == "call_indirect":
-                globals_ |= self.effects[self.func][1]
-            elif ins.op == "op" and "." in ins.a and builtin(self.module, ins.a):
-                globals_ |= self.effects[builtin(self.module, ins.a)][1]
-        return sorted(local), sorted(globals_)
+    def assignments(self, func):
+        """For each loop of a function, by its place: the locals and the globals that it may set."""
+        found, opened = {}, []
+        for place, ins in enumerate(func.body):
+            if ins.op in ("block", "loop", "if"):
+                opened.append((place, ins.op, set(), set()))
+            elif ins.op == "end" and opened:
+                start, op, *inner = opened.pop()
+                if op == "loop":
+                    found[start] = tuple(map(sorted, inner))
+                for outer, mine in zip(opened[-1][2:] if opened else (), inner):
+                    outer |= mine
+            elif opened:
+                self.note_assigned(ins, func, *opened[-1][2:])
+        return found
+
+    def note_assigned(self, ins, func, local, globals_):
+        """Adds what an instruction may set."""
+        if ins.op in ("local.set", "local.tee"):
+            local.add(ins.a)
+        elif ins.op == "global.set":
+            globals_.add(ins.a)
+        elif ins.op == "call":
+            globals_ |= self.effects[self.module.funcs[ins.a]][1]
+        elif ins.op == "call_indirect":
+            globals_ |= self.effects[func][1]
+        elif ins.op == "op" and "." in ins.a and builtin(self.module, ins.a):
+            globals_ |= self.effects[builtin(self.module, ins.a)][1]
 
     def run(self, body):
         pc = 0
@@ -158,7 +172,7 @@ class Builder(Calls, Arith, Access, Bulk, Floats):
         self.stack.append(self.choose(cond, self.stack.pop(), y))
 
     def unreachable(self, ins):
-        self.g.at.term = ("jmp", self.trap_edge(ins.at, "unreachable"))
+        self.g.at.term = ("jmp", self.trap_edge(ins.at, UNREACHABLE))
         self.g.at = None
 
     # Control
@@ -211,7 +225,9 @@ class Builder(Calls, Arith, Access, Bulk, Floats):
         g = self.g
         self.depth += 1
         head = g.block(self.depth, f"loop of {self.func.name}")
-        label.assigned = self.assigned(self.func.body, self.pc, label.ins.match)
+        if self.func not in self.of_loops:
+            self.of_loops[self.func] = self.assignments(self.func)
+        label.assigned = self.of_loops[self.func][self.pc]
         label.head = head
         n = label.params
         args = [self.locals[i] for i in label.assigned[0]] + [self.globals[i] for i in label.assigned[1]]

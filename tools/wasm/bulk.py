@@ -1,6 +1,6 @@
 """Pass 2e: memory.fill and memory.copy, byte by byte, and memory.grow, which never succeeds."""
 from .ir import Edge
-from .memory import OUTSIDE
+from .traps import OUTSIDE
 from .words import M32
 
 

@@ -3,6 +3,7 @@ tree of comparisons with the table's numbers, followed by a direct call."""
 from .floats import builtin
 from .ir import Edge, Graph
 from .opcodes import FUNCREF
+from .traps import INDIRECT
 
 MOST_NESTED = 200
 LONG = 400      # a function is shared if its copies after the first would together have at least this length
@@ -192,7 +193,7 @@ class Calls:
         def leaf(func):
             self.globals, self.stack = list(saved[0]), list(saved[1])
             if func is None:
-                self.g.at.term = ("jmp", self.trap_edge(ins.at, "an invalid indirect call"))
+                self.g.at.term = ("jmp", self.trap_edge(ins.at, INDIRECT))
                 self.g.at = None
             else:
                 self.do_call(func, ins.at)

@@ -1,7 +1,8 @@
 """The body of a function: decoded and validated in one pass, by the algorithm in the standard's appendix."""
 from .opcodes import BULK, CONSTANTS, FUNCREF, I32, LOADS, NUMBERS, NUMERIC, STORES, TYPE_NAMES, V128
 
-MOST_LOCALS = 50_000
+# The hint of an access of 8 bytes that is aligned as it can be.
+MOST_LOCALS, MOST_ALIGN = 50_000, 3
 INVALID = "the module is not valid: compile and link it again"
 ANY = None      # the type of a value in unreachable code, as after a jump
 
@@ -123,7 +124,7 @@ class Decoder:
         align, offset = self.data.u(), self.data.u()
         form = LOADS.get(code) or STORES[code]
         self.needs_memory()
-        if 8 << align > form[1]:
+        if align > MOST_ALIGN or 8 << align > form[1]:
             self.wrong("an alignment larger than the access")
         if code in LOADS:
             self.pop(I32)

@@ -84,6 +84,14 @@ class Function:
         return self.decoded
 
 
+class Table(dict):
+    """A table: functions by their places. A place without one has no entry, as a table of 43 bytes may have 2^32 places."""
+
+    def __init__(self, size):
+        super().__init__()
+        self.size = size
+
+
 class Module:
     """A module's parts, as the interpreter needs them."""
 
@@ -144,7 +152,7 @@ class Module:
     def read_table(self, part):
         def one():
             part.byte()
-            return [None] * self.least(part)
+            return Table(self.least(part))
         self.tables = part.many(one)
 
     def read_memory(self, part):
@@ -192,9 +200,9 @@ class Module:
                 part.byte()
             items = part.many((lambda: self.constant(part)) if flags & 4 else part.unsigned)
             if at is not None:
-                if at + len(items) > len(self.tables[table]):
+                if at + len(items) > self.tables[table].size:
                     raise Invalid("an element segment is outside its table")
-                self.tables[table][at:at + len(items)] = items
+                self.tables[table].update(enumerate(items, at))
             self.elements.append(items)
 
     def read_code(self, part):
@@ -238,8 +246,8 @@ def operands(part, op, module):
     if op == 0x1C:
         return part.many(part.byte), None
     if 0x28 <= op <= 0x3E:
-        part.unsigned()
-        return part.unsigned(), None
+        align = part.unsigned()
+        return part.unsigned(), align
     if op in (0x3F, 0x40, 0xD0, 0xFC09, 0xFC0B, 0xFC0D, 0xFC0F, 0xFC10, 0xFC11):
         return part.unsigned(), None
     if op in (0x41, 0x42):

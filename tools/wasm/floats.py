@@ -1,5 +1,6 @@
 """Pass 2f: floating-point numbers as the words of their bits. Arithmetic, conversions and comparisons call the
 functions that compiler-rt has for machines without such instructions, if the module has been linked with them."""
+from .traps import TOO_LARGE
 from .words import M32, M64
 
 FORMS = {"f32": ("sf", 32, 23, 127), "f64": ("df", 64, 52, 1023)}
@@ -100,7 +101,7 @@ class Floats:
             else bits_of_power(form, bits - 1, 1)
         fits = mk("ltu", size, mk("add", mk("mul", sign, below - above & M64), above))
         if "_sat_" not in op:
-            self.trap_if_zero(fits, ins.at, "a number that does not fit")
+            self.trap_if_zero(fits, ins.at, TOO_LARGE)
             self.do_call(func, ins.at)
             return
         self.stack[-1] = self.choose(fits, x, 0)

@@ -1,6 +1,7 @@
 """Runs a WebAssembly module as the standard says, and records each store, for comparison with translations."""
 from wasm.decoder import PAGE, Invalid
 from wasm.numbers import conversions, of_form
+from wasm.traps import BY_ZERO, INDIRECT, OUTSIDE, OVERFLOW, UNREACHABLE
 
 M32, M64 = (1 << 32) - 1, (1 << 64) - 1
 
@@ -25,7 +26,7 @@ def extended(word, low, bits):
 def quotient(a, b, bits):
     a, b = signed(a, bits), signed(b, bits)
     if b == 0:
-        raise Trap("division by zero")
+        raise Trap(BY_ZERO)
     result = abs(a) // abs(b)
     return -result if (a < 0) != (b < 0) else result
 
@@ -33,7 +34,7 @@ def quotient(a, b, bits):
 def div_s(a, b, bits):
     result = quotient(a, b, bits)
     if result >> (bits - 1) == 1:
-        raise Trap("division overflow")
+        raise Trap(OVERFLOW)
     return result & ((1 << bits) - 1)
 
 
@@ -43,13 +44,13 @@ def rem_s(a, b, bits):
 
 def div_u(a, b, bits):
     if b == 0:
-        raise Trap("division by zero")
+        raise Trap(BY_ZERO)
     return a // b
 
 
 def rem_u(a, b, bits):
     if b == 0:
-        raise Trap("division by zero")
+        raise Trap(BY_ZERO)
     return a % b
 
 
@@ -119,7 +120,7 @@ class Interpreter:
 
     def fill(self, at, data):
         if at + len(data) > len(self.memory):
-            raise Trap("an access outside the memory")
+            raise Trap(OUTSIDE)
         self.memory[at:at + len(data)] = data
 
     def note(self, at, size):
@@ -147,7 +148,7 @@ class Interpreter:
 
     def load(self, at, size, bits):
         if at + size > len(self.memory):
-            raise Trap("an access outside the memory")
+            raise Trap(OUTSIDE)
         word = int.from_bytes(self.memory[at:at + size], "little")
         return extended(word, 8 * size, bits) if bits else word
 
@@ -156,13 +157,12 @@ class Interpreter:
         self.note(at, size)
 
     def indirect(self, kind, table, number):
-        entries = self.module.tables[table]
-        index = entries[number] if number < len(entries) else None
+        index = self.module.tables[table].get(number)
         if index is None:
-            raise Trap("an indirect call through an empty or missing table entry")
+            raise Trap(INDIRECT)
         function = self.module.functions[index]
         if (function.params, function.results) != self.module.types[kind]:
-            raise Trap("an indirect call to a function of another type")
+            raise Trap(INDIRECT)
         return function
 
     def bulk(self, op, a, stack):
@@ -178,7 +178,7 @@ class Interpreter:
         else:
             data = self.part(b"" if a in self.dropped else self.module.data[a].items, second, count)
         if to + count > len(self.memory):
-            raise Trap("an access outside the memory")
+            raise Trap(OUTSIDE)
         # Like an object: byte by byte, each byte a store, and downwards if the copy moves bytes up.
         downwards = op == 0xFC0A and to > second
         for at in range(count - 1, -1, -1) if downwards else range(count):
@@ -188,7 +188,7 @@ class Interpreter:
     @staticmethod
     def part(data, at, count):
         if at + count > len(data):
-            raise Trap("an access outside the memory")
+            raise Trap(OUTSIDE)
         return bytes(data[at:at + count])
 
     def call(self, function, arguments):
@@ -286,6 +286,6 @@ class Interpreter:
         elif op in (0xFC08, 0xFC09, 0xFC0A, 0xFC0B):
             self.bulk(op, a, stack)
         elif op == 0x00:
-            raise Trap("unreachable")
+            raise Trap(UNREACHABLE)
         elif op != 0x01:
             raise Invalid(f"{self.place[0].name}: offset {at:#x}: instruction {op:#x} is not supported")

@@ -5,10 +5,10 @@ import re
 from .ir import Edge
 from .opcodes import bits_of
 from .refused import Refused
+from .traps import MISALIGNED, OUTSIDE
 from .words import M64, smear
 
 MOST_CELLS = 1024
-OUTSIDE = "an access outside the memory"
 
 
 class Memory:
@@ -104,7 +104,7 @@ class Access:
                 inside = self.mk("ltu", self.mk("sub", address, memory.low), memory.high - memory.low - size // 8 + 1)
                 self.trap_if_zero(inside, at, OUTSIDE)
             aligned = self.mk("eq", self.mk("and", address, (1 << align) - 1), 0)
-            self.trap_if_zero(aligned, at, "a misaligned access")
+            self.trap_if_zero(aligned, at, MISALIGNED)
         return address
 
     def is_inside(self, address, size):

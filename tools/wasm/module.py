@@ -159,7 +159,7 @@ class Module:
         size = part.u()
         func.at = part.at
         body = part.part(size)
-        body.func = func.name
+        body.func = func
         self.bodies.append((func, body))
 
     def segment(self, part, _):
@@ -209,7 +209,7 @@ class Module:
             if what == 0:
                 self.func_names.setdefault(index, name)
         for func, body in self.bodies:
-            body.func = func.name
+            body.func = func
             decoder = Decoder(self, func, body)
             func.body, func.locals = decoder.run(), decoder.locals
 

@@ -2,6 +2,8 @@
 import math
 import struct
 
+from .traps import TOO_LARGE
+
 FORMS = {32: ("<I", "<f", 0x7F800000, 0x400000), 64: ("<Q", "<d", 0x7FF0000000000000, 0x8000000000000)}
 
 
@@ -93,7 +95,7 @@ def truncated(a, bits, to, is_signed, trap):
     value = number(a, bits)
     if math.isnan(value) or math.isinf(value) or not low <= math.trunc(value) <= high:
         if trap:
-            raise trap("a number that does not fit")
+            raise trap(TOO_LARGE)
         return 0 if math.isnan(value) else (low if value < 0 else high) % (1 << to)
     return math.trunc(value) % (1 << to)
 

@@ -4,6 +4,7 @@ from .alloc import K, allocate
 from .early import copy_early
 from .ir import Block, Edge, Value
 from .split import split
+from .traps import FULL
 
 MOST_FRAMES = 64
 
@@ -104,7 +105,7 @@ class Program:
     def test_depth(self, s):
         """A recursive function begins with a test that a frame is available."""
         entry, rest, trap = s.graph.entry, Block(note=f"{s.func.name} goes on"), Block()
-        trap.term, trap.trap = ("jmp", Edge(trap)), (s.func.name, s.func.at, "the stack is full")
+        trap.term, trap.trap = ("jmp", Edge(trap)), (s.func.name, s.func.at, FULL)
         rest.insts, rest.term, depth = entry.insts, entry.term, Value("depth", block=entry)
         s.limit = Value("ltu", depth, 0, 1, entry)
         entry.insts, entry.term = [depth, s.limit], ("bz", s.limit, Edge(trap), Edge(rest))

@@ -10,11 +10,15 @@ from .layout import place
 from .memory import MOST_CELLS, Memory
 from .names import exported_symbols, linked_symbols, read_map
 from .module import Module
+from .narrower import Limits
 from .opcodes import FLOATS, I32
 from .pins import choose
 from .refused import Refused, plain
 from .subroutines import Program
 from .text import Text, return_name
+
+
+NO_END = "does not say where its data ends"
 
 
 class Options:
@@ -30,10 +34,11 @@ class Options:
 class Translation:
     """The text; `cells`: for each cell its name and the address of its 8 bytes in the module's memory, or None;
     `result`: the name of the cell that takes the entry's result, or None; `traps`: for the number of each block that
-    is a trap's loop (function, offset in the module, what); `notes`: lines for people."""
+    is a trap's loop (function, offset in the module, what); `limits`: where the object traps although its module need
+    not; `notes`: lines for people."""
 
-    def __init__(self, text, cells, result, traps, notes):
-        self.text, self.cells, self.result, self.traps, self.notes = text, cells, result, traps, notes
+    def __init__(self, text, cells, result, traps, limits, notes):
+        self.text, self.cells, self.result, self.traps, self.limits, self.notes = text, cells, result, traps, limits, notes
 
 
 def counted(count, what):
@@ -104,7 +109,7 @@ def extents(module, symbols, mapped, used, places):
             stack = (last, value) if ended else None
             last, ended = max(last, value), True
     if not ended:
-        raise Refused("does not say where its data ends", "link with -Wl,--export=__data_end, or use --memory LO:HI")
+        raise Refused(NO_END, "link with -Wl,--export=__data_end, or use --memory LO:HI")
     return first, max(last, first + 8), stack
 
 
@@ -200,7 +205,10 @@ def translated(path, data, options):
     head = f"# entry {entry.name}, memory 0x{memory.low:x} to 0x{memory.high:x}"
     returns = [(return_name(k, i), None) for k in range(len(program.recursive)) for i in range(program.most)]
     names = [(name, at) for name, _, at in table] + returns
-    return Translation("\n".join([head, *text.lines(), ""]), names, result, emitter.traps(), notes_of(text, emitter))
+    circles = {s.func.index: (s.func.at, frozenset(f.index for f in s.circle)) for s in program.recursive}
+    limits = Limits(memory.low, memory.high, frozenset(s.func.index for s in shared), circles, program.most)
+    return Translation("\n".join([head, *text.lines(), ""]), names, result, emitter.traps(), limits,
+                       notes_of(text, emitter))
 
 
 def notes_of(text, emitter):

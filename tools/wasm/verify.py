@@ -4,14 +4,17 @@ import re
 
 from common import Refused
 from debugging.explaining import counted
-from debugging.sessions import ask, path
+from debugging.machine import REGISTERS
+from debugging.sessions import State, ask, path
 from wasm.decoder import Invalid, Module
 from wasm.interpreter import Interpreter
+from wasm.narrower import Narrower
+from wasm.traps import FULL, NARROWER
 
 WRONG = "the translation is wrong; report it"
-# Traps of an object where its module need not trap: its memory and stack are smaller, and alignment hints must hold.
-NARROWER = "an access outside the memory", "a misaligned access", "the stack is full"
 TRAP = re.compile(r"# trap (\d+): (function .*: offset 0x[0-9a-f]+: .*)")
+# A loop in which a run stays has at most this many instructions, of two steps each: a trap has four or fewer.
+MOST_STAYING = 16
 # How a run ended: done, detected, running or staying; after how many steps; in which block; the lines that it wrote.
 Ending = collections.namedtuple("Ending", "how steps block lines")
 
@@ -22,17 +25,32 @@ def traps_of(text):
 
 
 def ending(object_file, most, strikes=()):
-    """Runs the object for at most this many steps. Its run stays where it is if the next jump leads to itself."""
-    script = path(strikes, 0, most)
-    answers = ask(object_file, [*script, "where", "step 4", "where"])
+    """Runs the object for at most this many steps. Its run stays where it is if a whole state recurs within the next
+    steps, in one block and without an output."""
+    script, state = path(strikes, 0, most), [*(f"reg {name}" for name in REGISTERS), "queue", "where"]
+    answers = ask(object_file, [*script, *state, *(["step 2", *state] * MOST_STAYING)])
     outputs, made = answers.path(script)
     if not all(made):
         raise Refused("nothing was struck: the run had ended, or the queue has no such entry at that step")
-    before = answers.where()
-    answers.step()
-    after = answers.where()
-    stays = before.status == "running" and before.block is not None and before[2:] == after[2:]
-    return Ending("staying" if stays else before.status, before.position, before.block, outputs.splitlines())
+    first = State(answers, (), 0, None)
+    how = first.status
+    if how == "running" and first.block is not None and recurs(answers, first):
+        how = "staying"
+    return Ending(how, first.position, first.block, outputs.splitlines())
+
+
+def recurs(answers, first):
+    """Whether one of the next states is an earlier one."""
+    seen = [first.all_words()]
+    for _ in range(MOST_STAYING):
+        committed, _, _ = answers.step()
+        state = State(answers, (), 0, None)
+        if committed or state.status != "running" or state.block != first.block:
+            return False
+        if state.all_words() in seen:
+            return True
+        seen.append(state.all_words())
+    return False
 
 
 def told(run, text):
@@ -47,57 +65,64 @@ def told(run, text):
 
 
 class Expected:
-    """What the module stores in the interpreter: each word of 8 bytes with the name of its cell."""
+    """What the module stores in the interpreter: each word of 8 bytes with the name of its cell. `trap`: where the object
+    has trapped, and why, or None."""
 
-    def __init__(self, data, entry, translation, most, most_stores):
+    def __init__(self, data, entry, translation, most, most_stores, trap):
         names = {at: name for name, at in translation.cells if at is not None}
-        self.program = Interpreter(Module(data), most, most_stores)
+        module = Module(data)
+        self.program = Interpreter(module, most, most_stores) if trap is None or trap[1] not in NARROWER else \
+            Narrower(module, most, most_stores, translation.limits, trap)
         self.how, self.what, results = self.program.run(entry)
         # A word without a cell is outside the memory that the program uses.
         self.stores = [(names.get(at, f"address {at:#x}"), word) for at, word in self.program.stores]
         if translation.result and self.how == "done":
             self.stores.append((translation.result, results[0]))
 
-    def place(self):
-        """Where the module trapped, and why, as in the comments of a text, without the function."""
-        return f"offset {self.program.place[1].at:#x}: {self.what}"
+    def is_trapped(self, trap):
+        """Whether the module trapped at this offset in this way. A full stack is noticed where the function begins."""
+        return self.how == "trapped" and self.what == trap[1] and (self.what == FULL or self.program.place[1].at == trap[0])
 
 
 def verify(data, entry, translation, run):
     """A line that says what was verified of a run. A run that differs from the module's is refused."""
     kept = {name for name, at in translation.cells if at is not None} | {translation.result}
     stores = [(name, int(word)) for name, word in (line.split(" ") for line in run.lines) if name in kept]
+    trap = translation.traps[run.block][1:] if run.how == "staying" and run.block in translation.traps else None
     try:
         module = Expected(data, entry, translation, 4 * run.steps + 100_000,
-                          None if run.how == "done" else len(stores) + 1)
+                          None if run.how == "done" else len(stores) + 1, trap)
     except Invalid as invalid:
         return f"not verified: the interpreter cannot run the module: {invalid}"
     for number, (mine, wanted) in enumerate(zip(stores, module.stores)):
         if mine != wanted:
             raise Refused(f"store {number} is {mine[0]} {mine[1]} in the object but {wanted[0]} {wanted[1]} in the module: "
                           f"{WRONG}")
-    how = agreement(run, module, len(stores), traps_of(translation.text))
+    how = agreement(run, module, len(stores), trap)
     if how is None:
-        raise Refused(f"the object's run is {run.how} after {len(stores)} stores, but the module's is {module.how} after "
-                      f"{len(module.stores)}: {WRONG}")
+        raise Refused(f"the object's run is {run.how if trap is None else 'trapped'} after {len(stores)} stores, but the "
+                      f"module's is {module.how} after {len(module.stores)}: {WRONG}")
     verb = "matches" if len(stores) == 1 else "match"
     return (f"{how}: {counted(len(stores), 'store')} in {counted(run.steps, 'step')} {verb} the module's, which ran "
             f"{counted(module.program.count, 'instruction')}")
 
 
-def agreement(run, module, count, traps):
+def agreement(run, module, count, trap):
     """The verdict on two runs with the same stores, as far as both go; None if they differ."""
     more, fewer = len(module.stores) > count, len(module.stores) < count
+    is_cut = module.how == "cut" and not more
     if run.how == "done":
-        if module.how == "cut" and not more:
+        if is_cut:
             return "not fully verified: the module runs longer than the interpreter's limit"
         return "verified" if module.how == "done" and not more and not fewer else None
     if fewer:
         return None
-    if run.how == "staying" and run.block in traps:
-        if module.how == "trapped" and not more:
-            return "verified up to the trap" if traps[run.block].endswith(module.place()) else None
-        return "verified up to the trap" if traps[run.block].endswith(NARROWER) else None
+    if trap is not None:
+        if is_cut:
+            return "not fully verified: the object has trapped, but the module runs longer than the interpreter's limit"
+        return "verified up to the trap" if not more and module.is_trapped(trap) else None
     if run.how == "staying":
-        return "verified as far as it stores" if module.how == "cut" and not more else None
+        return "verified as far as it stores" if is_cut else None
+    if not more and module.how != "cut":
+        return f"not fully verified: the module's run is {module.how}, but the object's was cut"
     return "verified as far as it ran"

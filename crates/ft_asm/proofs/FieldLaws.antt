@@ -38,7 +38,8 @@ pub record IsField {A : Type 0} (read : List ℕ → Option A) (word : A → Lis
 
 -- NUMBERS
 
-number_told_whole : (o : Option (Option ℕ)) (word : List ℕ) (n : ℕ) → state_after next_number None word ≡ o →
+-- a number that the reader told is the number of the whole word
+pub number_told_whole : (o : Option (Option ℕ)) (word : List ℕ) (n : ℕ) → state_after next_number None word ≡ o →
     option_and_then (λ number. number) o ≡ Some n → IsNumberText word n
 number_told_whole None word n e f = absurd cc
 number_told_whole (Some s) word n e f = reads_ok next_number whole_number None number_told IsNumberRead IsNumberText

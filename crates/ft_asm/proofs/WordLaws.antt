@@ -83,7 +83,8 @@ begins_word text start e =
       not-true (is_blank (get_or text start 0)) h.1,
     )
 
-some_step : (t : Bool) (p : ℕ) → t ≡ false → 0 < cond (not t) (1 + p) 0
+-- a byte that is no blank belongs to the word
+pub some_step : (t : Bool) (p : ℕ) → t ≡ false → 0 < cond (not t) (1 + p) 0
 some_step true p e = absurd cc
 some_step false p e = omega arith
 

@@ -7,9 +7,10 @@ ghost use Rattle.ft_embed.specs.Verdicts.{nothing};
 use ft_embed::{Refused, set_cell};
 
 /// Changes the bytes of an object so that they spell the same object with this initial word in a cell, which must be of
-/// type `int`. The object is accepted if and only if it was accepted before. Returns 0 on success; 7 for bytes that
-/// spell no object; 16 if there is no such cell; or 19 if the cell is of another type. Unless it returns 0, the bytes
-/// are unchanged.
+/// type `int`. The object is accepted if and only if it was accepted before. If the old object stands for a program, as
+/// one that was compiled does, the new one stands for the program with this initial word. Returns 0 on success; 7 for
+/// bytes that spell no object; 16 if there is no such cell; or 19 if the cell is of another type. Unless it returns 0,
+/// the bytes are unchanged.
 #[unsafe(no_mangle)]
 pub extern "C" fn talft_set_cell(bytes: &mut [u8], cell: u32, word: u64, why: &mut Refused) -> u32
     ensures set { result ≢ 7 → result ≢ 16 → result ≢ 19 → IsSet bytes.old bytes.new cell word }

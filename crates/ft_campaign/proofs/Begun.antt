@@ -9,8 +9,6 @@ use Rattle.std.proofs.lemmas.Option.{slice_get_cases, slice_get_within}
 use Rattle.ft_isa.specs.declared.plan.Wild.{Wild}
 use Rattle.ft_isa.specs.declared.plan.Strike.{Strike}
 use Rattle.ft_types.specs.declared.object.Object.{Object}
-use Rattle.ft_semantics.specs.declared.status.Status.{Status}
-use Rattle.ft_semantics.specs.declared.status.Status.TheVariants as status
 use Rattle.ft_semantics.specs.declared.status.Status.TheVariants.{Running}
 use Rattle.ft_semantics.specs.State.{State}
 use Rattle.ft_semantics.specs.Strike.{struck_state, is_running, is_site, is_there}
@@ -19,17 +17,13 @@ use Rattle.ft_machine.specs.Spans.{span}
 use Rattle.ft_semantics.proofs.Runs.{stop_of, is_not_running, outputs_grow}
 use Rattle.ft_semantics.proofs.Struck.{struck_there}
 use Rattle.ft_tolerance.proofs.Masking.{before}
+use Rattle.ft_tolerance.proofs.Statuses.{running_is}
 use Rattle.ft_machine.proofs.Spanned.{joined}
 use Rattle.ft_campaign.specs.declared.clean.KeptRun.{KeptRun}
 use Rattle.ft_campaign.specs.declared.clean.Snapshot.{Snapshot}
 use Rattle.ft_campaign.specs.Snapshots.{IsSnapshot, IsClean, IsRacing}
 use Rattle.ft_campaign.proofs.Meetings.{run_free}
 use Rattle.ft_campaign.proofs.Racing.{count_fits}
-
-is_running_so : (v : Status) → is_running v ≡ true → v ≡ Running
-is_running_so status.Running h = refl
-is_running_so status.Done h = absurd (cc)
-is_running_so status.Detected h = absurd (cc)
 
 pub struck_early : (o : Object) (x : Strike) (w : List Wild) (n : ℕ) → is_struck o (Some x) w n ≡ true → x.step < n
 struck_early o x w n h = ltb-true x.step n (and_parts (nat_lt x.step n)
@@ -41,7 +35,7 @@ same_at_strike o x w = sym (before o x w x.step (omega arith))
 pub struck_running : (o : Object) (x : Strike) (w : List Wild) (n : ℕ) → is_struck o (Some x) w n ≡ true →
     status_after o (Some x) w x.step ≡ Running
 struck_running o x w n h =
-    is_running_so (status_after o (Some x) w x.step)
+    running_is (status_after o (Some x) w x.step)
     (and_parts (is_running (status_after o (Some x) w x.step))
     (is_site x.site (length (state_after o (Some x) w x.step).queue))
     (and_parts (nat_lt x.step n) (is_there (state_after o (Some x) w x.step) x.site) h).1).0

@@ -1,2 +1,3 @@
+mod Spent
 pub mod Turned
 mod Costs

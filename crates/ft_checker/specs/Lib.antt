@@ -1,2 +1,3 @@
 pub mod Judges
+pub mod Within
 pub mod Costs

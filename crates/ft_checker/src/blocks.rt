@@ -11,45 +11,61 @@ ghost use Rattle.ft_types.specs.Spellable.{IsSpellable};
 ghost use Rattle.ft_typing.specs.TypingRow.{row};
 ghost use Rattle.ft_types.specs.declared.object.Block.{Block as Started};
 ghost use Rattle.ft_rules.specs.Answers.{Grows, IsInstrOf, rule_cost};
-ghost use Rattle.ft_contexts.specs.Contexts.{HoldsForms, HoldsOwn, NamesTypes, context_in};
+ghost use Rattle.ft_contexts.specs.Contexts.{HoldsForms, HoldsShared, NamesTypes, context_in};
 ghost use Rattle.ft_checker.specs.Costs.{instrs_cost, visit_cost};
 ghost use Rattle.ft_checker.specs.Judges.{IsRefusalOf, IsStart, IsStartOf, Judges, StopsAt, Turns};
 ghost use Rattle.ft_contexts.specs.Costs.{tree_cost};
 
 use crate::error::CheckError;
 use crate::keys::keys_of;
-use ft_isa::{Instr, NoMemory, Steps};
+use ft_isa::{Instr, NoMemory};
+use ft_meter::Meter;
 use ft_norm::Interner;
 use ft_rules::{Context, Next, RuleError, Shared, Why, apply_rule_over};
 use ft_types::{Program, end_of};
 use std::alloc::Global;
-use std::sync::ledger::Ledger;
+
+/// The maximum number of rows that a transfer reads: those of a substitution for 128 integer variables and the memory, of
+/// 64 registers and of 8 pairs, two expressions each, and one more memory.
+const ROWS: u64 = 210;
+
+/// The work of an instruction apart from its steps and its operation: the rows that a transfer reads, and the nodes from
+/// which it may forget; or the cells of a run.
+#[inline(always)]
+fn price(shared: &Shared, instr: &Instr) -> u64 {
+    match *instr {
+        Instr::JmpB { .. } | Instr::BzB { .. } => ROWS.saturating_add(shared.made.len() as u64),
+        Instr::Idx { length, .. } => length as u64,
+        _ => 1,
+    }
+}
 
 /// Types one instruction; `last` says whether it is the last of its block. Returns whether the block has ended.
-fn turn<P: Program, L: Ledger>(
+fn turn<P: Program, M: Meter>(
     context: &mut Context,
     shared: &mut Shared,
     forms: &mut Interner,
     program: &P,
     instr: &Instr,
     last: bool,
-    steps: &mut Steps<L>,
+    meter: &mut M,
 ) -> Result<bool, RuleError>
     requires spellable { IsSpellable (P.object program.now) }
     requires held { HoldsForms forms.old context.old }
     requires types { NamesTypes (P.object program.now) context.old }
     requires instr { IsInstrOf (P.object program.now) instr.now }
-    requires own { HoldsOwn (P.object program.now) forms.old shared.old.own }
+    requires shared { HoldsShared (P.object program.now) forms.old shared.old }
     ensures turns { (k : ℕ) (others : List Instruction) (next : Defined → Option (ℕ × Premise)) → has_none others ≡ last
         → Turns (after_row (row (P.object program.now) (context_in forms.old context.old) instr.now) k others next) k (next (context_in forms.new context.new)) result }
     ensures held { HoldsForms forms.new context.new }
     ensures types { NamesTypes (P.object program.now) context.new }
     ensures grows { Grows forms.old forms.new context.old context.new }
     ensures kept { Keeps forms.old forms.new }
-    ensures own { HoldsOwn (P.object program.now) forms.new shared.new.own }
-    ensures steps { steps.new ≤ steps.old + rule_cost (P.object program.now) (context_in forms.old context.old) instr.now }
+    ensures shared { HoldsShared (P.object program.now) forms.new shared.new }
+    ensures steps { M.counted meter.new ≤ M.counted meter.old + rule_cost (P.object program.now) (context_in forms.old context.old) instr.now }
 {
-    let next = apply_rule_over(context, shared, forms, program, instr, steps)?;
+    meter.pay(price(shared, instr))?;
+    let next = apply_rule_over(context, shared, forms, program, instr, meter)?;
     match next {
         Next::On => {
             if last {
@@ -94,30 +110,30 @@ fn is_start_of(last: &Option<Start>, t: u32) -> bool
 }
 
 /// Makes the start of code type `t` in place of the last one made, unless that is already of this code type.
-fn renew<P: Program, L: Ledger>(
+fn renew<P: Program, M: Meter>(
     last: &mut Option<Start>,
     alloc: Global,
     program: &P,
     t: u32,
     shared: &mut Shared,
     forms: &mut Interner,
-    steps: &mut Steps<L>,
+    meter: &mut M,
 ) -> Result<(), NoMemory>
     requires spellable { IsSpellable (P.object program.now) }
     requires there { t < length (P.object program.now).types }
     requires last { IfSome last.old (IsStart (P.object program.now) forms.old) }
-    requires own { HoldsOwn (P.object program.now) forms.old shared.old.own }
+    requires shared { HoldsShared (P.object program.now) forms.old shared.old }
     ensures kept { Keeps forms.old forms.new }
-    ensures own { HoldsOwn (P.object program.now) forms.new shared.new.own }
+    ensures shared { HoldsShared (P.object program.now) forms.new shared.new }
     ensures start { OnOk result (IfSome last.new (IsStart (P.object program.now) forms.new)) }
     ensures code_type { OnOk result (IsStartOf t last.new) }
-    ensures steps { steps.new ≤ steps.old + 81 * tree_cost (P.object program.now) 0 }
+    ensures steps { M.counted meter.new ≤ M.counted meter.old + 81 * tree_cost (P.object program.now) 0 }
 {
     let goes_on = is_start_of(last, t);
     if goes_on {
         return Ok(());
     }
-    let context = Context::start_over(alloc, program, t, &mut shared.own, forms, steps)?;
+    let context = Context::start_over(alloc, program, t, &mut shared.own, forms, meter)?;
     *last = Some(Start {
         code_type: t,
         context,
@@ -127,24 +143,24 @@ fn renew<P: Program, L: Ledger>(
 
 /// Types the instructions of block `b` in order, from the start of its code type. What the context held before does not
 /// matter.
-fn check_block<P: Program, L: Ledger>(
+fn check_block<P: Program, M: Meter>(
     program: &P,
     b: u32,
     start: &Start,
     context: &mut Context,
     shared: &mut Shared,
     forms: &mut Interner,
-    steps: &mut Steps<L>,
+    meter: &mut M,
 ) -> Result<(), CheckError>
     requires spellable { IsSpellable (P.object program.now) }
     requires there { b < length (P.object program.now).blocks }
     requires start { IsStart (P.object program.now) forms.old start.now }
     requires code_type { (x : Started) → slice_get (P.object program.now).blocks b ≡ Some x → start.now.code_type ≡ x.code_type }
-    requires own { HoldsOwn (P.object program.now) forms.old shared.old.own }
+    requires shared { HoldsShared (P.object program.now) forms.old shared.old }
     ensures kept { Keeps forms.old forms.new }
-    ensures own { HoldsOwn (P.object program.now) forms.new shared.new.own }
+    ensures shared { HoldsShared (P.object program.now) forms.new shared.new }
     ensures judged { (x : Started) → slice_get (P.object program.now).blocks b ≡ Some x → Judges (block_refusal (P.object program.now) b x) result }
-    ensures steps { (x : Started) → slice_get (P.object program.now).blocks b ≡ Some x → steps.new + instrs_cost (P.object program.now) (take x.start (P.object program.now).instrs) ≤ steps.old + instrs_cost (P.object program.now) (take (block_end (P.object program.now) b) (P.object program.now).instrs) }
+    ensures steps { (x : Started) → slice_get (P.object program.now).blocks b ≡ Some x → M.counted meter.new + instrs_cost (P.object program.now) (take x.start (P.object program.now).instrs) ≤ M.counted meter.old + instrs_cost (P.object program.now) (take (block_end (P.object program.now) b) (P.object program.now).instrs) }
 {
     let block = program.block(b);
     let past = end_of(program, b);
@@ -152,7 +168,7 @@ fn check_block<P: Program, L: Ledger>(
     for i in block.start..past {
         let instr = program.instr(i);
         let last = i + 1 == past;
-        let ended = match turn(context, shared, forms, program, &instr, last, steps) {
+        let ended = match turn(context, shared, forms, program, &instr, last, meter) {
             Ok(ended) => ended,
             Err(error) => return Err(refused(b, i - block.start, error)),
         };
@@ -164,14 +180,14 @@ fn check_block<P: Program, L: Ledger>(
 }
 
 /// Types the blocks in order.
-pub fn check_blocks<P: Program, L: Ledger>(
+pub fn check_blocks<P: Program, M: Meter>(
     alloc: Global,
     program: &P,
-    steps: &mut Steps<L>,
+    meter: &mut M,
 ) -> Result<(), CheckError>
     requires { IsSpellable (P.object program.now) }
     ensures judged { Judges (first_refusal (block_refusal (P.object program.now)) 0 (P.object program.now).blocks) result }
-    ensures steps { steps.new ≤ steps.old + (length (P.object program.now).blocks * visit_cost (P.object program.now) + instrs_cost (P.object program.now) (P.object program.now).instrs) }
+    ensures steps { M.counted meter.new ≤ M.counted meter.old + (length (P.object program.now).blocks * visit_cost (P.object program.now) + instrs_cost (P.object program.now) (P.object program.now).instrs) }
 {
     let blocks = program.counts().blocks;
     let (first, second) = keys_of(program);
@@ -181,7 +197,7 @@ pub fn check_blocks<P: Program, L: Ledger>(
     let mut last = None;
     for b in 0..blocks {
         let t = program.block(b).code_type;
-        renew(&mut last, alloc, program, t, &mut shared, &mut forms, steps)?;
+        renew(&mut last, alloc, program, t, &mut shared, &mut forms, meter)?;
         let Some(start) = &last else {
             unreachable!();
         };
@@ -192,7 +208,7 @@ pub fn check_blocks<P: Program, L: Ledger>(
             &mut context,
             &mut shared,
             &mut forms,
-            steps,
+            meter,
         )?;
     }
     Ok(())

@@ -11,35 +11,48 @@ use crate::checked::Checked;
 use crate::entry::is_entry_type;
 use crate::error::CheckError;
 use ft_isa::Steps;
+use ft_meter::Meter;
 use ft_types::Program;
 use std::alloc::Global;
 use std::marker::Brand;
 use std::sync::ledger::{Blank, Ledger};
 
-/// Tests the entry block's code type, then the cells, then the blocks.
-fn judge<P: Program, L: Ledger>(
+/// How many records and nodes are read once.
+#[inline(always)]
+fn records<P: Program>(program: &P) -> u64
+    requires { IsSpellable (P.object program.now) }
+{
+    let counts = program.counts();
+    let code = counts.blocks as u64 + counts.instrs as u64 + counts.substs as u64;
+    code + counts.cells as u64 + counts.types as u64 + program.node_count() as u64
+}
+
+/// Tests the entry block's code type, then the cells, then the blocks. It gives up with `NoMemory` if the meter refuses
+/// steps or work.
+pub(crate) fn judge<P: Program, M: Meter>(
     alloc: Global,
     program: &P,
-    steps: &mut Steps<L>,
+    meter: &mut M,
 ) -> Result<(), CheckError>
     requires { IsSpellable (P.object program.now) }
     ensures judged { Judges (refusal (P.object program.now)) result }
-    ensures steps { steps.new ≤ steps.old + check_cost (P.object program.now) }
+    ensures steps { M.counted meter.new ≤ M.counted meter.old + check_cost (P.object program.now) }
 {
+    meter.pay(records(program))?;
     let first = program.block(program.entry()).code_type;
     let begins = is_entry_type(program, first);
     if !begins {
         return Err(CheckError::EntryType);
     }
     check_cells(program)?;
-    check_blocks(alloc, program, steps)
+    check_blocks(alloc, program, meter)
 }
 
 /// Checks a program. Unless memory runs out, it returns Ok exactly when the program's object is accepted, and otherwise
 /// the refusal: first `EntryType`, then `CellType` for the lowest cell whose initial word has another type, then
 /// `Refused` for the first refused instruction, taking the blocks in order. `NoMemory` says nothing about the object.
-/// It counts a step for each node handled, for each update that a `sel` walks past, and for each update applied for a
-/// pending memory.
+/// It counts a step for each node handled, for each update at which the walk of a `sel` goes on, and for each update
+/// applied for a pending memory.
 pub fn check<'a, P: Program, L: Ledger>(
     alloc: Global,
     program: &'a P,

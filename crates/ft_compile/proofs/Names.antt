@@ -26,7 +26,7 @@ all_same (b ∷ bs) = ap (λ x. x && list_all is_cell_byte bs) (bytes_same b)
     ∙ ap (λ x. spell.is_name_byte b && x) (all_same bs)
 
 -- so are names
-names_same : (t : List ℕ) → is_cell_text t ≡ spell.is_name t
+pub names_same : (t : List ℕ) → is_cell_text t ≡ spell.is_name t
 names_same [] = refl
 names_same (b ∷ bs) = ap (λ x. x && list_all is_cell_byte bs) (letters_same b)
     ∙ ap (λ x. spell.is_letter b && x) (all_same bs)

@@ -17,6 +17,7 @@ use Rattle.ft_meaning.specs.Lines.{line_of, output_lines}
 use Rattle.ft_meaning.specs.Meaning.{State, Ended, Cut, outputs, meaning}
 use Rattle.ft_compile.specs.StandsFor.{StandsFor}
 use Rattle.ft_compile.specs.Laws.{object_lines, LinesBegin}
+use Rattle.ft_compile.proofs.OtherWords.{own_run}
 
 -- an output has the same line with the object's cell names as with these names
 same_line : (o : Object) (names : List (List ℕ)) → map name_of o.cells ≡ names → (x : Output) → line_at o x
@@ -50,7 +51,7 @@ lines_begin names xs ys h = (
 pub done_lines : (p : Program) (o : Object) → StandsFor p o → (n : ℕ) → status_after o None [] n ≡ Done → (s : State)
     × (meaning p n ≡ Ended s) × (object_lines o (outputs_after o None [] n) ≡ output_lines p.names s.out)
 done_lines p o h n d =
-    let m = h.run.done n d in
+    let m = (own_run p o h).done n d in
     (m.0, m.1, same_lines p o h (outputs_after o None [] n) ∙ ap (output_lines p.names) m.2)
 
 -- the lines of a run that is running are a prefix of the meaning's lines
@@ -59,14 +60,14 @@ pub running_lines : (p : Program) (o : Object) → StandsFor p o → (n : ℕ) �
 running_lines p o h n r =
     subst (λ ls. LinesBegin ls (output_lines p.names (outputs (meaning p n))))
     (sym (same_lines p o h (outputs_after o None [] n)))
-    (lines_begin p.names (outputs_after o None [] n) (outputs (meaning p n)) (h.run.running n r))
+    (lines_begin p.names (outputs_after o None [] n) (outputs (meaning p n)) ((own_run p o h).running n r))
 
 -- if the meaning ends, the run ends with its lines
 pub ended_lines : (p : Program) (o : Object) → StandsFor p o → (n t : ℕ) (s : State) → meaning p t ≡ Ended s →
     16 * s.work + 320 ≤ n → (status_after o None [] n ≡ Done)
     × (object_lines o (outputs_after o None [] n) ≡ output_lines p.names s.out)
 ended_lines p o h n t s e lt =
-    let m = h.run.ends n t s e lt in
+    let m = (own_run p o h).ends n t s e lt in
     (m.0, same_lines p o h (outputs_after o None [] n) ∙ ap (output_lines p.names) m.1)
 
 -- the lines of a meaning that is cut are a prefix of the run's lines
@@ -74,4 +75,4 @@ pub cut_lines : (p : Program) (o : Object) → StandsFor p o → (n t : ℕ) (s 
     16 * s.work + 320 ≤ n → LinesBegin (output_lines p.names s.out) (object_lines o (outputs_after o None [] n))
 cut_lines p o h n t s e lt =
     subst (LinesBegin (output_lines p.names s.out)) (sym (same_lines p o h (outputs_after o None [] n)))
-    (lines_begin p.names s.out (outputs_after o None [] n) (h.run.cuts n t s e lt))
+    (lines_begin p.names s.out (outputs_after o None [] n) ((own_run p o h).cuts n t s e lt))

@@ -15,6 +15,7 @@ use Rattle.ft_types.specs.declared.object.CodeType.{CodeType}
 use Rattle.ft_types.specs.declared.object.RegType.{RegType}
 use Rattle.ft_scope.specs.Resolved.{Program, program_need, program_weight}
 use Rattle.ft_lower.specs.Flow.{Blocks}
+use Rattle.ft_lower.specs.Lowered.{lowered}
 use Rattle.ft_lower.specs.Lowers.{Lowers}
 use Rattle.ft_lower.specs.Size.{PairsBelow, blocks_size}
 use Rattle.ft_lower.specs.Well.{IsWell}
@@ -90,9 +91,14 @@ emitted names inits vars bs = record {
   entry = 0;
 }
 
+-- the object to which a program is compiled: that of the blocks to which it is lowered
+abbrev pub compiled_object : Program → Object
+compiled_object p = emitted p.names p.inits p.vars (lowered p)
+
 -- the object is that of a flow of the program, over the program's cells and at most 32 variables: the flow's blocks are
--- well formed, their run commits the outputs of the program's meaning and ends when the meaning ends, they become at
--- most as many instructions as the program weighs, and all their pairs are below the program's need
+-- well formed, their run over any initial words commits the outputs of the meaning of the program with these words and
+-- ends when the meaning ends, they become at most as many instructions as the program weighs, and all their pairs are
+-- below the program's need
 pub record IsEmitted (p : Program) (o : Object) : Type 0 where
   pub flow : Blocks
   pub few : p.vars ≤ 32

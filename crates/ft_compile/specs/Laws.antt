@@ -10,6 +10,7 @@ use Rattle.ft_types.specs.Spellable.{IsSpellable}
 use Rattle.ft_types.specs.Texts.{line_at}
 use Rattle.ft_scope.specs.Outcome.{IsProgramOf}
 use Rattle.ft_scope.specs.Resolved.{Program}
+use Rattle.ft_scope.specs.InitialWords.{program_with_words, AreInitialWords}
 use Rattle.ft_meaning.specs.Lines.{output_lines}
 use Rattle.ft_meaning.specs.Meaning.{State, Ended, Cut, outputs, meaning}
 use Rattle.ft_lower.specs.Flow.{Blocks}
@@ -17,15 +18,29 @@ use Rattle.ft_lower.specs.Lowers.{Lowers}
 use Rattle.ft_lower.specs.Size.{blocks_size}
 use Rattle.ft_lower.specs.Well.{IsWell}
 use Rattle.ft_dup.specs.Doubles.{IsIntCell, words_of, Carries, RunsAs}
+use Rattle.ft_compile.specs.InitialWords.{object_with_words}
 use Rattle.ft_compile.specs.StandsFor.{RunsAsMeant, StandsFor}
 use Rattle.ft_compile.specs.Cells.{AreCells}
-use Rattle.ft_compile.specs.Emitted.{emitted, IsEmitted}
+use Rattle.ft_compile.specs.Emitted.{emitted, compiled_object, IsEmitted}
 use Rattle.ft_exchange.specs.Scheduled.{ComesFrom}
 use Rattle.ft_modules.specs.Linkable.{IsModule}
 
--- an object that carries the blocks to which a program is lowered, with its initial words, runs as the program means
+-- an object that carries the blocks to which a program is lowered, with as many cells, runs as the program with the
+-- object's initial words means
 abbrev pub CarriedBlocksRunAsMeant : Type 0
-CarriedBlocksRunAsMeant = (p : Program) (vars cells : ℕ) (bs : Blocks) (o : Object) → Lowers p bs → RunsAs vars cells bs → Carries o cells bs → words_of o ≡ p.inits → RunsAsMeant p o
+CarriedBlocksRunAsMeant = (p : Program) (vars cells : ℕ) (bs : Blocks) (o : Object) → Lowers p bs → RunsAs vars cells bs → Carries o cells bs → length (words_of o) ≡ length p.inits → RunsAsMeant (program_with_words p (words_of o)) o
+
+-- so does such an object with the program's initial words, as the program means
+abbrev pub OwnBlocksRunAsMeant : Type 0
+OwnBlocksRunAsMeant = (p : Program) (vars cells : ℕ) (bs : Blocks) (o : Object) → Lowers p bs → RunsAs vars cells bs → Carries o cells bs → words_of o ≡ p.inits → RunsAsMeant p o
+
+-- the run of an object that stands for a program does what the program means
+abbrev pub OwnWordsRunAsMeant : Type 0
+OwnWordsRunAsMeant = (p : Program) (o : Object) → StandsFor p o → RunsAsMeant p o
+
+-- an object that stands for a program does so with any initial words, for the program with these words
+abbrev pub AllWordsStand : Type 0
+AllWordsStand = (p : Program) (o : Object) (words : List ℕ) → StandsFor p o → AreInitialWords p words → StandsFor (program_with_words p words) (object_with_words o words)
 
 -- an object that carries these blocks over cells of type `int` with these names and initial words, and is spellable and
 -- accepted
@@ -46,9 +61,9 @@ EmittedObjectsAreAccepted = (names : List (List ℕ)) (inits : List ℕ) (vars :
 abbrev pub ProgramsHaveCells : Type 0
 ProgramsHaveCells = (text : List ℕ) (p : Program) → IsProgramOf text p → AreCells p.names p.inits
 
--- each program of a text has an object that stands for it and is the object of a flow of the program
+-- the object to which a text's program is compiled stands for the program and is the object of a flow of the program
 abbrev pub ProgramsHaveObjects : Type 0
-ProgramsHaveObjects = (text : List ℕ) (p : Program) → IsProgramOf text p → (o : Object) × (StandsFor p o × IsEmitted p o)
+ProgramsHaveObjects = (text : List ℕ) (p : Program) → IsProgramOf text p → StandsFor p (compiled_object p) × IsEmitted p (compiled_object p)
 
 -- the object of a flow of a text's program is a module: the linker's refusals 3, 4 and 5 do not apply to it
 abbrev pub CompiledObjectsAreModules : Type 0

@@ -1,4 +1,6 @@
+pub mod InitialWords
 pub mod StandsFor
+pub mod FlowObjects
 pub mod Cells
 pub mod Noted
 pub mod Emitted

@@ -1,5 +1,5 @@
 -- When an object stands for a program.
-use Rattle.std.specs.Prelude.{◌≡◌, ◌≢◌, ℕ, ◌+◌, ◌*◌, ◌≤◌, [], length, map, None, All}
+use Rattle.std.specs.Prelude.{◌≡◌, ◌≢◌, ℕ, ◌+◌, ◌*◌, ◌≤◌, List, [], length, map, None, All}
 use Rattle.ft_semantics.specs.declared.status.Status.TheVariants.{Running, Done, Detected}
 use Rattle.ft_types.specs.declared.object.Object.{Object}
 use Rattle.ft_types.specs.declared.object.Cell.{Cell}
@@ -8,9 +8,11 @@ use Rattle.ft_types.specs.Objects.{name_of}
 use Rattle.ft_semantics.specs.Run.{outputs_after, status_after}
 use Rattle.ft_types.specs.Spellable.{IsSpellable}
 use Rattle.ft_scope.specs.Resolved.{Program, program_weight}
+use Rattle.ft_scope.specs.InitialWords.{program_with_words, AreInitialWords}
 use Rattle.ft_dup.specs.Doubles.{IsIntCell}
 use Rattle.ft_meaning.specs.Meaning.{State, Ended, Cut, outputs, meaning}
 use Rattle.ft_meaning.specs.Begins.{Begins}
+use Rattle.ft_compile.specs.InitialWords.{object_with_words}
 
 -- the object's run, without a strike and without answers to wild loads, does what the program means
 pub record RunsAsMeant (p : Program) (o : Object) : Type 0 where
@@ -31,8 +33,8 @@ abbrev pub initial_word : Cell → ℕ
 initial_word c = c.init
 
 -- an object stands for a program: it has the program's cells in order, with their names and initial words, all of type
--- `int`; it is spellable and accepted; it has at most as many instructions as the program weighs; and its run does what
--- the program means
+-- `int`; it is spellable and accepted; it has at most as many instructions as the program weighs; and whatever initial
+-- words its cells are given, its run does what the program with these initial words means
 pub record StandsFor (p : Program) (o : Object) : Type 0 where
   pub names : map name_of o.cells ≡ p.names
   pub inits : map initial_word o.cells ≡ p.inits
@@ -40,4 +42,4 @@ pub record StandsFor (p : Program) (o : Object) : Type 0 where
   pub spellable : IsSpellable o
   pub accepted : IsAccepted o
   pub short : length o.instrs ≤ program_weight p
-  pub run : RunsAsMeant p o
+  pub run : (words : List ℕ) → AreInitialWords p words → RunsAsMeant (program_with_words p words) (object_with_words o words)

@@ -1,10 +1,11 @@
 //! Laws of the definitions, each the contract of a function that does nothing.
-ghost use Rattle.ft_compile.specs.Laws.{CarriedBlocksRunAsMeant, CompiledObjectsAreModules, CutMeaningsBeginTheRun, DoneRunsWriteTheMeaning, EmittedObjectsAreAccepted, EndedMeaningsAreWritten, LinesAreByTheProgramsNames, ProgramsHaveCells, ProgramsHaveObjects, RunningRunsBeginTheMeaning, SchedulesOfCompiledObjectsAreModules};
+ghost use Rattle.ft_compile.specs.Laws.{AllWordsStand, CarriedBlocksRunAsMeant, CompiledObjectsAreModules, CutMeaningsBeginTheRun, DoneRunsWriteTheMeaning, EmittedObjectsAreAccepted, EndedMeaningsAreWritten, LinesAreByTheProgramsNames, OwnBlocksRunAsMeant, OwnWordsRunAsMeant, ProgramsHaveCells, ProgramsHaveObjects, RunningRunsBeginTheMeaning, SchedulesOfCompiledObjectsAreModules};
 
-/// An object that carries the blocks to which a program is lowered, with the program's initial words, runs as the
-/// program means.
+/// An object that carries the blocks to which a program is lowered runs as the program means, with the object's initial
+/// words for the program's.
 pub fn carried_blocks_run_as_meant()
-    ensures { CarriedBlocksRunAsMeant }
+    ensures all { CarriedBlocksRunAsMeant }
+    ensures own { OwnBlocksRunAsMeant }
 {}
 
 /// The object of well-formed blocks, over at most 1,024 cells with valid names, carries these blocks, and is spellable
@@ -19,7 +20,14 @@ pub fn programs_have_cells()
     ensures { ProgramsHaveCells }
 {}
 
-/// Each text that is a program has an object that stands for the program.
+/// The run of an object that stands for a program does what the program means. With other initial words in its cells,
+/// the object stands for the program with these words.
+pub fn all_words_stand()
+    ensures own { OwnWordsRunAsMeant }
+    ensures all { AllWordsStand }
+{}
+
+/// The object to which a text's program is compiled stands for the program.
 pub fn programs_have_objects()
     ensures { ProgramsHaveObjects }
 {}

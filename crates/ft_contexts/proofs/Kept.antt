@@ -15,9 +15,10 @@ use Rattle.ft_contexts.specs.declared.destination.StateD.TheVariants.{Zero, Code
 use Rattle.ft_contexts.specs.declared.variables.OwnVariables.{OwnVariables}
 use Rattle.ft_contexts.specs.declared.variables.Variables.{Variables}
 use Rattle.ft_contexts.specs.declared.context.Context.{Context}
+use Rattle.ft_contexts.specs.declared.transfers.Shared.{Shared}
 use Rattle.ft_contexts.specs.Contexts.{typed_in, registers_in, d_in, pair_in, context_in, replacement_in}
-use Rattle.ft_contexts.specs.Contexts.{HoldsVariables, AreOwn, HoldsOwn, RemembersUnder, HoldsD, HoldsRegisters}
-use Rattle.ft_contexts.specs.Contexts.{HoldsQueue, HoldsForms}
+use Rattle.ft_contexts.specs.Contexts.{HoldsVariables, AreOwn, HoldsOwn, HoldsShared, RemembersUnder, HoldsD}
+use Rattle.ft_contexts.specs.Contexts.{HoldsQueue, HoldsForms, HoldsRegisters}
 
 -- a form that is held as p has the polynomial p
 pub polynomial_found : (fs : List Normal) (f : Form) (p : Polynomial) → held fs f ≡ Some (integer_form p) →
@@ -103,6 +104,33 @@ pub owned_kept : (o : Object) (fs gs : List Normal) (v : OwnVariables) → Keeps
 owned_kept o fs gs v k h = record {
   own = own_kept fs gs 128 v.variables k h.own;
   made = under_kept o fs gs v.variables v.made k (own_held fs 128 v.variables h.own) h.made;
+}
+
+-- `HoldsShared` is preserved
+pub shared_kept : (o : Object) (fs gs : List Normal) (s : Shared) → Keeps fs gs → HoldsShared o fs s →
+    HoldsShared o gs s
+shared_kept o fs gs s k h = record {
+  own = owned_kept o fs gs s.own k h.own;
+  put = variables_kept fs gs s.put k h.put;
+  made = under_kept o fs gs s.put s.made k h.put h.made;
+}
+
+-- likewise if more was made for nodes
+pub shared_made : (o : Object) (fs gs : List Normal) (s : Shared) (m : Memo) → Keeps fs gs → HoldsShared o fs s →
+    RemembersUnder o gs s.put m → HoldsShared o gs (record s { made = m })
+shared_made o fs gs s m k h r = record {
+  own = owned_kept o fs gs s.own k h.own;
+  put = variables_kept fs gs s.put k h.put;
+  made = r;
+}
+
+-- likewise if the variables substituted for themselves have made more
+pub shared_own : (o : Object) (fs gs : List Normal) (s : Shared) (v : OwnVariables) → Keeps fs gs → HoldsShared o fs s →
+    HoldsOwn o gs v → HoldsShared o gs (record s { own = v })
+shared_own o fs gs s v k h w = record {
+  own = w;
+  put = variables_kept fs gs s.put k h.put;
+  made = under_kept o fs gs s.put s.made k h.put h.made;
 }
 
 -- CONTEXTS

@@ -4,6 +4,7 @@ pub mod Registers
 pub mod Nodes
 pub mod Spelled
 pub mod Same
+mod SameForms
 pub mod Turns
 pub mod Pairs
 pub mod Costs

@@ -18,6 +18,7 @@ use Rattle.ft_norm.specs.Memos.{Remembers}
 use Rattle.ft_contexts.specs.declared.variables.OwnVariables.{OwnVariables}
 use Rattle.ft_contexts.specs.declared.variables.Variables.{Variables}
 use Rattle.ft_contexts.specs.declared.context.Context.{Context}
+use Rattle.ft_contexts.specs.declared.transfers.Shared.{Shared}
 
 -- WHAT A CONTEXT MEANS
 
@@ -88,6 +89,12 @@ RemembersUnder o fs v m = Remembers o.nodes fs v.integers v.memory m
 pub record HoldsOwn (o : Object) (fs : List Normal) (v : OwnVariables) : Type 0 where
   pub own : AreOwn fs 128 v.variables
   pub made : RemembersUnder o fs v.variables v.made
+
+-- the forms of what blocks share are held, and what is remembered of an object's nodes is right
+pub record HoldsShared (o : Object) (fs : List Normal) (s : Shared) : Type 0 where
+  pub own : HoldsOwn o fs s.own
+  pub put : HoldsVariables fs s.put
+  pub made : RemembersUnder o fs s.put s.made
 
 -- the forms of d's state are held
 abbrev pub HoldsD : List Normal → StateD → Type 0

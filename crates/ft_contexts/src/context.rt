@@ -13,11 +13,11 @@ use crate::register::RegForm;
 use crate::sequence::Sequence;
 use crate::start::{QUEUE_ROOM, start_queue, start_registers};
 use crate::variables::OwnVariables;
-use ft_isa::{Colour, NoMemory, Reg, Steps};
+use ft_isa::{Colour, NoMemory, Reg};
+use ft_meter::Meter;
 use ft_norm::{Form, Interner};
 use ft_types::Program;
 use std::alloc::Global;
-use std::sync::ledger::Ledger;
 
 /// What is known at a place in a block: the number of the block's integer variables, what is known of each register and
 /// of d, the static queue with the oldest pair first, and the form of the memory. Its forms belong to the interner with
@@ -38,12 +38,12 @@ impl Context {
 
     /// The context at the start of a block of code type `t`: the type's registers, queue and memory, with its variables
     /// unchanged, and 0 in d.
-    pub fn start<P: Program, L: Ledger>(
+    pub fn start<P: Program, M: Meter>(
         alloc: Global,
         program: &P,
         t: u32,
         forms: &mut Interner,
-        steps: &mut Steps<L>,
+        meter: &mut M,
     ) -> Result<Context, NoMemory>
         requires spellable { IsSpellable (P.object program.now) }
         requires there { t < length (P.object program.now).types }
@@ -53,20 +53,20 @@ impl Context {
         ensures types { IfOk result (NamesTypes (P.object program.now)) }
         ensures pending { IfOk result (λ c. pending_count c ≤ 8) }
         ensures count { IfOk result (λ c. updates (context_in forms.new c).memory ≤ length (P.object program.now).nodes) }
-        ensures steps { steps.new ≤ steps.old + 81 * tree_cost (P.object program.now) 0 }
+        ensures steps { M.counted meter.new ≤ M.counted meter.old + 81 * tree_cost (P.object program.now) 0 }
     {
         let mut own = OwnVariables::new(alloc, forms)?;
-        Context::start_over(alloc, program, t, &mut own, forms, steps)
+        Context::start_over(alloc, program, t, &mut own, forms, meter)
     }
 
     /// The same context as `start` makes, over variables that earlier blocks may have used.
-    pub fn start_over<P: Program, L: Ledger>(
+    pub fn start_over<P: Program, M: Meter>(
         alloc: Global,
         program: &P,
         t: u32,
         own: &mut OwnVariables,
         forms: &mut Interner,
-        steps: &mut Steps<L>,
+        meter: &mut M,
     ) -> Result<Context, NoMemory>
         requires spellable { IsSpellable (P.object program.now) }
         requires there { t < length (P.object program.now).types }
@@ -78,12 +78,12 @@ impl Context {
         ensures types { IfOk result (NamesTypes (P.object program.now)) }
         ensures pending { IfOk result (λ c. pending_count c ≤ 8) }
         ensures count { IfOk result (λ c. updates (context_in forms.new c).memory ≤ length (P.object program.now).nodes) }
-        ensures steps { steps.new ≤ steps.old + 81 * tree_cost (P.object program.now) 0 }
+        ensures steps { M.counted meter.new ≤ M.counted meter.old + 81 * tree_cost (P.object program.now) 0 }
     {
         let head = program.code_type(t);
-        let memory = own.memory(program, head.memory, forms, steps)?;
-        let registers = start_registers(program, t, head.regs, own, forms, steps)?;
-        let queue = start_queue(alloc, program, t, head.queue, own, forms, steps)?;
+        let memory = own.memory(program, head.memory, forms, meter)?;
+        let registers = start_registers(program, t, head.regs, own, forms, meter)?;
+        let queue = start_queue(alloc, program, t, head.queue, own, forms, meter)?;
         Ok(Context {
             alloc,
             ints: head.ints,
@@ -174,21 +174,17 @@ impl Context {
     }
 
     /// The form of the memory after the pending stores, oldest first.
-    fn pending<L: Ledger>(
-        &self,
-        forms: &mut Interner,
-        steps: &mut Steps<L>,
-    ) -> Result<Form, NoMemory>
+    fn pending<M: Meter>(&self, forms: &mut Interner, meter: &mut M) -> Result<Form, NoMemory>
         requires { HoldsForms forms.old self.now }
         ensures kept { Keeps forms.old forms.new }
         ensures form { IfOk result (λ f. held forms.new f ≡ Some (memory_form (seen_memory Colour.Green (context_in forms.old self.now)))) }
         ensures count { IfOk result (λ f. updates (updates_held forms.new f) ≤ updates (context_in forms.old self.now).memory + pending_count self.now) }
-        ensures steps { steps.new ≤ steps.old + pending_count self.now }
+        ensures steps { M.counted meter.new ≤ M.counted meter.old + pending_count self.now }
     {
         let mut memory = self.memory;
         for j in 0..self.queue.len() {
             let (address, value) = self.queue.at(j);
-            steps.tick();
+            meter.take(1)?;
             memory = forms.upd(memory, address, value)?;
         }
         Ok(memory)
@@ -196,20 +192,20 @@ impl Context {
 
     /// The form of the memory that a load of this colour sees: a green load sees the pending stores. Each update
     /// applied counts as a step.
-    pub fn seen<L: Ledger>(
+    pub fn seen<M: Meter>(
         &self,
         colour: Colour,
         forms: &mut Interner,
-        steps: &mut Steps<L>,
+        meter: &mut M,
     ) -> Result<Form, NoMemory>
         requires { HoldsForms forms.old self.now }
         ensures kept { Keeps forms.old forms.new }
         ensures form { IfOk result (λ f. held forms.new f ≡ Some (memory_form (seen_memory colour (context_in forms.old self.now)))) }
         ensures count { IfOk result (λ f. updates (updates_held forms.new f) ≤ updates (context_in forms.old self.now).memory + pending_count self.now) }
-        ensures steps { steps.new ≤ steps.old + pending_count self.now }
+        ensures steps { M.counted meter.new ≤ M.counted meter.old + pending_count self.now }
     {
         match colour {
-            Colour::Green => self.pending(forms, steps),
+            Colour::Green => self.pending(forms, meter),
             Colour::Blue => Ok(self.memory),
         }
     }

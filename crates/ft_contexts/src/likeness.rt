@@ -15,11 +15,11 @@ use crate::context::Context;
 use crate::forms::{same_integers, same_memories};
 use crate::register::RegForm;
 use crate::variables::Variables;
-use ft_isa::{NoMemory, Steps, Subst};
+use ft_isa::{NoMemory, Subst};
+use ft_meter::Meter;
 use ft_norm::{Form, Interner, Memo};
 use ft_types::{Program, RegType};
 use ft_typing::{is_seen_as, same_colour};
-use std::sync::ledger::Ledger;
 
 /// Whether a node's scope is at most this many variables.
 fn is_within<P: Program>(program: &P, ints: u8, n: u32) -> bool
@@ -52,14 +52,14 @@ fn is_typed_like(known: RegForm, row: RegType) -> bool
 }
 
 /// Whether a pair of the static queue meets a row of the target.
-fn pair_is_like<P: Program, L: Ledger>(
+fn pair_is_like<P: Program, M: Meter>(
     pair: (Form, Form),
     put: &Variables,
     made: &mut Memo,
     program: &P,
     row: (u32, u32),
     forms: &mut Interner,
-    steps: &mut Steps<L>,
+    meter: &mut M,
 ) -> Result<bool, NoMemory>
     requires spellable { IsSpellable (P.object program.now) }
     requires row { IsQueueRow (P.object program.now).nodes (length put.now.integers) row }
@@ -70,13 +70,13 @@ fn pair_is_like<P: Program, L: Ledger>(
     ensures kept { Keeps forms.old forms.new }
     ensures made { RemembersUnder (P.object program.now) forms.new put.now made.new }
     ensures like { IfOk result (λ b. b ≡ (same_polynomial (polynomial forms.old pair.0) (integer_form_after (P.object program.now) (replacement_in forms.old put.now) row.0) && same_polynomial (polynomial forms.old pair.1) (integer_form_after (P.object program.now) (replacement_in forms.old put.now) row.1))) }
-    ensures steps { steps.new ≤ steps.old + 2 * tree_cost (P.object program.now) (updates (updates_held forms.old put.now.memory)) }
+    ensures steps { M.counted meter.new ≤ M.counted meter.old + 2 * tree_cost (P.object program.now) (updates (updates_held forms.old put.now.memory)) }
 {
-    let address = put.integer(program, row.0, made, forms, steps)?;
+    let address = put.integer(program, row.0, made, forms, meter)?;
     if !same_integers(forms, pair.0, address) {
         return Ok(false);
     }
-    let value = put.integer(program, row.1, made, forms, steps)?;
+    let value = put.integer(program, row.1, made, forms, meter)?;
     Ok(same_integers(forms, pair.1, value))
 }
 
@@ -106,14 +106,14 @@ impl Context {
 
     /// Whether a register meets a row of the target.
     #[tactic(auto, unfolding(ft_typing::specs::RowWords::is_like))]
-    fn register_is_like<P: Program, L: Ledger>(
+    fn register_is_like<P: Program, M: Meter>(
         &self,
         put: &Variables,
         made: &mut Memo,
         program: &P,
         row: RegType,
         forms: &mut Interner,
-        steps: &mut Steps<L>,
+        meter: &mut M,
     ) -> Result<bool, NoMemory>
         requires spellable { IsSpellable (P.object program.now) }
         requires row { IsRegRow (length (P.object program.now).types) (P.object program.now).nodes (length put.now.integers) row }
@@ -123,7 +123,7 @@ impl Context {
         ensures kept { Keeps forms.old forms.new }
         ensures made { RemembersUnder (P.object program.now) forms.new put.now made.new }
         ensures like { IfOk result (λ b. b ≡ is_like (P.object program.now) (replacement_in forms.old put.now) (typed (context_in forms.old self.now) row.reg.number) row) }
-        ensures steps { steps.new ≤ steps.old + tree_cost (P.object program.now) (updates (updates_held forms.old put.now.memory)) }
+        ensures steps { M.counted meter.new ≤ M.counted meter.old + tree_cost (P.object program.now) (updates (updates_held forms.old put.now.memory)) }
     {
         let known = match self.reg(row.reg) {
             Some(known) => known,
@@ -132,20 +132,20 @@ impl Context {
         if !is_typed_like(known, row) {
             return Ok(false);
         }
-        let wanted = put.integer(program, row.expr, made, forms, steps)?;
+        let wanted = put.integer(program, row.expr, made, forms, meter)?;
         Ok(same_integers(forms, known.form, wanted))
     }
 
     /// Whether each register that has a row in code type `t` meets that row, with these substituted for the type's
     /// variables.
-    pub fn registers_are_like<P: Program, L: Ledger>(
+    pub fn registers_are_like<P: Program, M: Meter>(
         &self,
         put: &Variables,
         made: &mut Memo,
         program: &P,
         t: u32,
         forms: &mut Interner,
-        steps: &mut Steps<L>,
+        meter: &mut M,
     ) -> Result<bool, NoMemory>
         requires spellable { IsSpellable (P.object program.now) }
         requires there { t < length (P.object program.now).types }
@@ -156,11 +156,11 @@ impl Context {
         ensures kept { Keeps forms.old forms.new }
         ensures made { RemembersUnder (P.object program.now) forms.new put.now made.new }
         ensures like { IfOk result (λ b. b ≡ are_like (P.object program.now) (replacement_in forms.old put.now) (context_in forms.old self.now) (reg_rows (P.object program.now) t)) }
-        ensures steps { steps.new ≤ steps.old + 64 * tree_cost (P.object program.now) (updates (updates_held forms.old put.now.memory)) }
+        ensures steps { M.counted meter.new ≤ M.counted meter.old + 64 * tree_cost (P.object program.now) (updates (updates_held forms.old put.now.memory)) }
     {
         for j in 0..program.code_type(t).regs {
             let row = program.reg_row(t, j);
-            let like = self.register_is_like(put, made, program, row, forms, steps)?;
+            let like = self.register_is_like(put, made, program, row, forms, meter)?;
             if !like {
                 return Ok(false);
             }
@@ -169,14 +169,14 @@ impl Context {
     }
 
     /// Whether the static queue is as code type `t` requires, with these substituted for the type's variables.
-    pub fn queue_is_like<P: Program, L: Ledger>(
+    pub fn queue_is_like<P: Program, M: Meter>(
         &self,
         put: &Variables,
         made: &mut Memo,
         program: &P,
         t: u32,
         forms: &mut Interner,
-        steps: &mut Steps<L>,
+        meter: &mut M,
     ) -> Result<bool, NoMemory>
         requires spellable { IsSpellable (P.object program.now) }
         requires there { t < length (P.object program.now).types }
@@ -187,7 +187,7 @@ impl Context {
         ensures kept { Keeps forms.old forms.new }
         ensures made { RemembersUnder (P.object program.now) forms.new put.now made.new }
         ensures like { IfOk result (λ b. b ≡ is_queue_like (P.object program.now) (replacement_in forms.old put.now) (context_in forms.old self.now).queue (queue_rows (P.object program.now) t)) }
-        ensures steps { steps.new ≤ steps.old + 16 * tree_cost (P.object program.now) (updates (updates_held forms.old put.now.memory)) }
+        ensures steps { M.counted meter.new ≤ M.counted meter.old + 16 * tree_cost (P.object program.now) (updates (updates_held forms.old put.now.memory)) }
     {
         let rows = program.code_type(t).queue;
         if self.queue.len() != rows as usize {
@@ -202,7 +202,7 @@ impl Context {
                 program,
                 row,
                 forms,
-                steps,
+                meter,
             )?;
             if !like {
                 return Ok(false);
@@ -212,14 +212,14 @@ impl Context {
     }
 
     /// Whether the memory is as code type `t` requires, with these substituted for the type's variables.
-    pub fn memory_is_like<P: Program, L: Ledger>(
+    pub fn memory_is_like<P: Program, M: Meter>(
         &self,
         put: &Variables,
         made: &mut Memo,
         program: &P,
         t: u32,
         forms: &mut Interner,
-        steps: &mut Steps<L>,
+        meter: &mut M,
     ) -> Result<bool, NoMemory>
         requires spellable { IsSpellable (P.object program.now) }
         requires there { t < length (P.object program.now).types }
@@ -230,9 +230,9 @@ impl Context {
         ensures kept { Keeps forms.old forms.new }
         ensures made { RemembersUnder (P.object program.now) forms.new put.now made.new }
         ensures like { IfOk result (λ b. b ≡ same_updates (context_in forms.old self.now).memory (memory_form_after (P.object program.now) (replacement_in forms.old put.now) (memory_of (P.object program.now) t))) }
-        ensures steps { steps.new ≤ steps.old + tree_cost (P.object program.now) (updates (updates_held forms.old put.now.memory)) }
+        ensures steps { M.counted meter.new ≤ M.counted meter.old + tree_cost (P.object program.now) (updates (updates_held forms.old put.now.memory)) }
     {
-        let wanted = put.memory(program, program.code_type(t).memory, made, forms, steps)?;
+        let wanted = put.memory(program, program.code_type(t).memory, made, forms, meter)?;
         Ok(same_memories(forms, self.memory, wanted))
     }
 }

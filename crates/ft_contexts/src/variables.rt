@@ -7,11 +7,11 @@ ghost use Rattle.ft_types.specs.Spellable.{IsNodeIn, IsSpellable};
 ghost use Rattle.ft_contexts.specs.Costs.{tree_cost};
 
 use crate::sequence::Sequence;
-use ft_isa::{NoMemory, Steps};
+use ft_isa::NoMemory;
+use ft_meter::Meter;
 use ft_norm::{Form, Interner, Memo};
 use ft_types::Program;
 use std::alloc::Global;
-use std::sync::ledger::Ledger;
 
 /// The maximum number of integer variables of a code type.
 const MOST_INTS: u8 = 128;
@@ -27,13 +27,13 @@ impl Variables {
     ghost use Rattle.ft_contexts.specs.Contexts.{HoldsVariables, RemembersUnder, replacement_in};
 
     /// The form of integer node `n`, with these substituted for the variables. Forms made before are reused.
-    pub fn integer<P: Program, L: Ledger>(
+    pub fn integer<P: Program, M: Meter>(
         &self,
         program: &P,
         n: u32,
         made: &mut Memo,
         forms: &mut Interner,
-        steps: &mut Steps<L>,
+        meter: &mut M,
     ) -> Result<Form, NoMemory>
         requires spellable { IsSpellable (P.object program.now) }
         requires node { IsNodeIn (P.object program.now).nodes (length self.now.integers) false n }
@@ -42,21 +42,21 @@ impl Variables {
         ensures kept { Keeps forms.old forms.new }
         ensures made { RemembersUnder (P.object program.now) forms.new self.now made.new }
         ensures form { IfOk result (λ f. held forms.new f ≡ Some (integer_form (integer_form_after (P.object program.now) (replacement_in forms.old self.now) n))) }
-        ensures steps { steps.new ≤ steps.old + tree_cost (P.object program.now) (updates (updates_held forms.old self.now.memory)) }
+        ensures steps { M.counted meter.new ≤ M.counted meter.old + tree_cost (P.object program.now) (updates (updates_held forms.old self.now.memory)) }
     {
         let ints = self.integers.as_slice();
-        let form = made.form(forms, program, n, ints, self.memory, steps)?;
+        let form = made.form(forms, program, n, ints, self.memory, meter)?;
         Ok(form)
     }
 
     /// The form of memory node `n`, with these substituted for the variables. Forms made before are reused.
-    pub fn memory<P: Program, L: Ledger>(
+    pub fn memory<P: Program, M: Meter>(
         &self,
         program: &P,
         n: u32,
         made: &mut Memo,
         forms: &mut Interner,
-        steps: &mut Steps<L>,
+        meter: &mut M,
     ) -> Result<Form, NoMemory>
         requires spellable { IsSpellable (P.object program.now) }
         requires node { IsNodeIn (P.object program.now).nodes (length self.now.integers) true n }
@@ -66,10 +66,10 @@ impl Variables {
         ensures made { RemembersUnder (P.object program.now) forms.new self.now made.new }
         ensures form { IfOk result (λ f. held forms.new f ≡ Some (memory_form (memory_form_after (P.object program.now) (replacement_in forms.old self.now) n))) }
         ensures count { IfOk result (λ f. updates (updates_held forms.new f) ≤ updates (updates_held forms.old self.now.memory) + length (P.object program.now).nodes) }
-        ensures steps { steps.new ≤ steps.old + tree_cost (P.object program.now) (updates (updates_held forms.old self.now.memory)) }
+        ensures steps { M.counted meter.new ≤ M.counted meter.old + tree_cost (P.object program.now) (updates (updates_held forms.old self.now.memory)) }
     {
         let ints = self.integers.as_slice();
-        let form = made.form(forms, program, n, ints, self.memory, steps)?;
+        let form = made.form(forms, program, n, ints, self.memory, meter)?;
         Ok(form)
     }
 }
@@ -105,17 +105,19 @@ impl OwnVariables {
     }
 
     /// The form of the memory variable.
-    pub(crate) fn memory_variable(&self) -> Form {
+    pub(crate) fn memory_variable(&self) -> Form
+        ensures { result ≡ self.now.variables.memory }
+    {
         self.variables.memory
     }
 
     /// The form of integer node `n`, with the variables unchanged.
-    pub fn integer<P: Program, L: Ledger>(
+    pub fn integer<P: Program, M: Meter>(
         &mut self,
         program: &P,
         n: u32,
         forms: &mut Interner,
-        steps: &mut Steps<L>,
+        meter: &mut M,
     ) -> Result<Form, NoMemory>
         requires spellable { IsSpellable (P.object program.now) }
         requires node { IsNodeIn (P.object program.now).nodes 128 false n }
@@ -123,21 +125,21 @@ impl OwnVariables {
         ensures kept { Keeps forms.old forms.new }
         ensures own { HoldsOwn (P.object program.now) forms.new self.new }
         ensures form { IfOk result (λ f. held forms.new f ≡ Some (integer_form (integer_form_of (P.object program.now) n))) }
-        ensures steps { steps.new ≤ steps.old + tree_cost (P.object program.now) 0 }
+        ensures steps { M.counted meter.new ≤ M.counted meter.old + tree_cost (P.object program.now) 0 }
     {
         let form = self
             .variables
-            .integer(program, n, &mut self.made, forms, steps)?;
+            .integer(program, n, &mut self.made, forms, meter)?;
         Ok(form)
     }
 
     /// The form of memory node `n`, with the variables unchanged.
-    pub fn memory<P: Program, L: Ledger>(
+    pub fn memory<P: Program, M: Meter>(
         &mut self,
         program: &P,
         n: u32,
         forms: &mut Interner,
-        steps: &mut Steps<L>,
+        meter: &mut M,
     ) -> Result<Form, NoMemory>
         requires spellable { IsSpellable (P.object program.now) }
         requires node { IsNodeIn (P.object program.now).nodes 128 true n }
@@ -146,11 +148,11 @@ impl OwnVariables {
         ensures own { HoldsOwn (P.object program.now) forms.new self.new }
         ensures form { IfOk result (λ f. held forms.new f ≡ Some (memory_form (memory_form_of (P.object program.now) n))) }
         ensures count { IfOk result (λ f. updates (updates_held forms.new f) ≤ length (P.object program.now).nodes) }
-        ensures steps { steps.new ≤ steps.old + tree_cost (P.object program.now) 0 }
+        ensures steps { M.counted meter.new ≤ M.counted meter.old + tree_cost (P.object program.now) 0 }
     {
         let form = self
             .variables
-            .memory(program, n, &mut self.made, forms, steps)?;
+            .memory(program, n, &mut self.made, forms, meter)?;
         Ok(form)
     }
 }

@@ -79,7 +79,7 @@ costs : (bs : Blocks) (f : FlowState) (s : Step3) → f.done ≡ false → step_
 costs bs f s runs at = ap (λ b. cost_if b (step_at bs f.place)) runs ∙ ap (cost_if false) at
 
 -- the step after those that come before a place is the step at this place
-there : (bs : Blocks) (f : FlowState) (front rest : List Step3) (s : Step3) → block_of bs f.place.block ≡ front
+pub there : (bs : Blocks) (f : FlowState) (front rest : List Step3) (s : Step3) → block_of bs f.place.block ≡ front
     ++ s ∷ rest → f.place.index ≡ length front → step_at bs f.place ≡ Some s
 there bs f front rest s e n =
     let within : length front < length (front ++ s ∷ rest) = omega (arith, length-append front (s ∷ rest)) in

@@ -3,6 +3,10 @@ pub mod Told
 pub mod Logs
 pub mod Lines
 pub mod Loads
+pub mod Heard
+pub mod Prefixes
+pub mod Takes
+pub mod StdinTakes
 pub mod Streams
 pub mod Gathered
 pub mod FolderFailures

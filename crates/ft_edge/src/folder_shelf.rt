@@ -1,13 +1,16 @@
 //! Files of the system, by path.
-ghost use Rattle.std.specs.Prelude.{◌≡◌, ◌≤◌, ◌<◌, ◌+◌, [], length, take, drop, None, Ok, IfOk, IfSome, OnOk, OnErr};
+ghost use Rattle.std.specs.Prelude.{◌≡◌, ◌≤◌, ◌<◌, ◌+◌, [], true, false, length, take, drop, None, Ok, IfOk, IfSome, OnOk, OnErr};
+ghost use Rattle.ft_history.specs.Files.{gave, gives};
+ghost use Rattle.ft_edge.specs.Heard.{HeardMore, HeardLonger, LoadsHeard};
 ghost use Rattle.std.specs.Io.KnownBytes.{Consumes, Keeps, IsAtEnd};
 ghost use Rattle.ft_edge.specs.Loads.{LoadsStream};
 ghost use Rattle.ft_edge.specs.Streams.{ConsumesAtMost};
 
+use crate::opens::{Opens, SystemFiles};
 use crate::system::read_past;
 use crate::{Load, LoadFault, Shelf};
+use ft_history::Heard;
 use std::alloc::Global;
-use std::fs::{File, OpenFile};
 use std::io::Read;
 use std::marker::Model;
 use std::rt::Files;
@@ -19,10 +22,11 @@ const PIECE: usize = 131_072;
 /// a failure, and the count of failures saturates at 2^64 - 1.
 #[derive(Drop)]
 pub struct FolderShelf<R: Files> {
-    rt: R,
+    system: SystemFiles<R>,
     alloc: Global,
     failures: u64,
     failed: Option<String>,
+    heard: Heard,
 }
 
 impl<R: Files> Model for FolderShelf<R> {
@@ -31,7 +35,7 @@ impl<R: Files> Model for FolderShelf<R> {
 
     ghost Value = { FolderFailures };
 
-    ghost view = { λ s. record { count = s.failures; failed_name = known_text s.failed } };
+    ghost view = { λ s. record { count = s.failures; failed_name = known_text s.failed; heard = s.heard.files } };
 }
 
 /// Allocates memory for `size` bytes, or for `limit` if that is less, plus one byte, so that a read can find the end.
@@ -69,6 +73,7 @@ fn make_room(into: &mut Vec<u8>, filled: usize, limit: usize, size: usize) -> Re
 /// Reads once, into the vector's room past its filled part.
 fn read_more<F: Read>(
     file: &mut F,
+    heard: &mut Heard,
     filled: usize,
     limit: usize,
     size: usize,
@@ -83,9 +88,11 @@ fn read_more<F: Read>(
     ensures bytes { IfOk result (λ count. Consumes (F.remaining file.old) (F.remaining file.new) (take count (drop filled into.new.items))) }
     ensures end { IfOk result (λ count. count ≡ 0 → IsAtEnd (F.remaining file.new)) }
     ensures err { OnErr result (Keeps (F.remaining file.old) (F.remaining file.new)) }
+    ensures heard { IfOk result (λ count. heard.new.files ≡ gave heard.old.files (take count (drop filled into.new.items))) }
+    ensures silent { OnErr result (heard.new.files ≡ heard.old.files) }
 {
     make_room(into, filled, limit, size)?;
-    match read_past(file, into.as_mut_slice(), filled) {
+    match read_past(file, heard, into.as_mut_slice(), filled) {
         Ok(count) => Ok(count),
         Err(_) => Err(LoadFault::Failed),
     }
@@ -96,6 +103,7 @@ fn read_more<F: Read>(
 /// too long or a read fails, the vector holds what was read, followed by unused room.
 fn fill<F: Read>(
     file: &mut F,
+    heard: &mut Heard,
     limit: usize,
     size: usize,
     into: &mut Vec<u8>,
@@ -107,11 +115,14 @@ fn fill<F: Read>(
     ensures longer { result ≡ Ok Load.TooLong →
         IfSome (F.remaining file.old) (λ bytes. limit < length bytes) }
     ensures read { ConsumesAtMost (F.remaining file.old) (F.remaining file.new) (limit + 1) }
+    ensures heard_whole { result ≡ Ok Load.Whole → heard.new.files ≡ gives heard.old.files into.new.items true }
+    ensures heard_longer { result ≡ Ok Load.TooLong → HeardLonger heard.old.files heard.new.files limit }
+    ensures heard_part { OnErr result (HeardMore heard.old.files heard.new.files) }
 {
     reserve_whole(into, limit, size)?;
     let mut filled = 0;
     while filled <= limit {
-        let count = read_more(file, filled, limit, size, into)?;
+        let count = read_more(file, heard, filled, limit, size, into)?;
         if count == 0 {
             into.truncate(filled);
             return Ok(Load::Whole);
@@ -121,17 +132,10 @@ fn fill<F: Read>(
     Ok(Load::TooLong)
 }
 
-/// The size that the system reports for an open file, or 0 if it reports none or one that does not fit into a `usize`.
-fn size_of_file<F: OpenFile>(file: &F) -> usize {
-    match file.metadata() {
-        Ok(metadata) => usize::try_from(metadata.len()).unwrap_or(0),
-        Err(_) => 0,
-    }
-}
-
 /// Loads an open file.
 fn load_from<F: Read>(
     file: &mut F,
+    heard: &mut Heard,
     limit: usize,
     size: usize,
     into: &mut Vec<u8>,
@@ -139,13 +143,38 @@ fn load_from<F: Read>(
     requires { into.old.items ≡ [] }
     ensures loads { LoadsStream (F.remaining file.old) limit into.new.items result }
     ensures read { ConsumesAtMost (F.remaining file.old) (F.remaining file.new) (limit + 1) }
+    ensures heard_whole { result ≡ Ok Load.Whole → heard.new.files ≡ gives heard.old.files into.new.items true }
+    ensures heard_longer { result ≡ Ok Load.TooLong → HeardLonger heard.old.files heard.new.files limit }
+    ensures heard_part { OnErr result (HeardMore heard.old.files heard.new.files) }
 {
-    match fill(file, limit, size, into) {
+    match fill(file, heard, limit, size, into) {
         Ok(Load::Whole) => Ok(Load::Whole),
         answer => {
             into.clear();
             answer
         }
+    }
+}
+
+/// Opens the file with this name, and loads it.
+fn load_at<S: Opens>(
+    system: &S,
+    name: &str,
+    heard: &mut Heard,
+    limit: usize,
+    into: &mut Vec<u8>,
+) -> Result<Load, LoadFault>
+    requires { into.old.items ≡ [] }
+    ensures loads { LoadsStream (S.content system.now name.now) limit into.new.items result }
+    ensures heard { LoadsHeard heard.old.files heard.new.files name.now limit into.new.items result }
+{
+    match system.open_to_read(name) {
+        Ok(mut file) => {
+            heard.opened(name.as_bytes());
+            let size = system.reported_size(&file);
+            load_from(&mut file, heard, limit, size, into)
+        }
+        Err(_) => Err(LoadFault::Failed),
     }
 }
 
@@ -157,30 +186,40 @@ impl<R: Files> FolderShelf<R> {
         ensures { result ≡ no_failures }
     {
         FolderShelf {
-            rt,
+            system: SystemFiles { rt },
             alloc,
             failures: 0,
             failed: None,
+            heard: Heard::new(),
         }
     }
 }
 
 impl<R: Files> Shelf for FolderShelf<R> {
-    ghost log = { λ failures. record { files = None; asked = None; failures = failures.count; failed_name = failures.failed_name } };
+    ghost use Rattle.ft_edge.specs.Loads.{Loads};
+    ghost use Rattle.ft_edge.specs.Logs.{LoadCause};
+    ghost use Rattle.ft_edge.specs.FolderFailures.{folder_log};
+    ghost use Rattle.ft_edge.specs.Heard.{Agree};
+
+    ghost log = { folder_log };
+
+    ghost agrees = { λ shelf files. Agree shelf.heard files };
 
     /// Loads the file at a path. It reads at most `limit` + 1 bytes.
-    fn load(&mut self, name: &str, limit: usize, into: &mut Vec<u8>) -> Result<Load, LoadFault> {
+    fn load(&mut self, name: &str, limit: usize, into: &mut Vec<u8>) -> Result<Load, LoadFault>
+        requires { into.old.items ≡ [] }
+        ensures loads { Loads None name.now limit into.new.items result }
+        ensures count { self.old.count ≤ self.new.count }
+        ensures cause { LoadCause (folder_log self.old) (folder_log self.new) name.now result }
+
+        // What was heard: the file's bytes and its end, or more bytes than the limit.
+        ensures heard { LoadsHeard self.old.heard self.new.heard name.now limit into.new.items result }
+    {
         let copy = match String::from_str(self.alloc, name) {
             Ok(copy) => copy,
             Err(_) => return Err(LoadFault::NoMemory),
         };
-        let answer = match File::open(&self.rt, name) {
-            Ok(mut file) => {
-                let size = size_of_file(&file);
-                load_from(&mut file, limit, size, into)
-            }
-            Err(_) => Err(LoadFault::Failed),
-        };
+        let answer = load_at(&self.system, name, &mut self.heard, limit, into);
         if let Err(LoadFault::Failed) = answer {
             self.failures = self.failures.saturating_add(1);
             self.failed = Some(copy);

@@ -1,11 +1,10 @@
 //! A sink that buffers pieces and passes them to a writer in larger ones.
-ghost use Rattle.std.specs.Prelude.{◌≡◌, ◌≢◌, ◌≤◌, ◌+◌, [], length, drop, None, IsTrue, IfOk, IfErr, OnOk, OnErr};
-ghost use Rattle.std.specs.Io.KnownBytes.{Appends, Keeps};
+ghost use Rattle.std.specs.Prelude.{◌≡◌, ◌≢◌, ◌≤◌, ◌+◌, ◌++◌, [], length, take, drop, None, Some, IsTrue, IfOk, IfErr, OnOk, OnErr};
 ghost use Rattle.ft_edge.specs.Calls.{next_count};
-ghost use Rattle.ft_edge.specs.Streams.{AppendsFront};
+ghost use Rattle.ft_edge.specs.Prefixes.{AddsFront};
 
 use crate::writing::{put_to, write_front};
-use crate::{Failed, Sink};
+use crate::{Failed, Recorded, Sink};
 use ft_isa::NoMemory;
 use std::alloc::Global;
 use std::io::Write;
@@ -14,26 +13,26 @@ use std::io::Write;
 const ROOM: usize = 65_536;
 
 /// A sink that passes its pieces to a writer through a buffer of 64 KiB. The written bytes are those that the writer
-/// accepted, followed by the buffer. `finish` writes the rest. The sink does not reveal its bytes, and its failure
-/// count saturates at 2^64 - 1.
+/// accepted, followed by the buffer. `finish` writes the rest. The sink reveals its bytes, and its failure count
+/// saturates at 2^64 - 1.
 #[derive(Drop)]
 pub struct GatheringSink<W: Write + Drop> {
-    out: W,
+    out: Recorded<W>,
     gathered: Vec<u8>,
     failures: u64,
 }
 
 impl<W: Write + Drop> GatheringSink<W> {
-    ghost use Rattle.ft_edge.specs.Gathered.{written_to, sink_writer};
+    ghost use Rattle.ft_edge.specs.Gathered.{written_to, sink_writer, IsFront};
 
     /// A sink over this writer. The room is reserved here, so that no put allocates.
     pub fn new(alloc: Global, writer: W) -> Result<GatheringSink<W>, NoMemory>
-        ensures empty { IfOk result (λ sink. Keeps (W.contents writer) (written_to W.contents sink)) }
+        ensures empty { IfOk result (λ sink. written_to sink ≡ []) }
         ensures count { IfOk result (λ sink. sink.failures ≡ 0) }
     {
         match Vec::with_capacity(alloc, ROOM) {
             Ok(gathered) => Ok(GatheringSink {
-                out: writer,
+                out: Recorded::new(writer),
                 gathered,
                 failures: 0,
             }),
@@ -43,7 +42,7 @@ impl<W: Write + Drop> GatheringSink<W> {
 
     /// Flushes the buffer, and returns whether the writer accepted all of it. The rest stays in the buffer.
     fn hand_on(&mut self) -> bool
-        ensures kept { Keeps (written_to W.contents self.old) (written_to W.contents self.new) }
+        ensures kept { written_to self.new ≡ written_to self.old }
         ensures all { IsTrue result → self.new.gathered.items ≡ [] }
         ensures some { self.new.gathered.items ≡ [] → IsTrue result }
         ensures count { self.new.failures ≡ self.old.failures }
@@ -53,24 +52,27 @@ impl<W: Write + Drop> GatheringSink<W> {
         self.gathered.is_empty()
     }
 
-    /// Flushes the buffer, and returns the writer. It does not fail if the buffer is empty.
-    pub fn finish(self) -> Result<W, Failed>
-        ensures ok { IfOk result (λ writer. Keeps (written_to W.contents self) (W.contents writer)) }
-        ensures err { IfErr result (λ _. self.gathered.items ≢ []) }
+    /// Flushes the buffer, and returns the writer, which accepted a prefix of the written bytes if the flush failed. It
+    /// does not fail if the buffer is empty.
+    pub fn finish(self) -> (Result<(), Failed>, Recorded<W>)
+        ensures ok { OnOk result.0 (result.1.taken.bytes ≡ written_to self) }
+        ensures err { OnErr result.0 (self.gathered.items ≢ []) }
+        ensures front { IsFront result.1.taken.bytes (written_to self) }
     {
         let mut sink = self;
         if sink.gathered.is_empty() {
-            return Ok(sink.discard());
+            return (Ok(()), sink.discard());
         }
         if !sink.hand_on() {
-            return Err(Failed);
+            return (Err(Failed), sink.discard());
         }
-        Ok(sink.discard())
+        (Ok(()), sink.discard())
     }
 
     /// Returns the writer and discards the buffer: nothing more is written.
-    pub fn discard(self) -> W
-        ensures { (sink_writer self) ≡ result }
+    pub fn discard(self) -> Recorded<W>
+        ensures writer { sink_writer self ≡ result }
+        ensures front { IsFront result.taken.bytes (written_to self) }
     {
         let GatheringSink {
             out,
@@ -94,12 +96,12 @@ impl<W: Write + Drop> GatheringSink<W> {
     #[cold]
     #[inline(never)]
     fn put_apart(&mut self, bytes: &[u8]) -> Result<(), Failed>
-        ensures gathers { OnOk result (Appends (written_to W.contents self.old) (written_to W.contents self.new) bytes.now) }
-        ensures front { OnErr result (AppendsFront (written_to W.contents self.old) (written_to W.contents self.new) bytes.now) }
+        ensures gathers { OnOk result (written_to self.new ≡ written_to self.old ++ bytes.now) }
+        ensures front { OnErr result (AddsFront (written_to self.old) (written_to self.new) bytes.now) }
         ensures count { self.old.failures ≤ self.new.failures }
         ensures same_count { OnOk result (self.new.failures ≡ self.old.failures) }
         ensures counted { OnErr result (self.new.failures ≡ next_count self.old.failures) }
-        ensures room { OnOk result (length self.new.gathered.items ≤ 65536) }
+        ensures room { OnOk result (length self.new.gathered.items ≤ ROOM) }
     {
         if !self.hand_on() {
             return self.fail();
@@ -113,8 +115,8 @@ impl<W: Write + Drop> GatheringSink<W> {
     /// Buffers a piece.
     #[inline(always)]
     fn gather(&mut self, bytes: &[u8]) -> Result<(), Failed>
-        ensures gathers { OnOk result (Appends (written_to W.contents self.old) (written_to W.contents self.new) bytes.now) }
-        ensures front { OnErr result (AppendsFront (written_to W.contents self.old) (written_to W.contents self.new) bytes.now) }
+        ensures gathers { OnOk result (written_to self.new ≡ written_to self.old ++ bytes.now) }
+        ensures front { OnErr result (AddsFront (written_to self.old) (written_to self.new) bytes.now) }
         ensures count { self.old.failures ≤ self.new.failures }
         ensures same_count { OnOk result (self.new.failures ≡ self.old.failures) }
         ensures counted { OnErr result (self.new.failures ≡ next_count self.old.failures) }
@@ -140,17 +142,18 @@ fn remove_front(bytes: &mut Vec<u8>, count: usize)
 impl<W: Write + Drop> Sink for GatheringSink<W> {
     ghost use Rattle.ft_edge.specs.Gathered.{written_to, sink_writer};
 
-    ghost log = { λ sink. record { written = None; pieces = None; failures = sink.failures } };
+    ghost log = { λ sink. record { written = Some (written_to sink); pieces = None; failures = sink.failures } };
 
     #[inline(always)]
     fn put(&mut self, bytes: &[u8]) -> Result<(), Failed>
-        ensures gathers { OnOk result (Appends (written_to W.contents self.old) (written_to W.contents self.new) bytes.now) }
-        ensures front { OnErr result (AppendsFront (written_to W.contents self.old) (written_to W.contents self.new) bytes.now) }
+        ensures gathers { OnOk result (written_to self.new ≡ written_to self.old ++ bytes.now) }
+        ensures front { OnErr result (AddsFront (written_to self.old) (written_to self.new) bytes.now) }
         ensures count { self.old.failures ≤ self.new.failures }
         ensures same_count { OnOk result (self.new.failures ≡ self.old.failures) }
         ensures counted { OnErr result (self.new.failures ≡ next_count self.old.failures) }
+        ensures room { OnOk result (length self.old.gathered.items ≤ ROOM → length self.new.gathered.items ≤ ROOM) }
     {
-        if bytes.len() > self.gathered.capacity() - self.gathered.len() {
+        if bytes.len() > ROOM.saturating_sub(self.gathered.len()) {
             return self.put_apart(bytes);
         }
         self.gather(bytes)

@@ -111,6 +111,8 @@ impl Shelf for MemShelf {
 
     ghost log = { λ shelf. record { files = Some shelf.files; asked = None; failures = shelf.calls.failures; failed_name = shelf.failed_name } };
 
+    ghost agrees = { λ shelf files. files ≡ shelf.files };
+
     /// Loads the file with this name. If the shelf has none, that is a failure. A load that runs out of memory is
     /// numbered like any other, but does not count as a failure.
     fn load(&mut self, name: &str, limit: usize, into: &mut Vec<u8>) -> Result<Load, LoadFault>

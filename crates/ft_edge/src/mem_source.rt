@@ -57,6 +57,10 @@ impl Source for MemSource {
 
     ghost log = { λ source. record { left = Some source.left; takes = None; failures = source.calls.failures } };
 
+    ghost heard = { λ _. None };
+
+    ghost may_be_left = { λ source rest. rest ≡ source.left };
+
     /// Takes all the bytes that are left, or as many as fit into the buffer.
     fn take(&mut self, buf: &mut [u8]) -> Result<usize, Failed>
         requires { 0 < length buf.old }

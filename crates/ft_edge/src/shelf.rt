@@ -1,6 +1,7 @@
 //! Files by name.
 ghost use Rattle.std.specs.Prelude.{◌≡◌, ◌≤◌, [], ◌∷◌};
-ghost use Rattle.ft_edge.specs.Loads.{Loads};
+ghost use Rattle.ft_edge.specs.Loads.{Files, Loads};
+ghost use Rattle.ft_edge.specs.Heard.{LoadsFrom};
 ghost use Rattle.ft_edge.specs.Logs.{ShelfLog, LoadCause};
 ghost use Rattle.ft_edge.specs.Told.{append_told};
 
@@ -31,6 +32,9 @@ pub trait Shelf {
     // What the shelf records: the files, the loads made, how many of them failed, and the name of the last that did.
     ghost log: { Self → ShelfLog };
 
+    // Whether these files agree with all that the shelf has returned so far.
+    ghost agrees: { Self → Files → Type 0 };
+
     /// Loads the file with this name into an empty vector, if the file has at most `limit` bytes. After any result but
     /// `Whole`, the vector is empty.
     fn load(&mut self, name: &str, limit: usize, into: &mut Vec<u8>) -> Result<Load, LoadFault>
@@ -39,5 +43,6 @@ pub trait Shelf {
         ensures asked { (log self.new).asked ≡ append_told (log self.old).asked ((name.now, limit) ∷ []) }
         ensures loads { Loads (log self.old).files name.now limit into.new.items result }
         ensures count { (log self.old).failures ≤ (log self.new).failures }
-        ensures cause { LoadCause (log self.old) (log self.new) name.now result };
+        ensures cause { LoadCause (log self.old) (log self.new) name.now result }
+        ensures heard { (files : Files) → agrees self.new files → agrees self.old files × LoadsFrom files name.now limit into.new.items result };
 }

@@ -32,6 +32,10 @@ impl<'a> SureSource<'a> {
 impl<'a> Source for SureSource<'a> {
     ghost log = { λ bytes. record { left = Some bytes; takes = None; failures = 0 } };
 
+    ghost heard = { λ _. None };
+
+    ghost may_be_left = { λ bytes rest. rest ≡ bytes };
+
     /// Takes all the bytes that are left, or as many as fit into the buffer. It never fails.
     fn take(&mut self, buf: &mut [u8]) -> Result<usize, Failed>
         requires { 0 < length buf.old }

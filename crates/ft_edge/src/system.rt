@@ -1,19 +1,30 @@
 //! Single reads and writes, repeated if a signal interrupts them.
-ghost use Rattle.std.specs.Prelude.{◌≡◌, ◌<◌, length, take, drop};
+ghost use Rattle.std.specs.Prelude.{◌≡◌, ◌<◌, length, take, drop, IfOk, OnErr};
 ghost use Rattle.std.specs.Io.{ReadsAtMost, WritesAtMost};
 ghost use Rattle.std.specs.Io.KnownBytes.{ReadConsumes, WriteAppends};
+ghost use Rattle.ft_history.specs.Files.{gave};
 
 use crate::Failed;
+use ft_history::Heard;
 use std::io::{ErrorKind, Read, Write};
 
-/// Reads once, at most as many bytes as fit into the buffer.
-pub(crate) fn read_once<F: Read>(file: &mut F, buf: &mut [u8]) -> Result<usize, Failed>
+/// Reads once, at most as many bytes as fit into the buffer, and notes what the read returned.
+pub(crate) fn read_once<F: Read>(
+    file: &mut F,
+    heard: &mut Heard,
+    buf: &mut [u8],
+) -> Result<usize, Failed>
     ensures bound { ReadsAtMost result buf.new }
     ensures bytes { ReadConsumes (F.remaining file.old) (F.remaining file.new) result buf.new }
+    ensures heard { IfOk result (λ count. heard.new.files ≡ gave heard.old.files (take count buf.new)) }
+    ensures silent { OnErr result (heard.new.files ≡ heard.old.files) }
 {
     for _ in 0..u64::MAX {
         match file.read(buf) {
-            Ok(count) => return Ok(count),
+            Ok(count) => {
+                heard.gave(&buf[..count]);
+                return Ok(count);
+            }
             Err(error) if error.kind() == ErrorKind::Interrupted => {}
             Err(_) => return Err(Failed),
         }
@@ -22,14 +33,21 @@ pub(crate) fn read_once<F: Read>(file: &mut F, buf: &mut [u8]) -> Result<usize, 
 }
 
 /// Reads once, into the part of a buffer past its first bytes.
-pub(crate) fn read_past<F: Read>(file: &mut F, buf: &mut [u8], past: usize) -> Result<usize, Failed>
+pub(crate) fn read_past<F: Read>(
+    file: &mut F,
+    heard: &mut Heard,
+    buf: &mut [u8],
+    past: usize,
+) -> Result<usize, Failed>
     requires { past < length buf.old }
     ensures front { take past buf.new ≡ take past buf.old }
     ensures len { length buf.new ≡ length buf.old }
     ensures bound { ReadsAtMost result (drop past buf.new) }
     ensures bytes { ReadConsumes (F.remaining file.old) (F.remaining file.new) result (drop past buf.new) }
+    ensures heard { IfOk result (λ count. heard.new.files ≡ gave heard.old.files (take count (drop past buf.new))) }
+    ensures silent { OnErr result (heard.new.files ≡ heard.old.files) }
 {
-    read_once(file, &mut buf[past..])
+    read_once(file, heard, &mut buf[past..])
 }
 
 /// Writes a prefix of the bytes with a single write.

@@ -8,7 +8,7 @@ use Rattle.ft_format.specs.declared.version.Version.TheVariants.{Second}
 use Rattle.ft_scope.specs.Resolved.{Program}
 use Rattle.ft_scope.specs.Outcome.{IsOutcome, IsProgramOf, IsRefusalOf}
 use Rattle.ft_compile.specs.StandsFor.{StandsFor}
-use Rattle.ft_compile.specs.Emitted.{IsEmitted}
+use Rattle.ft_compile.specs.Emitted.{compiled_object, IsEmitted}
 use Rattle.ft_modules.specs.Linkable.{IsModule}
 use Rattle.ft_syntax.specs.declared.source_error.SourceError.{SourceError}
 use Rattle.ft_syntax.specs.declared.source_error.SourceError.TheVariants as sources
@@ -18,6 +18,7 @@ use Rattle.ft_asm.specs.declared.asm_error.AsmError.TheVariants as errors
 use Rattle.ft_asm.specs.Refusals.{IsRefusal}
 use Rattle.ft_format.specs.declared.object_error.ObjectError.{ObjectError}
 use Rattle.ft_format.specs.Broken.{broken, object_of, version_at}
+use Rattle.ft_format.proofs.Write.{spells_read}
 use Rattle.ft_asm.specs.Reads.{Applies, TooLong, Broken}
 use Rattle.ft_embed.specs.declared.refused.Refused.{Refused}
 use Rattle.ft_embed.specs.Verdicts.{Tells, IsAcceptedFile, judged, told_refusal, told_error}
@@ -95,13 +96,16 @@ same_ok p q e = cc
 pub compiled : (text bytes : List ℕ) (o : Object) →
     ((r s : Result Program SourceError) → IsOutcome text r → IsOutcome text s → r ≡ s)
     → (p : Program) × IsProgramOf text p × StandsFor p o → (p : Program) × IsProgramOf text p × IsEmitted p o →
+    (p : Program) × IsProgramOf text p × (o ≡ compiled_object p) →
     IsModule o.cells o → Spells bytes Second o → IsCompiled text bytes
-compiled text bytes o one h g joins spelled = record {
+compiled text bytes o one h g k joins spelled = record {
   program = h.0;
   is = h.1;
   object = o;
   stands = h.2;
   emitted = subst (λ p. IsEmitted p o) (same_ok g.0 h.0 (one (Ok g.0) (Ok h.0) g.1 h.1)) g.2;
+  one = subst (λ p. o ≡ compiled_object p) (same_ok k.0 h.0 (one (Ok k.0) (Ok h.0) k.1 h.1)) k.2;
   joins = joins;
   spelled = spelled;
+  read = spells_read bytes Second o spelled;
 }

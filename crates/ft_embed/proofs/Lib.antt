@@ -4,7 +4,6 @@ pub mod Stretches
 pub mod Taken
 pub mod Ends
 pub mod Recovered
-pub mod NoAnswers
 pub mod Tasked
 pub mod CellBytes
 pub mod OtherWords

@@ -1,7 +1,7 @@
 -- Reading the texts of a run's plan, which may be empty.
 use Rattle.std.proofs.Common.{◌≡◌, ◌≢◌, ℕ, suc, List, [], ◌∷◌, length, Some, None, refl, ap, arith}
 use Rattle.ft_isa.specs.declared.plan.Strike.{Strike}
-use Rattle.ft_embed.proofs.NoAnswers.{no_words}
+use Rattle.ft_flight.proofs.NoAnswers.{no_words}
 use Rattle.ft_isa.specs.declared.plan.Wild.{Wild}
 use Rattle.ft_isa.specs.declared.wild_text.WildError.{WildError}
 use Rattle.ft_isa.specs.declared.wild_text.WildError.TheVariants.{Form, NoMemory}

@@ -15,6 +15,7 @@ use Rattle.ft_machine.specs.declared.stepped.Stepped.TheVariants.{Quiet, Commit,
 use Rattle.ft_machine.specs.Advances.{Advances, IsEnough, IsQuiet, output_told}
 use Rattle.ft_machine.specs.Spans.{span, span-zero}
 use Rattle.ft_machine.proofs.Spanned.{joined, span_then, span_has_cells, cell_bounds, rest_of}
+use Rattle.ft_flight.proofs.Turns.{rest_below, enough_few, rest_less}
 use Rattle.ft_embed.specs.declared.filling.CellOutput.{CellOutput}
 use Rattle.ft_embed.specs.Outputs.{Fills, GoesToCell, MayGoOn, cell_output}
 
@@ -47,10 +48,6 @@ pub fills_cells : (o : Object) (s s' : State) (w w' : List Wild) (n from count :
     Fills o s w n s' w' from count old new → (cells : ℕ) → HasCells cells s → HasCells cells s'
 fills_cells o s s' w w' n from count old new a cells has =
     subst (HasCells cells) (sym a.state_is) (span_has_cells o cells n s w has)
-
--- a step after the first n of n + m is one of the last m
-pub rest_below : (n m j : ℕ) → j < n + m → n ≤ j → j - n < m
-rest_below n m j below le = omega (arith, below, le)
 
 -- steps that follow others
 module _ (o : Object) (s s1 : State) (w w1 : List Wild) (n from c1 : ℕ) (old mid : List CellOutput)
@@ -129,17 +126,6 @@ module _ (o : Object) (s s' : State) (w w' : List Wild) (most n at after : ℕ) 
     count_is = put_counted;
     before = λ j less. quiet_room j (a.before j less);
   }
-
--- a call takes no more steps than it is allowed to take
-enough_few : (last : Stepped) (n most : ℕ) → IsEnough last n most → n ≤ most
-enough_few Quiet n most h = omega (arith, h)
-enough_few (Commit output) n most h = h.1
-enough_few Done n most h = h.1
-enough_few Detected n most h = h.1
-
--- the number of steps so far, given how many are left
-rest_less : (number left n : ℕ) → left ≤ number → n ≤ left → (number - left) + n ≡ number - (left - n)
-rest_less number left n le few = omega arith
 
 -- the loop's invariant holds before the first iteration
 pub fills_first : (o : Object) (s : State) (w : List Wild) (most from : ℕ) (out : List CellOutput) →

@@ -16,7 +16,7 @@ use Rattle.ft_machine.proofs.Steps.{strike_keeps}
 use Rattle.ft_machine.proofs.Spanned.{run_first, run_second, outputs_second, rest_of}
 use Rattle.ft_embed.specs.declared.filling.CellOutput.{CellOutput}
 use Rattle.ft_embed.specs.Outputs.{Fills, GoesUntil, MayGoOn, Takes, cell_output}
-use Rattle.ft_embed.proofs.Stretches.{rest_below}
+use Rattle.ft_flight.proofs.Turns.{rest_below}
 
 -- a strike neither adds nor removes a cell
 pub struck_cells : (strike : Option Strike) (k cells : ℕ) (s t : State) → t ≡ struck_before strike k s →

@@ -22,19 +22,14 @@ use Rattle.ft_tolerance.proofs.Whole.{never_detected}
 use Rattle.ft_embed.specs.declared.filling.CellOutput.{CellOutput}
 use Rattle.ft_embed.specs.Outputs.{Ends, Fills}
 use Rattle.ft_embed.specs.Tasks.{TaskRun, begun, IsBy, IsTask, IsLimit, GoesOn, GoesOnUntil, WentOn}
-use Rattle.ft_embed.proofs.NoAnswers.{no_words, none_after}
+use Rattle.ft_flight.proofs.Flying.{not_at, grows}
+use Rattle.ft_flight.proofs.NoAnswers.{no_words, none_after}
 use Rattle.ft_embed.proofs.Taken.{status_on, struck_cells}
-
-not_at : (x : Strike) (k j : ℕ) → x.step ≤ k → k < j → x.step ≡ j → ⊥
-not_at x k j by above is = omega (arith, by, above, is)
 
 -- a strike at step k or earlier strikes no later step
 spares_later : (strike : Option Strike) (k : ℕ) → IfSome strike (IsBy k) → (j : ℕ) → k < j → Spares strike j
 spares_later None k by j above s = refl
 spares_later (Some x) k by j above s = spared x j (not_at x k j by above) s
-
-grows : (x : Strike) (k m : ℕ) → x.step ≤ k → x.step ≤ k + m
-grows x k m by = omega (arith, by)
 
 by_then : (strike : Option Strike) (k m : ℕ) → IfSome strike (IsBy k) → IfSome strike (IsBy (k + m))
 by_then None k m by = tt

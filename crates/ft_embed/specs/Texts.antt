@@ -12,7 +12,7 @@ use Rattle.ft_types.specs.declared.object.Object.{Object}
 use Rattle.ft_format.specs.declared.version.Version.TheVariants.{Second}
 use Rattle.ft_format.specs.Format.{Spells}
 use Rattle.ft_compile.specs.StandsFor.{StandsFor}
-use Rattle.ft_compile.specs.Emitted.{IsEmitted}
+use Rattle.ft_compile.specs.Emitted.{compiled_object, IsEmitted}
 use Rattle.ft_modules.specs.Linkable.{IsModule}
 use Rattle.ft_scope.specs.Resolved.{Program}
 use Rattle.ft_scope.specs.Outcome.{IsProgramOf, IsRefusalOf}
@@ -29,16 +29,18 @@ use Rattle.ft_embed.specs.declared.refused.Refused.{Refused}
 abbrev pub told_source : SourceError → Refused
 told_source e = record { part = 5; number = source_number e; place = source_told e; index = 0 }
 
--- these bytes are an object in version 2 of the format that stands for the text's program. It is the object of a flow
--- of the program, and a module that the linker accepts
+-- these bytes are the object of the text's program in version 2 of the format. It stands for the program, whatever
+-- initial words its cells are given. It is the object of a flow of the program, and a module that the linker accepts
 pub record IsCompiled (text bytes : List ℕ) : Type 0 where
   pub program : Program
   pub is : IsProgramOf text program
   pub object : Object
   pub stands : StandsFor program object
   pub emitted : IsEmitted program object
+  pub one : object ≡ compiled_object program
   pub joins : IsModule object.cells object
   pub spelled : Spells bytes Second object
+  pub read : object_of bytes ≡ object
 
 -- this is the refusal of the source
 pub record IsSourceRefused (text : List ℕ) (told : Refused) : Type 0 where

@@ -63,9 +63,10 @@ fn put_word(bytes: &mut [u8], at: usize, word: u64)
 }
 
 /// Changes bytes so that they spell the same object with this initial word in a cell, which must be of type `int`. The
-/// object is accepted if and only if it was accepted before. The status is 0 on success; 7 for bytes that spell no
-/// object; 16 if there is no such cell; or 19 if the cell is of another type. Unless the status is 0, the bytes are
-/// unchanged.
+/// object is accepted if and only if it was accepted before. If the old object stands for a program, as one that was
+/// compiled does, the new one stands for the program with this initial word. The status is 0 on success; 7 for bytes
+/// that spell no object; 16 if there is no such cell; or 19 if the cell is of another type. Unless the status is 0, the
+/// bytes are unchanged.
 pub fn set_cell(bytes: &mut [u8], cell: u32, word: u64) -> Verdict
     ensures set { result.status ≢ 7 → result.status ≢ 16 → result.status ≢ 19 → IsSet bytes.old bytes.new cell word }
     ensures status { result.status ≢ 7 → result.status ≢ 16 → result.status ≢ 19 → result.status ≡ 0 }

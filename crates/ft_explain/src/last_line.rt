@@ -4,9 +4,10 @@ ghost use Rattle.std.specs.Io.KnownBytes.{append_known};
 ghost use Rattle.ft_edge.specs.Causes.{Rose, AddsPrefix};
 ghost use Rattle.ft_edge.specs.Told.{append_told};
 
-use ft_edge::{Failed, Sink};
+use ft_edge::{Failed, GatheringSink, Gathers, Sink};
 use ft_mistakes::BAD_COMMAND;
 use ft_text::{Line, ROOM};
+use std::io::Write;
 
 /// A sink that passes each piece on to another sink and remembers the last piece if it has at most `ROOM` bytes, as the
 /// line of a refusal does. Once a piece is `BAD_COMMAND`, it remembers this one. A put allocates no memory.
@@ -44,6 +45,21 @@ impl<K: Sink> Sink for LastLine<K> {
             self.line = line_of(bytes);
         }
         self.sink.put(bytes)
+    }
+}
+
+impl<W: Write + Drop> Gathers<W> for LastLine<GatheringSink<W>> {
+    ghost use Rattle.std.specs.Prelude.{refl};
+    ghost use Rattle.ft_edge.specs.Gathered.{written_to};
+
+    type Kept = Line;
+
+    ghost bytes = { λ s. written_to s.sink };
+
+    ghost tells = { λ s. refl };
+
+    fn into_sink(self) -> (GatheringSink<W>, Line) {
+        self.into_parts()
     }
 }
 

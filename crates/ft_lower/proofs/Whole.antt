@@ -4,6 +4,7 @@ use Rattle.std.proofs.Common.{inr, refl, sym, ap, ◌∙◌, subst, arith}
 use Rattle.std.proofs.lemmas.Bool.{cases_eq}
 use Rattle.std.proofs.lemmas.List.{get_or-replicate, length-replicate}
 use Rattle.ft_scope.specs.Size.{StatementsFit}
+use Rattle.ft_scope.specs.InitialWords.{program_with_words}
 use Rattle.ft_scope.specs.Resolved.{Program, program_need, program_weight}
 use Rattle.ft_meaning.specs.Meaning.{State, Outcome, Ended, Cut, state_of, run, start, meaning}
 use Rattle.ft_meaning.specs.Begins.{Begins}
@@ -11,7 +12,7 @@ use Rattle.ft_lower.specs.declared.step3.Step3.TheVariants.{Put, Stop}
 use Rattle.ft_lower.specs.Flow.{Blocks, Place, FlowState, on, first, goes_on, with_pair, act, step_at, steps}
 use Rattle.ft_lower.specs.Flow.{flow_start}
 use Rattle.ft_lower.specs.Lowered.{statement_steps, zeros, program_steps, lowered}
-use Rattle.ft_lower.specs.Lowers.{Lowers}
+use Rattle.ft_lower.specs.Lowers.{FlowsAsMeant, Lowers}
 use Rattle.ft_lower.proofs.Runs.{Reaches, reach_trans, reach_one, done_stays, done_once, done_after, out_grows, after}
 use Rattle.ft_lower.proofs.Runs.{after-append, HasAt, has_front, has_back, has_all}
 use Rattle.ft_lower.proofs.EndBlocks.{zeros_block}
@@ -125,7 +126,7 @@ follows p fits t =
     (has_back bs p1 cp (Stop ∷ []) h).0 R
 
 -- a `Bool` is not both true and false
-clash : (b : Bool) → b ≡ true → b ≡ false → ⊥
+pub clash : (b : Bool) → b ≡ true → b ≡ false → ⊥
 clash b p q = cc
 
 -- if the run is done, the program has ended with its outputs
@@ -155,8 +156,8 @@ cuts_from : (bs : Blocks) (f : FlowState) (k t : ℕ) (s : State) → Follows bs
 cuts_from bs f k t s h le = subst (λ o. Begins o (steps bs k f).out) h.4 (out_grows bs f h.0 k (omega (arith, h.2)))
 
 -- the blocks of a program do what it means
-pub lowers : (p : Program) → IsResolved p → Lowers p (lowered p)
-lowers p fits =
+flows_as_meant : (p : Program) → IsResolved p → FlowsAsMeant p (lowered p)
+flows_as_meant p fits =
     let bs = lowered p in
     let f = flow_start p.inits in
     record {
@@ -165,3 +166,15 @@ lowers p fits =
       ends = λ k t s e le. ends_from bs f k t s (subst (Follows bs f t) e (follows p fits t)) le;
       cuts = λ k t s e le. cuts_from bs f k t s (subst (Follows bs f t) e (follows p fits t)) le;
     }
+
+-- they do so with any initial words, since the blocks are made without them
+pub lowers : (p : Program) → IsResolved p → Lowers p (lowered p)
+lowers p fits words many = flows_as_meant (program_with_words p words) (record {
+  names = subst (λ n. StatementsFit n p.vars p.body) (sym many) fits.names;
+  need = fits.need;
+  weight = fits.weight;
+})
+
+-- so do blocks that a program lowers to, with the program's own initial words
+pub own_flow : (p : Program) (bs : Blocks) → Lowers p bs → FlowsAsMeant p bs
+own_flow p bs L = L p.inits refl

@@ -1,12 +1,13 @@
 //! Laws of the definitions, each the contract of a function that does nothing.
 ghost use Rattle.std.specs.Prelude.{◌≡◌, true, [], ◌∷◌};
-ghost use Rattle.ft_scope.specs.Resolved.{program_need, program_weight};
+ghost use Rattle.ft_scope.specs.Resolved.{Program, program_need, program_weight};
 ghost use Rattle.ft_meaning.specs.Fibonacci.{fibonacci, puts_out};
 ghost use Rattle.ft_meaning.specs.ArrayProgram.{array_program, array_outputs};
-ghost use Rattle.ft_lower.specs.Flow.{flow_run};
+ghost use Rattle.ft_lower.specs.Flow.{Blocks, flow_run};
 ghost use Rattle.ft_lower.specs.Size.{blocks_size, PairsBelow};
 ghost use Rattle.ft_lower.specs.Well.{IsWell};
 ghost use Rattle.ft_lower.specs.Lowered.{lowered};
+ghost use Rattle.ft_lower.specs.Lowers.{FlowsAsMeant, Lowers};
 
 /// The Fibonacci program of the documents needs 7 pairs and weighs 69. Its blocks are well formed, become 61
 /// instructions and name only pairs below 7; their run is done after 240 steps, with ten numbers as its outputs.
@@ -30,4 +31,9 @@ pub fn array_words_are_run()
     ensures pairs { PairsBelow 5 (lowered array_program) }
     ensures done { (flow_run (lowered array_program) (0 ∷ 0 ∷ 0 ∷ []) 63).done ≡ true }
     ensures out { (flow_run (lowered array_program) (0 ∷ 0 ∷ 0 ∷ []) 63).out ≡ array_outputs }
+{}
+
+/// Blocks that do what a program means with any initial words do so with its own.
+pub fn flows_mean_their_own_words()
+    ensures { (p : Program) (bs : Blocks) → Lowers p bs → FlowsAsMeant p bs }
 {}

@@ -12,7 +12,7 @@ use Rattle.ft_isa.specs.Pending.{Pending, is_oldest}
 use Rattle.ft_semantics.specs.State.{State, Cells, held, with_cell, is_cell}
 use Rattle.ft_semantics.specs.Step.{Stepping, next, detected, quiet, goes_on, writes, found, load, wild_load}
 use Rattle.ft_semantics.specs.Step.{store_green, store_blue, commit, commits, pass}
-use Rattle.ft_machine.specs.declared.bank.Bank.{Bank}
+use Rattle.ft_machine.specs.Banks.{Bank}
 use Rattle.ft_machine.specs.declared.bank.Effect.{Effect}
 use Rattle.ft_machine.specs.declared.bank.Effect.TheVariants.{On, Commit, Detected}
 use Rattle.ft_machine.specs.Answers.{next_answer}

@@ -14,7 +14,7 @@ use Rattle.ft_semantics.specs.State.{State, is_cell}
 use Rattle.ft_semantics.specs.Step.{next, step, execute}
 use Rattle.ft_types.specs.Objects.{instr_at}
 use Rattle.ft_semantics.specs.Run.{Ran, extended}
-use Rattle.ft_machine.specs.declared.bank.Bank.{Bank}
+use Rattle.ft_machine.specs.Banks.{Bank}
 use Rattle.ft_machine.specs.declared.bank.Effect.{Effect}
 use Rattle.ft_machine.specs.declared.bank.Effect.TheVariants as effects
 use Rattle.ft_machine.specs.declared.outlet.Outlet.{Ghosts}

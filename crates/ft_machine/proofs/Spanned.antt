@@ -22,7 +22,7 @@ use Rattle.ft_semantics.specs.Run.{Ran, extended, run}
 use Rattle.ft_machine.specs.Spans.{span, span-zero, span-add_one, Spares}
 use Rattle.ft_semantics.proofs.Runs.{HasStopped, stays_at}
 use Rattle.ft_machine.proofs.Steps.{step_is_proper}
-use Rattle.ft_machine.specs.declared.bank.Bank.{Bank}
+use Rattle.ft_machine.specs.Banks.{Bank}
 use Rattle.ft_machine.specs.declared.bank.Effect.{Effect}
 use Rattle.ft_machine.specs.Effects.{Does, doing, followed, put_out}
 

@@ -6,7 +6,7 @@ use Rattle.ft_isa.specs.declared.plan.Wild.{Wild}
 use Rattle.ft_semantics.specs.declared.status.Status.TheVariants as status
 use Rattle.ft_semantics.specs.State.{State}
 use Rattle.ft_semantics.specs.Step.{Stepping, next}
-use Rattle.ft_machine.specs.declared.bank.Bank.{Bank}
+use Rattle.ft_machine.specs.Banks.{Bank}
 use Rattle.ft_machine.specs.declared.bank.Effect.{Effect}
 use Rattle.ft_machine.specs.declared.bank.Effect.TheVariants.{On, To, Commit, Done, Detected}
 use Rattle.ft_machine.specs.declared.stepped.Stepped.{Stepped}

@@ -15,7 +15,7 @@ use Rattle.ft_machine.specs.Hears.{Hears}
 use Rattle.ft_machine.specs.Spans.{span}
 use Rattle.ft_machine.specs.Advances.{output_told, status_told}
 use Rattle.ft_machine.specs.Effects.{doing}
-use Rattle.ft_machine.specs.declared.bank.Bank.{Bank}
+use Rattle.ft_machine.specs.Banks.{Bank}
 use Rattle.ft_machine.specs.declared.outlet.Outlet.{Ghosts}
 use Rattle.ft_machine.specs.declared.stepped.Stepped.{Stepped}
 use Rattle.ft_machine.specs.declared.stepped.Stepped.TheVariants as stepped

@@ -1,10 +1,13 @@
 pub mod Arrays
+pub mod Plain
+pub mod Banks
+pub mod Processors
 pub mod Inside
 pub mod Answers
 pub mod Effects
 pub mod Lengths
-pub mod Drives
 pub mod Spans
 pub mod Advances
 pub mod Hears
 pub mod Goes
+pub mod Drives

@@ -1,18 +1,21 @@
 //! What instructions work on, and what each of them does to it.
 ghost use Rattle.std.specs.Prelude.{◌≡◌, ◌<◌, ℕ, IsTrue, Option, ◌&&◌};
 ghost use Rattle.ft_isa.specs.Words.{apply, cell_in_run};
-ghost use Rattle.ft_isa.specs.Pending.{is_oldest};
+ghost use Rattle.ft_isa.specs.Pending.{Pending, is_oldest};
 ghost use Rattle.ft_isa.specs.declared.instr.Instr as instrs;
-ghost use Rattle.ft_semantics.specs.State.{held, is_cell};
+ghost use Rattle.ft_machine.specs.declared.bank.RegisterFile as files;
+ghost use Rattle.ft_semantics.specs.State.{Cells, held, is_cell};
 ghost use Rattle.ft_semantics.specs.Step.{execute, detected, writes, found, load, wild_load, store_green, store_blue, commit, jump_green, jump_blue, pass};
 ghost use Rattle.ft_machine.specs.Effects.{Does, DoesQuietly, doing, went};
+ghost use Rattle.ft_machine.specs.Banks.{bank_over, bank_with};
+ghost use Rattle.ft_machine.specs.Arrays.{cells_of};
 ghost use Rattle.ft_machine.specs.Lengths.{HasNoEmptyRun};
 
-use crate::cells::Cells;
+use crate::cells::{cell_at, has_cell, put_cell};
 use crate::registers::Registers;
 use crate::wild::WildLeft;
 use ft_isa::{Colour, Coloured, FIRST_CELL, Instr, Op, Output, Reg, Subst, Wild, apply};
-use ft_queue::StoreQueue;
+use ft_queue::PendingStores;
 
 /// What an instruction did besides changing the bank.
 #[derive(Clone, Copy, Debug, PartialEq, Eq)]
@@ -29,21 +32,27 @@ pub enum Effect {
     Detected,
 }
 
-/// Registers, the destination register d, the store queue and the cells.
+/// The registers and the destination register d. The store queue and the words of the cells are arguments of each method
+/// that needs them: they may belong to a machine, or to the caller.
 #[derive(Drop)]
-pub struct Bank {
+pub struct RegisterFile {
     pub registers: Registers,
     pub d: u64,
-    pub queue: StoreQueue,
-    pub cells: Cells,
 }
 
-impl Bank {
+impl RegisterFile {
     /// Executes an instruction.
     #[inline(always)]
-    pub fn execute(&mut self, instr: Instr, wild: &mut WildLeft) -> Effect
+    pub fn execute<Q: PendingStores>(
+        &mut self,
+        queue: &mut Q,
+        cells: &mut [u64],
+        instr: Instr,
+        wild: &mut WildLeft,
+    ) -> Effect
         requires { HasNoEmptyRun instr }
-        ensures { Does (execute instr) self.old self.new result wild.old wild.new }
+        ensures { Does (execute instr) (bank_over self.old (Q.pending queue.old) cells.old)
+            (bank_over self.new (Q.pending queue.new) cells.new) result wild.old wild.new }
     {
         match instr {
             Instr::OpReg { op, rd, rs, rt } => {
@@ -56,17 +65,17 @@ impl Bank {
                 value,
                 basic: _,
             } => self.write(rd, value),
-            Instr::Ld { colour, rd, rs } => self.load(colour, rd, rs, wild),
+            Instr::Ld { colour, rd, rs } => self.load(queue, cells, colour, rd, rs, wild),
             Instr::St {
                 colour: Colour::Green,
                 rd,
                 rs,
-            } => self.store_green(rd, rs),
+            } => self.store_green(queue, rd, rs),
             Instr::St {
                 colour: Colour::Blue,
                 rd,
                 rs,
-            } => self.store_blue(rd, rs),
+            } => self.store_blue(queue, cells, rd, rs),
             Instr::JmpG { rd } => self.jump_green(rd),
             Instr::JmpB { rd, subst: _ } => self.jump_blue(rd),
             Instr::BzG { rz, rd } => self.branch_green(rz, rd),
@@ -92,7 +101,8 @@ impl Bank {
     /// Puts a coloured word into a register, and goes on.
     #[inline(always)]
     fn put(&mut self, rd: Reg, value: Coloured)
-        ensures { DoesQuietly (writes rd value.colour value.word) self.old self.new Effect.On }
+        ensures { (queue : Pending) (cells : Cells) →
+            DoesQuietly (writes rd value.colour value.word) (bank_with self.old queue cells) (bank_with self.new queue cells) Effect.On }
     {
         self.registers.put(rd, value);
     }
@@ -100,7 +110,8 @@ impl Bank {
     /// Writes a register.
     #[inline(always)]
     fn write(&mut self, rd: Reg, value: Coloured) -> Effect
-        ensures { DoesQuietly (writes rd value.colour value.word) self.old self.new result }
+        ensures { (queue : Pending) (cells : Cells) →
+            DoesQuietly (writes rd value.colour value.word) (bank_with self.old queue cells) (bank_with self.new queue cells) result }
     {
         self.put(rd, value);
         Effect::On
@@ -109,8 +120,9 @@ impl Bank {
     /// Writes the result of an operation, in the colour of its first source.
     #[inline(always)]
     fn operate(&mut self, op: Op, rd: Reg, rs: Reg, other: u64) -> Effect
-        ensures { DoesQuietly (writes rd (held self.old.registers rs.number).colour (apply op (held self.old.registers rs.number).word other))
-            self.old self.new result }
+        ensures { (queue : Pending) (cells : Cells) →
+            DoesQuietly (writes rd (held self.old.registers rs.number).colour (apply op (held self.old.registers rs.number).word other))
+            (bank_with self.old queue cells) (bank_with self.new queue cells) result }
     {
         let Coloured { colour, word } = self.registers.get(rs);
         let word = applied(op, word, other);
@@ -121,8 +133,9 @@ impl Bank {
     #[inline(always)]
     fn index(&mut self, rd: Reg, rs: Reg, first: u32, length: u32) -> Effect
         requires { 0 < length }
-        ensures { DoesQuietly (writes rd (held self.old.registers rs.number).colour (cell_in_run first length (held self.old.registers rs.number).word))
-            self.old self.new result }
+        ensures { (queue : Pending) (cells : Cells) → DoesQuietly
+            (writes rd (held self.old.registers rs.number).colour (cell_in_run first length (held self.old.registers rs.number).word))
+            (bank_with self.old queue cells) (bank_with self.new queue cells) result }
     {
         let Coloured { colour, word } = self.registers.get(rs);
         let word = cell_in_run(first, length, word);
@@ -130,10 +143,20 @@ impl Bank {
     }
 
     #[inline(always)]
-    fn load(&mut self, colour: Colour, rd: Reg, rs: Reg, wild: &mut WildLeft) -> Effect
-        ensures { Does (λ s w. load colour rd (found colour s (held s.registers rs.number).word) s w) self.old self.new result wild.old wild.new }
+    fn load<Q: PendingStores>(
+        &mut self,
+        queue: &Q,
+        cells: &[u64],
+        colour: Colour,
+        rd: Reg,
+        rs: Reg,
+        wild: &mut WildLeft,
+    ) -> Effect
+        ensures { Does (λ s w. load colour rd (found colour s (held s.registers rs.number).word) s w)
+            (bank_over self.old (Q.pending queue.now) cells.now) (bank_over self.new (Q.pending queue.now) cells.now)
+            result wild.old wild.new }
     {
-        if self.loads(colour, rd, rs, wild) {
+        if self.loads(queue, cells, colour, rd, rs, wild) {
             Effect::On
         } else {
             Effect::Detected
@@ -143,11 +166,21 @@ impl Bank {
     /// Loads, and returns whether the machine goes on. It is a separate function because searching the pending
     /// stores and taking answers to wild loads require processor registers that the loop over instructions uses.
     #[inline(never)]
-    fn loads(&mut self, colour: Colour, rd: Reg, rs: Reg, wild: &mut WildLeft) -> bool
-        ensures { Does (λ s w. load colour rd (found colour s (held s.registers rs.number).word) s w) self.old self.new (went result) wild.old wild.new }
+    fn loads<Q: PendingStores>(
+        &mut self,
+        queue: &Q,
+        cells: &[u64],
+        colour: Colour,
+        rd: Reg,
+        rs: Reg,
+        wild: &mut WildLeft,
+    ) -> bool
+        ensures { Does (λ s w. load colour rd (found colour s (held s.registers rs.number).word) s w)
+            (bank_over self.old (Q.pending queue.now) cells.now) (bank_over self.new (Q.pending queue.now) cells.now)
+            (went result) wild.old wild.new }
     {
         let addr = self.word(rs);
-        match self.found(colour, addr) {
+        match found(queue, cells, colour, addr) {
             Some(word) => {
                 self.put(rd, Coloured { colour, word });
                 true
@@ -156,23 +189,10 @@ impl Bank {
         }
     }
 
-    /// What a load finds, apart from the answers to wild loads: a green load looks at the pending stores first.
-    #[inline(always)]
-    fn found(&self, colour: Colour, addr: u64) -> Option<u64>
-        ensures { (g b : ℕ) (f : Option instrs.Instr) → result ≡ found colour (doing self.now g b f) addr }
-    {
-        match colour {
-            Colour::Green => match self.queue.newest_at(addr) {
-                Some(word) => Some(word),
-                None => self.cells.get(addr),
-            },
-            Colour::Blue => self.cells.get(addr),
-        }
-    }
-
     #[inline(always)]
     fn loads_wild(&mut self, colour: Colour, rd: Reg, wild: &mut WildLeft) -> bool
-        ensures { Does (wild_load colour rd) self.old self.new (went result) wild.old wild.new }
+        ensures { (queue : Pending) (cells : Cells) →
+            Does (wild_load colour rd) (bank_with self.old queue cells) (bank_with self.new queue cells) (went result) wild.old wild.new }
     {
         match wild.next() {
             Wild::Word(word) => {
@@ -184,50 +204,43 @@ impl Bank {
     }
 
     #[inline(always)]
-    fn store_green(&mut self, rd: Reg, rs: Reg) -> Effect
-        ensures { DoesQuietly (store_green (held self.old.registers rd.number).word (held self.old.registers rs.number).word) self.old self.new result }
+    fn store_green<Q: PendingStores>(&self, queue: &mut Q, rd: Reg, rs: Reg) -> Effect
+        ensures { (cells : Cells) →
+            DoesQuietly (store_green (held self.now.registers rd.number).word (held self.now.registers rs.number).word)
+            (bank_with self.now (Q.pending queue.old) cells) (bank_with self.now (Q.pending queue.new) cells) result }
     {
         let addr = self.word(rd);
         let value = self.word(rs);
-        match self.queue.push(addr, value) {
+        match queue.push(addr, value) {
             Ok(()) => Effect::On,
             Err(_) => Effect::Detected,
         }
     }
 
     #[inline(always)]
-    fn store_blue(&mut self, rd: Reg, rs: Reg) -> Effect
-        ensures { DoesQuietly (store_blue (held self.old.registers rd.number).word (held self.old.registers rs.number).word) self.old self.new result }
+    fn store_blue<Q: PendingStores>(
+        &self,
+        queue: &mut Q,
+        cells: &mut [u64],
+        rd: Reg,
+        rs: Reg,
+    ) -> Effect
+        ensures { DoesQuietly (store_blue (held self.now.registers rd.number).word (held self.now.registers rs.number).word)
+            (bank_over self.now (Q.pending queue.old) cells.old) (bank_over self.now (Q.pending queue.new) cells.new) result }
     {
         let addr = self.word(rd);
         let value = self.word(rs);
-        if self.commits(addr, value) {
-            return self.commit(addr, value);
+        if commits(queue, cells, addr, value) {
+            commit(queue, cells, addr, value);
+            return Effect::Commit(Output { addr, value });
         }
         Effect::Detected
     }
 
-    /// Whether the oldest entry is this pair, and its address is a cell's.
-    #[inline(always)]
-    fn commits(&self, addr: u64, value: u64) -> bool
-        ensures { result ≡ (is_oldest self.now.queue addr value && is_cell self.now.cells addr) }
-    {
-        is_oldest(&self.queue, addr, value) && self.cells.contains(addr)
-    }
-
-    #[inline(always)]
-    fn commit(&mut self, addr: u64, value: u64) -> Effect
-        requires { IsTrue (is_oldest self.old.queue addr value && is_cell self.old.cells addr) }
-        ensures { DoesQuietly (commit addr value) self.old self.new result }
-    {
-        let _ = self.queue.pop_oldest();
-        self.cells.replace(addr, value);
-        Effect::Commit(Output { addr, value })
-    }
-
     #[inline(always)]
     fn jump_green(&mut self, rd: Reg) -> Effect
-        ensures { DoesQuietly (jump_green (held self.old.registers rd.number).word) self.old self.new result }
+        ensures { (queue : Pending) (cells : Cells) → DoesQuietly (jump_green (held self.old.registers rd.number).word)
+            (bank_with self.old queue cells) (bank_with self.new queue cells) result }
     {
         if self.d != 0 {
             return Effect::Detected;
@@ -238,7 +251,8 @@ impl Bank {
 
     #[inline(always)]
     fn jump_blue(&mut self, rd: Reg) -> Effect
-        ensures { DoesQuietly (jump_blue (held self.old.registers rd.number).word) self.old self.new result }
+        ensures { (queue : Pending) (cells : Cells) → DoesQuietly (jump_blue (held self.old.registers rd.number).word)
+            (bank_with self.old queue cells) (bank_with self.new queue cells) result }
     {
         let target = self.word(rd);
         if self.d == 0 || self.d != target {
@@ -251,7 +265,8 @@ impl Bank {
     /// A branch that is not taken.
     #[inline(always)]
     fn pass(&mut self) -> Effect
-        ensures { DoesQuietly pass self.old self.new result }
+        ensures { (queue : Pending) (cells : Cells) →
+            DoesQuietly pass (bank_with self.old queue cells) (bank_with self.new queue cells) result }
     {
         if self.d != 0 {
             return Effect::Detected;
@@ -261,7 +276,8 @@ impl Bank {
 
     #[inline(always)]
     fn branch_green(&mut self, rz: Reg, rd: Reg) -> Effect
-        ensures { DoesQuietly (execute (instrs.Instr.BzG rz rd)) self.old self.new result }
+        ensures { (queue : Pending) (cells : Cells) →
+            DoesQuietly (execute (instrs.Instr.BzG rz rd)) (bank_with self.old queue cells) (bank_with self.new queue cells) result }
     {
         if self.word(rz) == 0 {
             self.jump_green(rd)
@@ -272,13 +288,29 @@ impl Bank {
 
     #[inline(always)]
     fn branch_blue(&mut self, rz: Reg, rd: Reg, subst: Subst) -> Effect
-        ensures { DoesQuietly (execute (instrs.Instr.BzB rz rd subst)) self.old self.new result }
+        ensures { (queue : Pending) (cells : Cells) →
+            DoesQuietly (execute (instrs.Instr.BzB rz rd subst)) (bank_with self.old queue cells) (bank_with self.new queue cells) result }
     {
         if self.word(rz) == 0 {
             self.jump_blue(rd)
         } else {
             self.pass()
         }
+    }
+}
+
+/// What a load finds, apart from the answers to wild loads: a green load looks at the pending stores first.
+#[inline(always)]
+fn found<Q: PendingStores>(queue: &Q, cells: &[u64], colour: Colour, addr: u64) -> Option<u64>
+    ensures { (file : files.RegisterFile) (g b : ℕ) (f : Option instrs.Instr) →
+        result ≡ found colour (doing (bank_over file (Q.pending queue.now) cells.now) g b f) addr }
+{
+    match colour {
+        Colour::Green => match queue.newest_at(addr) {
+            Some(word) => Some(word),
+            None => cell_at(cells, addr),
+        },
+        Colour::Blue => cell_at(cells, addr),
     }
 }
 
@@ -329,10 +361,30 @@ fn cell_in_run(first: u32, length: u32, word: u64) -> u64
     FIRST_CELL + (first as u64 + word % length as u64)
 }
 
+/// Whether the oldest entry is this pair, and its address is a cell's.
+#[inline(never)]
+fn commits<Q: PendingStores>(queue: &Q, cells: &[u64], addr: u64, value: u64) -> bool
+    ensures { result ≡ (is_oldest (Q.pending queue.now) addr value && is_cell (cells_of cells.now) addr) }
+{
+    is_oldest(queue, addr, value) && has_cell(cells, addr)
+}
+
+/// Commits the oldest entry, which is this pair. This and the test before it are separate functions, like `loads`, so that
+/// the cells take no processor registers in the loop over instructions.
+#[inline(never)]
+fn commit<Q: PendingStores>(queue: &mut Q, cells: &mut [u64], addr: u64, value: u64)
+    requires { IsTrue (is_oldest (Q.pending queue.old) addr value && is_cell (cells_of cells.old) addr) }
+    ensures { (file : files.RegisterFile) → DoesQuietly (commit addr value) (bank_over file (Q.pending queue.old) cells.old)
+        (bank_over file (Q.pending queue.new) cells.new) (Effect.Commit (record { addr = addr; value = value })) }
+{
+    let _ = queue.pop_oldest();
+    put_cell(cells, addr, value);
+}
+
 /// Whether the oldest entry is this pair.
 #[inline(always)]
-fn is_oldest(queue: &StoreQueue, addr: u64, value: u64) -> bool
-    ensures { result ≡ is_oldest queue.now addr value }
+fn is_oldest<Q: PendingStores>(queue: &Q, addr: u64, value: u64) -> bool
+    ensures { result ≡ is_oldest (Q.pending queue.now) addr value }
 {
     match queue.get(0) {
         Some((a, v)) => a == addr && v == value,

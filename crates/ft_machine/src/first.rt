@@ -4,8 +4,8 @@ ghost use Rattle.ft_semantics.specs.State.{tabulate};
 ghost use Rattle.ft_types.specs.Objects.{init_of, entry_address};
 ghost use Rattle.ft_types.specs.Spellable.{IsSpellable};
 ghost use Rattle.ft_isa.specs.Words.{cell_address};
+ghost use Rattle.ft_machine.specs.Arrays.{cells_of};
 
-use crate::cells::Cells;
 use ft_isa::NoMemory;
 use ft_types::Program;
 use std::alloc::Global;
@@ -20,9 +20,9 @@ pub fn entry_address<P: Program>(program: &P) -> u64
 
 /// The cells before the first step: the initial words, from the first cell's address on.
 #[tactic(auto, using(ft_types::proofs::Counted::spellable_counted))]
-pub fn first_cells<P: Program>(alloc: Global, program: &P) -> Result<Cells, NoMemory>
+pub fn first_cells<P: Program>(alloc: Global, program: &P) -> Result<Vec<u64>, NoMemory>
     requires { IsSpellable (P.object program.now) }
-    ensures { IfOk result (λ m. m
+    ensures { IfOk result (λ m. cells_of m.items
         ≡ tabulate (length (P.object program.now).cells) cell_address (init_of (P.object program.now))) }
 {
     let mut words = Vec::new(alloc);
@@ -31,5 +31,5 @@ pub fn first_cells<P: Program>(alloc: Global, program: &P) -> Result<Cells, NoMe
             return Err(NoMemory);
         }
     }
-    Ok(Cells::new(words))
+    Ok(words)
 }

@@ -1,14 +1,23 @@
 //! The machine: its state, and queries on it.
-ghost use Rattle.std.specs.Prelude.{◌≡◌, ℕ, IfOk, IsTrue, Decides, Some, length};
+ghost use Rattle.std.specs.Prelude.{◌≡◌, ◌≢◌, ℕ, ◌≤◌, ◌<◌, IfOk, IsTrue, Some, length, true, Decides};
+ghost use Rattle.ft_isa.specs.declared.output.Output as outputs;
+ghost use Rattle.ft_semantics.specs.Step.{step};
+ghost use Rattle.ft_semantics.specs.Strike.{is_there, struck_state};
+ghost use Rattle.ft_machine.specs.Answers.{Takes};
+ghost use Rattle.ft_machine.specs.Advances.{Advances};
+ghost use Rattle.ft_machine.specs.Goes.{Goes, goes_on as outlet_goes_on};
+ghost use Rattle.ft_machine.specs.Spans.{span};
 ghost use Rattle.ft_isa.specs.Words.{cell_address};
 ghost use Rattle.ft_types.specs.Spellable.{IsSpellable};
 ghost use Rattle.ft_semantics.specs.State.{start, held, cell_at, is_cell, HasCells};
-ghost use Rattle.ft_machine.specs.Inside.{Stands};
 
-use crate::bank::Bank;
-use crate::first::{entry_address, first_cells};
-use crate::registers::Registers;
-use ft_isa::{Colour, Coloured, FIRST_CELL, Instr, NoMemory, Reg};
+use crate::cells::{cell_at, copy_cells, same_cells};
+use crate::first::first_cells;
+use crate::outlet::Outlet;
+use crate::processor::Processor;
+use crate::stepped::{Advance, Gone, Pause, Stepped};
+use crate::wild::WildLeft;
+use ft_isa::{Colour, Coloured, FIRST_CELL, Instr, NoMemory, Reg, Site};
 use ft_queue::StoreQueue;
 use ft_semantics::Status;
 use ft_types::Program;
@@ -19,11 +28,9 @@ use std::marker::Model;
 /// it as a `State` of `ft_semantics`.
 #[derive(Drop)]
 pub struct Machine {
-    pub(crate) bank: Bank,
-    pub(crate) pc_green: u64,
-    pub(crate) pc_blue: u64,
-    pub(crate) fetched: Option<Instr>,
-    pub(crate) status: Status,
+    processor: Processor,
+    queue: StoreQueue,
+    words: Vec<u64>,
 }
 
 impl Model for Machine {
@@ -37,14 +44,9 @@ impl Model for Machine {
 
     ghost coded = { Prim.hlevel (codes, map.code {R = nat_cmp} coded_ℕ coloured.the_row.coded, map.code {R = nat_cmp} coded_ℕ coded_ℕ) };
 
-    ghost use Rattle.ft_machine.specs.Inside.{state_of};
+    ghost use Rattle.ft_machine.specs.Processors.{state_over};
 
-    ghost view = { state_of };
-
-    ghost use Rattle.std.specs.Prelude.{IfSome};
-    ghost use Rattle.ft_machine.specs.Lengths.{HasNoEmptyRun};
-
-    ghost invariant = { λ m. IfSome m.fetched HasNoEmptyRun };
+    ghost view = { λ m. state_over m.processor m.queue m.words.items };
 }
 
 impl Machine {
@@ -54,21 +56,12 @@ impl Machine {
         ensures start { IfOk result (λ m. m ≡ start (P.object program.now)) }
         ensures cells { IfOk result (λ m. HasCells (length (P.object program.now).cells) m) }
     {
-        let cells = first_cells(alloc, program)?;
+        let words = first_cells(alloc, program)?;
         let queue = StoreQueue::new(alloc)?;
-        let entry = entry_address(program);
-        let bank = Bank {
-            registers: Registers::new(),
-            d: 0,
-            queue,
-            cells,
-        };
         Ok(Machine {
-            bank,
-            pc_green: entry,
-            pc_blue: entry,
-            fetched: None,
-            status: Status::Running,
+            processor: Processor::new(program),
+            queue,
+            words,
         })
     }
 
@@ -77,49 +70,22 @@ impl Machine {
         requires { (a : ℕ) → is_cell self.old.cells a ≡ is_cell other.now.cells a }
         ensures { self.new ≡ other.now }
     {
-        self.bank.registers.copy_from(&other.bank.registers);
-        self.bank.d = other.bank.d;
-        self.pc_green = other.pc_green;
-        self.pc_blue = other.pc_blue;
-        self.bank.queue.copy_from(&other.bank.queue);
-        self.bank.cells.copy_from(&other.bank.cells);
-        self.fetched = other.fetched;
-        self.status = other.status;
+        self.processor.copy_from(&other.processor);
+        self.queue.copy_from(&other.queue);
+        copy_cells(self.words.as_mut_slice(), other.words.as_slice());
     }
 
     /// Whether another machine is in the same state. It does not allocate.
     pub fn same_as(&self, other: &Machine) -> bool
         ensures { Decides result (self.now ≡ other.now) }
     {
-        if !self.stands_as(other) {
+        if !self.processor.same_as(&other.processor) {
             return false;
         }
-        if !self.bank.queue.same_as(&other.bank.queue) {
+        if !self.queue.same_as(&other.queue) {
             return false;
         }
-        if !self.bank.registers.same_as(&other.bank.registers) {
-            return false;
-        }
-        self.bank.cells.same_as(&other.bank.cells)
-    }
-
-    /// Whether another machine agrees with this one in all but its registers, queue and cells.
-    fn stands_as(&self, other: &Machine) -> bool
-        ensures { Decides result (Stands self.now other.now) }
-    {
-        if self.bank.d != other.bank.d {
-            return false;
-        }
-        if self.pc_green != other.pc_green {
-            return false;
-        }
-        if self.pc_blue != other.pc_blue {
-            return false;
-        }
-        if self.status != other.status {
-            return false;
-        }
-        same_fetched(self.fetched, other.fetched)
+        same_cells(self.words.as_slice(), other.words.as_slice())
     }
 
     /// What a register holds.
@@ -127,14 +93,14 @@ impl Machine {
     pub fn reg(&self, r: Reg) -> Coloured
         ensures { result ≡ held self.now.registers r.number }
     {
-        self.bank.registers.get(r)
+        self.processor.file.registers.get(r)
     }
 
     /// The destination register.
     pub fn d(&self) -> u64
         ensures { result ≡ self.now.d }
     {
-        self.bank.d
+        self.processor.file.d
     }
 
     /// The program counter of a colour.
@@ -143,8 +109,8 @@ impl Machine {
         ensures blue { c ≡ Colour.Blue → result ≡ self.now.pc_blue }
     {
         match c {
-            Colour::Green => self.pc_green,
-            Colour::Blue => self.pc_blue,
+            Colour::Green => self.processor.pc_green,
+            Colour::Blue => self.processor.pc_blue,
         }
     }
 
@@ -152,7 +118,7 @@ impl Machine {
     pub fn queue(&self) -> &StoreQueue
         ensures { result.now ≡ self.now.queue }
     {
-        &self.bank.queue
+        &self.queue
     }
 
     /// The word of cell `k`.
@@ -160,7 +126,7 @@ impl Machine {
         requires { IsTrue (is_cell self.now.cells (cell_address k)) }
         ensures { cell_at self.now.cells (cell_address k) ≡ Some result }
     {
-        match self.bank.cells.get(FIRST_CELL + k as u64) {
+        match cell_at(self.words.as_slice(), FIRST_CELL + k as u64) {
             Some(word) => word,
             None => unreachable!(),
         }
@@ -170,20 +136,88 @@ impl Machine {
     pub fn fetched(&self) -> Option<Instr>
         ensures { result ≡ self.now.fetched }
     {
-        self.fetched
+        self.processor.fetched
     }
 
     /// The machine's status.
     pub fn status(&self) -> Status
         ensures { result ≡ self.now.status }
     {
-        self.status
+        self.processor.status
     }
-}
 
-/// Whether both have fetched the same instruction, or none.
-fn same_fetched(a: Option<Instr>, b: Option<Instr>) -> bool
-    ensures { Decides result (a ≡ b) }
-{
-    a == b
+    /// Takes one step. A stopped machine does not change, and returns the same result again.
+    pub fn step<P: Program>(&mut self, program: &P, wild: &mut WildLeft) -> Stepped
+        requires { IsSpellable (P.object program.now) }
+        ensures takes { Takes (step (P.object program.now) self.old wild.old) self.new wild.new result }
+
+        // The cells keep their addresses, and a pair that is committed goes to one of them.
+        ensures cells { (n : ℕ) → HasCells n self.old → HasCells n self.new }
+        ensures commits { (output : outputs.Output) → result ≡ Stepped.Commit output → is_cell self.old.cells output.addr ≡ true }
+    {
+        self.processor
+            .step(&mut self.queue, self.words.as_mut_slice(), program, wild)
+    }
+
+    /// Strikes a site: the word there becomes `value`, and its colour does not change. Returns `false` exactly when the
+    /// machine has stopped or the site does not exist, and then changes nothing.
+    pub fn strike(&mut self, site: Site, value: u64) -> bool
+        ensures there { result ≡ is_there self.old site }
+        ensures struck { self.new ≡ struck_state self.old site value }
+        ensures cells { (n : ℕ) → HasCells n self.old → HasCells n self.new }
+    {
+        self.processor.strike(&mut self.queue, site, value)
+    }
+
+    /// Takes at most `most` steps of a running machine, passes each output to an outlet, and ends early if the machine
+    /// stops or the outlet does not go on.
+    #[inline(always)]
+    pub fn go<P: Program, T: Outlet>(
+        &mut self,
+        program: &P,
+        wild: &mut WildLeft,
+        most: u64,
+        outlet: &mut T,
+    ) -> Gone
+        requires spellable { IsSpellable (P.object program.now) }
+        requires running { self.old.status ≡ Status.Running }
+        requires may { (output : outputs.Output) → is_cell self.old.cells output.addr ≡ true → T.may outlet.old output }
+        ensures goes { Goes T.Outlet (P.object program.now) self.old wild.old outlet.old self.new wild.new outlet.new result.taken result.pause }
+        ensures heard { T.heard outlet.old (span (P.object program.now) result.taken self.old wild.old).outputs (outlet_goes_on result.pause) outlet.new }
+        ensures few { result.taken ≤ most }
+        ensures some { 0 < most → 0 < result.taken }
+        ensures all { result.pause ≡ Pause.Running → result.taken ≡ most }
+        ensures early { result.pause ≢ Pause.Running → 0 < result.taken }
+    {
+        self.processor.go(
+            &mut self.queue,
+            self.words.as_mut_slice(),
+            program,
+            wild,
+            most,
+            outlet,
+        )
+    }
+
+    /// Takes at most `most` steps of a running machine, and stops at the first that is not quiet.
+    #[inline(always)]
+    pub fn advance<P: Program>(&mut self, program: &P, wild: &mut WildLeft, most: u64) -> Advance
+        requires spellable { IsSpellable (P.object program.now) }
+        requires running { self.old.status ≡ Status.Running }
+        ensures advances { Advances (P.object program.now) self.old wild.old self.new wild.new most result.taken result.last }
+        ensures few { result.taken ≤ most }
+        ensures some { 0 < most → 0 < result.taken }
+
+        // The cells keep their addresses, and a pair that is committed goes to one of them.
+        ensures cells { (n : ℕ) → HasCells n self.old → HasCells n self.new }
+        ensures commits { (output : outputs.Output) → result.last ≡ Stepped.Commit output → is_cell self.old.cells output.addr ≡ true }
+    {
+        self.processor.advance(
+            &mut self.queue,
+            self.words.as_mut_slice(),
+            program,
+            wild,
+            most,
+        )
+    }
 }

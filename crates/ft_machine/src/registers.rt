@@ -1,6 +1,7 @@
 //! The registers, in arrays, which contracts see as a finite map.
-ghost use Rattle.std.specs.Prelude.{◌≡◌, Decides};
+ghost use Rattle.std.specs.Prelude.{◌≡◌, ◌<◌, ℕ, Decides, slice_index_or};
 ghost use Rattle.ft_semantics.specs.State.{tabulate, green_zero, held, with_held};
+ghost use Rattle.ft_machine.specs.Plain.{colour_in, registers_in};
 
 use ft_isa::{Colour, Coloured, Reg};
 use std::marker::Model;
@@ -37,6 +38,28 @@ impl Registers {
             words: [0; 64],
             colours: [Colour::Green; 64],
         }
+    }
+
+    /// The registers with these words, and with these numbers for their colours: 0 is green, any other blue.
+    pub fn of_words(words: &[u64; 64], colours: &[u8; 64]) -> Registers
+        ensures { result ≡ registers_in words.now colours.now }
+    {
+        let mut all = [Colour::Green; 64];
+        for r in 0..64 {
+            all[r] = colour_in(colours[r]);
+        }
+        Registers {
+            words: *words,
+            colours: all,
+        }
+    }
+
+    /// Writes the words, and a number for each colour.
+    pub fn put_words(&self, words: &mut [u64; 64], colours: &mut [u8; 64])
+        ensures { registers_in words.new colours.new ≡ self.now }
+    {
+        put_numbers(&self.colours, colours);
+        *words = self.words;
     }
 
     /// What a register holds.
@@ -80,5 +103,34 @@ impl Registers {
     {
         self.words = other.words;
         self.colours = other.colours;
+    }
+}
+
+/// The colour that a number stands for.
+fn colour_in(number: u8) -> Colour
+    ensures { result ≡ colour_in number }
+{
+    match number {
+        0 => Colour::Green,
+        _ => Colour::Blue,
+    }
+}
+
+/// A number that stands for a colour.
+fn number_of(colour: Colour) -> u8
+    ensures { colour_in result ≡ colour }
+{
+    match colour {
+        Colour::Green => 0,
+        Colour::Blue => 1,
+    }
+}
+
+/// Writes a number for each colour.
+fn put_numbers(all: &[Colour; 64], colours: &mut [u8; 64])
+    ensures { (i : ℕ) → i < 64 → colour_in (slice_index_or colours.new i 0) ≡ slice_index_or all.now i Colour.Green }
+{
+    for r in 0..64 {
+        colours[r] = number_of(all[r]);
     }
 }

@@ -1,8 +1,12 @@
-//! What a machine does: strikes, single steps, and steps in a row.
-ghost use Rattle.std.specs.Prelude.{◌≡◌, ◌≢◌, ℕ, ◌≤◌, ◌<◌, IsTrue, true, None, IfSome};
+//! What a machine does: strikes, single steps, and steps in a row. The words of the cells are an argument: they may
+//! belong to a machine, or to the caller.
+ghost use Rattle.std.specs.Prelude.{◌≡◌, ◌≢◌, ℕ, ◌≤◌, ◌<◌, IsTrue, true, None, IfSome, is_some};
+ghost use Rattle.ft_isa.specs.Pending.{Pending};
 ghost use Rattle.ft_types.specs.Objects.{instr_at};
 ghost use Rattle.ft_types.specs.Spellable.{IsSpellable};
-ghost use Rattle.ft_semantics.specs.State.{is_cell, HasCells};
+ghost use Rattle.ft_semantics.specs.State.{Cells, is_cell, HasCells};
+ghost use Rattle.ft_machine.specs.Arrays.{cells_of};
+ghost use Rattle.ft_machine.specs.Processors.{state_over, state_with};
 ghost use Rattle.ft_semantics.specs.Step.{step, advance, detected, goes_on};
 ghost use Rattle.ft_semantics.specs.Strike.{is_there, struck_state};
 ghost use Rattle.ft_machine.specs.Answers.{Takes, TakesQuietly};
@@ -15,40 +19,42 @@ ghost use Rattle.ft_isa.specs.declared.output.Output as outputs;
 
 use crate::bank::Effect;
 use crate::first_output::FirstOutput;
-use crate::machine::Machine;
 use crate::outlet::Outlet;
+use crate::processor::Processor;
 use crate::stepped::{Advance, Gone, Pause, Stepped, runs_on};
 use crate::stretch::do_instructions;
 use crate::wild::WildLeft;
 use ft_isa::{Coloured, Instr, Site};
+use ft_queue::PendingStores;
 use ft_semantics::Status;
 use ft_types::Program;
 
-impl Machine {
+impl Processor {
     /// Strikes a site: the word there becomes `value`, and its colour does not change. Returns `false` exactly when the
     /// machine has stopped or the site does not exist, and then changes nothing.
-    pub fn strike(&mut self, site: Site, value: u64) -> bool
-        ensures there { result ≡ is_there self.old site }
-        ensures struck { self.new ≡ struck_state self.old site value }
-        ensures cells { (n : ℕ) → HasCells n self.old → HasCells n self.new }
+    pub fn strike<Q: PendingStores>(&mut self, queue: &mut Q, site: Site, value: u64) -> bool
+        ensures there { (cells : Cells) → result ≡ is_there (state_with self.old (Q.pending queue.old) cells) site }
+        ensures struck { (cells : Cells) → state_with self.new (Q.pending queue.new) cells
+            ≡ struck_state (state_with self.old (Q.pending queue.old) cells) site value }
     {
         match self.status {
-            Status::Running => self.put_word(site, value),
+            Status::Running => self.put_word(queue, site, value),
             Status::Done => false,
             Status::Detected => false,
         }
     }
 
     /// Puts a word at a site of a running machine, if the site exists.
-    fn put_word(&mut self, site: Site, value: u64) -> bool
+    fn put_word<Q: PendingStores>(&mut self, queue: &mut Q, site: Site, value: u64) -> bool
         requires { self.old.status ≡ Status.Running }
-        ensures there { result ≡ is_there self.old site }
-        ensures struck { self.new ≡ struck_state self.old site value }
+        ensures there { (cells : Cells) → result ≡ is_there (state_with self.old (Q.pending queue.old) cells) site }
+        ensures struck { (cells : Cells) → state_with self.new (Q.pending queue.new) cells
+            ≡ struck_state (state_with self.old (Q.pending queue.old) cells) site value }
     {
         match site {
             Site::R(r) => {
-                let colour = self.reg(r).colour;
-                self.bank.registers.put(
+                let colour = self.file.registers.get(r).colour;
+                self.file.registers.put(
                     r,
                     Coloured {
                         colour,
@@ -58,7 +64,7 @@ impl Machine {
                 true
             }
             Site::D => {
-                self.bank.d = value;
+                self.file.d = value;
                 true
             }
             Site::PcG => {
@@ -69,22 +75,30 @@ impl Machine {
                 self.pc_blue = value;
                 true
             }
-            Site::QAddr(i) => self.bank.queue.strike_addr(i, value),
-            Site::QVal(i) => self.bank.queue.strike_value(i, value),
+            Site::QAddr(i) => queue.strike_addr(i, value),
+            Site::QVal(i) => queue.strike_value(i, value),
         }
     }
 
     /// Takes one step. A stopped machine does not change, and returns the same result again.
-    pub fn step<P: Program>(&mut self, program: &P, wild: &mut WildLeft) -> Stepped
+    pub fn step<Q: PendingStores, P: Program>(
+        &mut self,
+        queue: &mut Q,
+        cells: &mut [u64],
+        program: &P,
+        wild: &mut WildLeft,
+    ) -> Stepped
         requires { IsSpellable (P.object program.now) }
-        ensures takes { Takes (step (P.object program.now) self.old wild.old) self.new wild.new result }
+        ensures takes { Takes (step (P.object program.now) (state_over self.old (Q.pending queue.old) cells.old) wild.old)
+            (state_over self.new (Q.pending queue.new) cells.new) wild.new result }
 
         // The cells keep their addresses, and a pair that is committed goes to one of them.
-        ensures cells { (n : ℕ) → HasCells n self.old → HasCells n self.new }
-        ensures commits { (output : outputs.Output) → result ≡ Stepped.Commit output → is_cell self.old.cells output.addr ≡ true }
+        ensures cells { (n : ℕ) → HasCells n (state_over self.old (Q.pending queue.old) cells.old) →
+            HasCells n (state_over self.new (Q.pending queue.new) cells.new) }
+        ensures commits { (output : outputs.Output) → result ≡ Stepped.Commit output → is_cell (cells_of cells.old) output.addr ≡ true }
     {
         match self.status {
-            Status::Running => self.fetch_or_execute(program, wild),
+            Status::Running => self.fetch_or_execute(queue, cells, program, wild),
             Status::Done => Stepped::Done,
             Status::Detected => Stepped::Detected,
         }
@@ -92,15 +106,22 @@ impl Machine {
 
     /// Fetches an instruction, or executes the one that is fetched.
     #[inline(never)]
-    fn fetch_or_execute<P: Program>(&mut self, program: &P, wild: &mut WildLeft) -> Stepped
+    fn fetch_or_execute<Q: PendingStores, P: Program>(
+        &mut self,
+        queue: &mut Q,
+        cells: &mut [u64],
+        program: &P,
+        wild: &mut WildLeft,
+    ) -> Stepped
         requires spellable { IsSpellable (P.object program.now) }
         requires running { self.old.status ≡ Status.Running }
-        ensures { Takes (advance (P.object program.now) self.old.fetched self.old wild.old) self.new wild.new result }
+        ensures { Takes (advance (P.object program.now) self.old.fetched (state_over self.old (Q.pending queue.old) cells.old) wild.old)
+            (state_over self.new (Q.pending queue.new) cells.new) wild.new result }
     {
         match self.fetched {
             None => self.fetch(program),
             Some(instr) => {
-                let effect = self.bank.execute(instr, wild);
+                let effect = self.file.execute(queue, cells, instr, wild);
                 self.follow(effect)
             }
         }
@@ -109,7 +130,8 @@ impl Machine {
     fn fetch<P: Program>(&mut self, program: &P) -> Stepped
         requires spellable { IsSpellable (P.object program.now) }
         requires running { self.old.status ≡ Status.Running }
-        ensures { TakesQuietly (advance (P.object program.now) None self.old) self.new result }
+        ensures { (queue : Pending) (cells : Cells) →
+            TakesQuietly (advance (P.object program.now) None (state_with self.old queue cells)) (state_with self.new queue cells) result }
     {
         if self.pc_green != self.pc_blue {
             return self.detect();
@@ -127,7 +149,8 @@ impl Machine {
     #[inline(always)]
     fn follow(&mut self, effect: Effect) -> Stepped
         requires running { self.old.status ≡ Status.Running }
-        ensures state { self.new ≡ followed effect (bank_of self.old) self.old.pc_green self.old.pc_blue self.old.fetched }
+        ensures state { (queue : Pending) (cells : Cells) → state_with self.new queue cells
+            ≡ followed effect (bank_of (state_with self.old queue cells)) self.old.pc_green self.old.pc_blue self.old.fetched }
         ensures answer { result ≡ told_effect effect }
     {
         match effect {
@@ -158,7 +181,8 @@ impl Machine {
 
     /// Stops because a fault was noticed.
     fn detect(&mut self) -> Stepped
-        ensures { TakesQuietly (detected self.old) self.new result }
+        ensures { (queue : Pending) (cells : Cells) →
+            TakesQuietly (detected (state_with self.old queue cells)) (state_with self.new queue cells) result }
     {
         self.status = Status::Detected;
         Stepped::Detected
@@ -166,7 +190,7 @@ impl Machine {
 
     /// Both counters grow by 1, and nothing is fetched.
     fn go_on(&mut self)
-        ensures { self.new ≡ goes_on self.old }
+        ensures { (queue : Pending) (cells : Cells) → state_with self.new queue cells ≡ goes_on (state_with self.old queue cells) }
     {
         self.pc_green = self.pc_green.wrapping_add(1);
         self.pc_blue = self.pc_blue.wrapping_add(1);
@@ -176,8 +200,10 @@ impl Machine {
     /// Takes at most `most` steps of a running machine, passes each output to an outlet, and ends early if the machine
     /// stops or the outlet does not go on.
     #[inline(always)]
-    pub fn go<P: Program, T: Outlet>(
+    pub fn go<Q: PendingStores, P: Program, T: Outlet>(
         &mut self,
+        queue: &mut Q,
+        cells: &mut [u64],
         program: &P,
         wild: &mut WildLeft,
         most: u64,
@@ -185,9 +211,12 @@ impl Machine {
     ) -> Gone
         requires spellable { IsSpellable (P.object program.now) }
         requires running { self.old.status ≡ Status.Running }
-        requires may { (output : outputs.Output) → is_cell self.old.cells output.addr ≡ true → T.may outlet.old output }
-        ensures goes { Goes T.Outlet (P.object program.now) self.old wild.old outlet.old self.new wild.new outlet.new result.taken result.pause }
-        ensures heard { T.heard outlet.old (span (P.object program.now) result.taken self.old wild.old).outputs (outlet_goes_on result.pause) outlet.new }
+        requires may { (output : outputs.Output) → is_cell (cells_of cells.old) output.addr ≡ true → T.may outlet.old output }
+        ensures goes { Goes T.Outlet (P.object program.now) (state_over self.old (Q.pending queue.old) cells.old) wild.old outlet.old
+            (state_over self.new (Q.pending queue.new) cells.new) wild.new outlet.new result.taken result.pause }
+        ensures heard { T.heard outlet.old
+            (span (P.object program.now) result.taken (state_over self.old (Q.pending queue.old) cells.old) wild.old).outputs
+            (outlet_goes_on result.pause) outlet.new }
         ensures few { result.taken ≤ most }
         ensures some { 0 < most → 0 < result.taken }
         ensures all { result.pause ≡ Pause.Running → result.taken ≡ most }
@@ -195,7 +224,7 @@ impl Machine {
     {
         let mut taken = 0;
         while taken < most {
-            let next = self.go_some(program, wild, most - taken, outlet);
+            let next = self.go_some(queue, cells, program, wild, most - taken, outlet);
             taken += next.taken;
             if !runs_on(next.pause) {
                 return Gone {
@@ -212,8 +241,10 @@ impl Machine {
 
     /// Takes some steps: whole instructions if the machine is ready for them, otherwise one step.
     #[inline(always)]
-    fn go_some<P: Program, T: Outlet>(
+    fn go_some<Q: PendingStores, P: Program, T: Outlet>(
         &mut self,
+        queue: &mut Q,
+        cells: &mut [u64],
         program: &P,
         wild: &mut WildLeft,
         most: u64,
@@ -221,16 +252,17 @@ impl Machine {
     ) -> Gone
         requires spellable { IsSpellable (P.object program.now) }
         requires running { self.old.status ≡ Status.Running }
-        requires may { (output : outputs.Output) → is_cell self.old.cells output.addr ≡ true → T.may outlet.old output }
+        requires may { (output : outputs.Output) → is_cell (cells_of cells.old) output.addr ≡ true → T.may outlet.old output }
         requires some { 0 < most }
         ensures some { 0 < result.taken }
         ensures few { result.taken ≤ most }
-        ensures goes { Goes T.Outlet (P.object program.now) self.old wild.old outlet.old self.new wild.new outlet.new result.taken result.pause }
+        ensures goes { Goes T.Outlet (P.object program.now) (state_over self.old (Q.pending queue.old) cells.old) wild.old outlet.old
+            (state_over self.new (Q.pending queue.new) cells.new) wild.new outlet.new result.taken result.pause }
     {
         if most > 1 && self.is_ready() {
-            return self.go_ready(program, wild, most, outlet);
+            return self.go_ready(queue, cells, program, wild, most, outlet);
         }
-        let stepped = self.step(program, wild);
+        let stepped = self.step(queue, cells, program, wild);
         Gone {
             taken: 1,
             pause: pass_on(stepped, outlet),
@@ -240,29 +272,43 @@ impl Machine {
     /// Whether nothing is fetched and the counters are equal.
     fn is_ready(&self) -> bool
         requires { self.now.status ≡ Status.Running }
-        ensures { IsTrue result → self.now ≡ doing (bank_of self.now) self.now.pc_green self.now.pc_green None }
+        ensures { (queue : Pending) (cells : Cells) → IsTrue result → state_with self.now queue cells
+            ≡ doing (bank_of (state_with self.now queue cells)) self.now.pc_green self.now.pc_green None }
     {
         self.fetched.is_none() && self.pc_green == self.pc_blue
     }
 
     /// Takes whole instructions of a machine that is ready for one, each in two steps.
     #[inline(always)]
-    fn go_ready<P: Program, T: Outlet>(
+    fn go_ready<Q: PendingStores, P: Program, T: Outlet>(
         &mut self,
+        queue: &mut Q,
+        cells: &mut [u64],
         program: &P,
         wild: &mut WildLeft,
         most: u64,
         outlet: &mut T,
     ) -> Gone
         requires spellable { IsSpellable (P.object program.now) }
-        requires ready { self.old ≡ doing (bank_of self.old) self.old.pc_green self.old.pc_green None }
-        requires may { (output : outputs.Output) → is_cell self.old.cells output.addr ≡ true → T.may outlet.old output }
+        requires ready { (state_over self.old (Q.pending queue.old) cells.old)
+            ≡ doing (bank_of (state_over self.old (Q.pending queue.old) cells.old)) self.old.pc_green self.old.pc_green None }
+        requires may { (output : outputs.Output) → is_cell (cells_of cells.old) output.addr ≡ true → T.may outlet.old output }
         requires some { 1 < most }
         ensures some { 0 < result.taken }
         ensures few { result.taken ≤ most }
-        ensures goes { Goes T.Outlet (P.object program.now) self.old wild.old outlet.old self.new wild.new outlet.new result.taken result.pause }
+        ensures goes { Goes T.Outlet (P.object program.now) (state_over self.old (Q.pending queue.old) cells.old) wild.old outlet.old
+            (state_over self.new (Q.pending queue.new) cells.new) wild.new outlet.new result.taken result.pause }
     {
-        let stretch = do_instructions(&mut self.bank, program, self.pc_green, most, wild, outlet);
+        let stretch = do_instructions(
+            &mut self.file,
+            queue,
+            cells,
+            program,
+            self.pc_green,
+            most,
+            wild,
+            outlet,
+        );
         self.pc_green = stretch.pc;
         self.pc_blue = stretch.pc;
         match stretch.pause {
@@ -285,19 +331,29 @@ impl Machine {
 
     /// Takes at most `most` steps of a running machine, and stops at the first that is not quiet.
     #[inline(always)]
-    pub fn advance<P: Program>(&mut self, program: &P, wild: &mut WildLeft, most: u64) -> Advance
+    pub fn advance<Q: PendingStores, P: Program>(
+        &mut self,
+        queue: &mut Q,
+        cells: &mut [u64],
+        program: &P,
+        wild: &mut WildLeft,
+        most: u64,
+    ) -> Advance
         requires spellable { IsSpellable (P.object program.now) }
         requires running { self.old.status ≡ Status.Running }
-        ensures advances { Advances (P.object program.now) self.old wild.old self.new wild.new most result.taken result.last }
+        ensures advances { Advances (P.object program.now) (state_over self.old (Q.pending queue.old) cells.old) wild.old
+            (state_over self.new (Q.pending queue.new) cells.new) wild.new most result.taken result.last }
         ensures few { result.taken ≤ most }
         ensures some { 0 < most → 0 < result.taken }
 
         // The cells keep their addresses, and a pair that is committed goes to one of them.
-        ensures cells { (n : ℕ) → HasCells n self.old → HasCells n self.new }
-        ensures commits { (output : outputs.Output) → result.last ≡ Stepped.Commit output → is_cell self.old.cells output.addr ≡ true }
+        ensures cells { (n : ℕ) → HasCells n (state_over self.old (Q.pending queue.old) cells.old) →
+            HasCells n (state_over self.new (Q.pending queue.new) cells.new) }
+        ensures commits { (output : outputs.Output) → result.last ≡ Stepped.Commit output → is_cell (cells_of cells.old) output.addr
+            ≡ true }
     {
         let mut first = FirstOutput { output: None };
-        let gone = self.go(program, wild, most, &mut first);
+        let gone = self.go(queue, cells, program, wild, most, &mut first);
         Advance {
             taken: gone.taken,
             last: first.last(gone.pause),
@@ -327,7 +383,7 @@ fn pass_on<T: Outlet>(stepped: Stepped, outlet: &mut T) -> Pause
 
 /// The instruction at a code address, if one is there.
 #[tactic(auto, using(ft_types::proofs::Counted::spellable_counted))]
-fn instr_at<P: Program>(program: &P, pc: u64) -> Option<Instr>
+pub(crate) fn instr_at<P: Program>(program: &P, pc: u64) -> Option<Instr>
     requires { IsSpellable (P.object program.now) }
     ensures found { result ≡ instr_at (P.object program.now) pc }
     ensures length { IfSome result HasNoEmptyRun }
@@ -336,4 +392,12 @@ fn instr_at<P: Program>(program: &P, pc: u64) -> Option<Instr>
         return None;
     }
     Some(program.instr((pc - 1) as u32))
+}
+
+/// Whether an instruction is at a code address.
+pub fn has_instr<P: Program>(program: &P, pc: u64) -> bool
+    requires { IsSpellable (P.object program.now) }
+    ensures { result ≡ is_some (instr_at (P.object program.now) pc) }
+{
+    instr_at(program, pc).is_some()
 }

@@ -6,11 +6,14 @@ ghost use Rattle.ft_types.specs.Spellable.{IsSpellable};
 ghost use Rattle.ft_semantics.specs.State.{is_cell};
 ghost use Rattle.ft_machine.specs.Effects.{doing};
 ghost use Rattle.ft_machine.specs.Goes.{Goes, state_where};
+ghost use Rattle.ft_machine.specs.Arrays.{cells_of};
+ghost use Rattle.ft_machine.specs.Banks.{bank_over};
 
-use crate::bank::{Bank, Effect};
+use crate::bank::{Effect, RegisterFile};
 use crate::outlet::Outlet;
 use crate::stepped::Pause;
 use crate::wild::WildLeft;
+use ft_queue::PendingStores;
 use ft_types::{INSTR_BYTES, Program};
 
 /// Steps of whole instructions: how many, what both counters hold after them, and how they ended.
@@ -89,8 +92,10 @@ fn steps_but(all: u64, rest: usize) -> u64
 /// Fetches and executes whole instructions in at most `most` steps, as long as the machine runs and the outlet goes on.
 /// If an instruction transfers control, execution continues at its target.
 #[inline(never)]
-pub(crate) fn do_instructions<P: Program, T: Outlet>(
-    bank: &mut Bank,
+pub(crate) fn do_instructions<Q: PendingStores, P: Program, T: Outlet>(
+    file: &mut RegisterFile,
+    queue: &mut Q,
+    cells: &mut [u64],
     program: &P,
     first: u64,
     most: u64,
@@ -99,11 +104,13 @@ pub(crate) fn do_instructions<P: Program, T: Outlet>(
 ) -> Stretch
     requires spellable { IsSpellable (P.object program.now) }
     requires some { 1 < most }
-    requires may { (output : Committed) → is_cell bank.old.cells output.addr ≡ true → T.may outlet.old output }
+    requires may { (output : Committed) → is_cell (cells_of cells.old) output.addr ≡ true → T.may outlet.old output }
     ensures some { 0 < result.taken }
     ensures few { result.taken ≤ most }
-    ensures goes { Goes T.Outlet (P.object program.now) (doing bank.old first first None) wild.old outlet.old
-        (state_where (P.object program.now) result.pc result.pause bank.new) wild.new outlet.new result.taken result.pause }
+    ensures goes { Goes T.Outlet (P.object program.now) (doing (bank_over file.old (Q.pending queue.old) cells.old) first first None)
+        wild.old outlet.old
+        (state_where (P.object program.now) result.pc result.pause (bank_over file.new (Q.pending queue.new) cells.new))
+        wild.new outlet.new result.taken result.pause }
 {
     let count = program.counts().instrs as usize;
     let code = program.code();
@@ -120,7 +127,7 @@ pub(crate) fn do_instructions<P: Program, T: Outlet>(
     let mut limit = at + place_of(all as usize);
     let mut past = stretch_end(limit, end);
     while at < past {
-        match bank.execute(program.fetch(code, at), wild) {
+        match file.execute(queue, cells, program.fetch(code, at), wild) {
             Effect::On => at += INSTR_BYTES,
             Effect::To(target) => {
                 let rest = limit - (at + INSTR_BYTES);

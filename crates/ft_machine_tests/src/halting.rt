@@ -47,12 +47,11 @@ impl Write for HaltingWriter {
 
 /// Whether a sink over a writer with this much room writes the whole piece.
 fn is_written(alloc: Global, room: usize, piece: &[u8]) -> Result<bool, Fail> {
-    let mut sink = GatheringSink::new(alloc, HaltingWriter::new(alloc, room))?;
+    let mut writer = HaltingWriter::new(alloc, room);
+    let mut sink = GatheringSink::new(alloc, &mut writer)?;
     sink.put(piece)?;
-    match sink.finish() {
-        Ok(writer) => Ok(writer.taken.as_slice() == piece),
-        Err(_) => Ok(false),
-    }
+    let is_whole = sink.finish().0.is_ok();
+    Ok(is_whole && writer.taken.as_slice() == piece)
 }
 
 #[test]
@@ -74,8 +73,10 @@ fn interrupted_writes_go_on_and_a_full_writer_fails(rt: HostRuntime) -> Result<(
 fn a_piece_beyond_the_room_is_written_apart(rt: HostRuntime) -> Result<(), Fail> {
     let long = Vec::from_elem(rt.alloc(), b'x', 65_537)?;
     assert!(rt; is_written(rt.alloc(), 65_537, long.as_slice())?);
-    let mut sink = GatheringSink::new(rt.alloc(), HaltingWriter::new(rt.alloc(), 65_536))?;
+    let mut writer = HaltingWriter::new(rt.alloc(), 65_536);
+    let mut sink = GatheringSink::new(rt.alloc(), &mut writer)?;
     assert!(rt; sink.put(long.as_slice()).is_err());
-    assert_eq!(rt; sink.discard().taken.len(), 65_536);
+    let _ = sink.discard();
+    assert_eq!(rt; writer.taken.len(), 65_536);
     Ok(())
 }

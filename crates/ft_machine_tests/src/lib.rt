@@ -1,4 +1,4 @@
-//! Tests of sinks, shelves and sources, the machine, struck runs, the debugger and the scheduler.
+//! Tests of sinks, shelves and sources, the machine, struck runs, the debugger, the scheduler and flows.
 //!
 //! These tests have a crate of their own, since a crate with tests is proved twice. The values come from the
 //! definitions, not from this implementation's output. Worked objects were made by another implementation
@@ -8,6 +8,8 @@
 
 #[cfg(test)]
 mod checked;
+#[cfg(test)]
+mod flows;
 #[cfg(test)]
 mod full;
 #[cfg(test)]

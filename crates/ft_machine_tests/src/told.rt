@@ -47,6 +47,8 @@ struct KeepingShelf<R: Abort + Drop, F: Shelf + Drop> {
 impl<R: Abort + Drop, F: Shelf + Drop> Shelf for KeepingShelf<R, F> {
     ghost log = { λ shelf. record (F.log shelf.inner) { asked = Some (map (λ load. (load.name.items, load.limit)) shelf.asked.items) } };
 
+    ghost agrees = { λ shelf files. F.agrees shelf.inner files };
+
     fn load(&mut self, name: &str, limit: usize, into: &mut Vec<u8>) -> Result<Load, LoadFault> {
         let copy = Vec::from_slice(self.alloc, name.as_bytes()).expect(
             &self.rt,
@@ -69,6 +71,10 @@ struct KeepingSource<R: Abort + Drop, I: Source + Drop> {
 
 impl<R: Abort + Drop, I: Source + Drop> Source for KeepingSource<R, I> {
     ghost log = { λ source. record (I.log source.inner) { takes = Some source.sizes.items } };
+
+    ghost heard = { λ source. I.heard source.inner };
+
+    ghost may_be_left = { λ source rest. I.may_be_left source.inner rest };
 
     fn take(&mut self, buf: &mut [u8]) -> Result<usize, Failed> {
         let answer = self.inner.take(buf);

@@ -140,15 +140,27 @@ fn next_kind(lexer: &mut Lexer<'_>) -> Option<Kind> {
     }
 }
 
+/// Whether a declaration of a source goes on like this behind its name. In an assembly text, a type follows the index of
+/// an array's cell.
+fn is_declared(lexer: &mut Lexer<'_>) -> bool {
+    match next_kind(lexer) {
+        Some(Kind::LBracket) => {
+            let _index = next_kind(lexer);
+            let _bracket = next_kind(lexer);
+            next_kind(lexer) != Some(Kind::Name)
+        }
+        Some(Kind::Assign | Kind::Semi) => true,
+        _ => false,
+    }
+}
+
 /// Whether a source may begin with this line.
 fn begins_source(line: &[u8]) -> bool {
     let mut lexer = Lexer::new(line);
     let first = next_kind(&mut lexer);
     let second = next_kind(&mut lexer);
-    let third = next_kind(&mut lexer);
-    let is_declared = matches!(third, Some(Kind::Assign | Kind::LBracket | Kind::Semi));
     match first {
-        Some(Kind::Cell | Kind::Var) => second == Some(Kind::Name) && is_declared,
+        Some(Kind::Cell | Kind::Var) => second == Some(Kind::Name) && is_declared(&mut lexer),
         Some(Kind::While | Kind::If) => second == Some(Kind::LParen),
         Some(Kind::Name) => matches!(second, Some(Kind::Assign | Kind::LBracket)),
         _ => false,

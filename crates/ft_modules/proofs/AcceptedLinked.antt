@@ -34,7 +34,8 @@ use Rattle.ft_modules.specs.Linkable.{HasPlainCell, IsModule, IsJoined, AreLinka
 use Rattle.ft_modules.specs.Linked.{nothing_before, raised_block, Change, change_of, blocks_part, entry_by, linked}
 use Rattle.ft_modules.specs.Links.{Link, links, type_in}
 use Rattle.ft_modules.specs.ModulesRun.{link_at}
-use Rattle.ft_modules.proofs.Addresses.{find_same, same_tests, one_number, block_at_own}
+use Rattle.ft_tolerance.proofs.BlockPlaces.{one_number}
+use Rattle.ft_modules.proofs.Addresses.{find_same, same_tests, block_at_own}
 use Rattle.ft_modules.proofs.LinkedBlocks.{start_beside, applies_beside}
 use Rattle.ft_modules.proofs.Laying.{whence}
 use Rattle.ft_modules.proofs.ModuleInstrs.{sent_by_change, sent_to}

@@ -20,7 +20,8 @@ use Rattle.ft_modules.specs.Linkable.{IsModule, IsJoined, AreLinkable}
 use Rattle.ft_modules.specs.Linked.{nothing_before, raised_block, Change, change_of, change_at, linked}
 use Rattle.ft_modules.specs.Links.{Link, links, start_in, type_in}
 use Rattle.ft_modules.specs.ModulesRun.{InModule, link_at, sent_by}
-use Rattle.ft_modules.proofs.Addresses.{find_same, find_mapped, same_tests, within_blocks, one_number, block_at_own}
+use Rattle.ft_tolerance.proofs.BlockPlaces.{within_blocks, one_number}
+use Rattle.ft_modules.proofs.Addresses.{find_same, find_mapped, same_tests, block_at_own}
 use Rattle.ft_modules.proofs.ModuleParts.{Sits, sits}
 use Rattle.ft_modules.proofs.World.{before_of, at_address, Lands}
 use Rattle.ft_modules.proofs.SentOn.{like_itself, rises_before, sent_at, stay_at}

@@ -24,7 +24,7 @@ use Rattle.ft_modules.specs.Linkable.{IsJoined, AreLinkable}
 use Rattle.ft_modules.specs.Linked.{raised_block, Change, change_of, linked}
 use Rattle.ft_modules.specs.Links.{Link, links, start_in}
 use Rattle.ft_modules.specs.ModulesRun.{InModule, link_at, sent_by, sent}
-use Rattle.ft_modules.proofs.Addresses.{within_blocks, no_block_inside}
+use Rattle.ft_tolerance.proofs.BlockPlaces.{within_blocks, no_block_inside}
 use Rattle.ft_modules.proofs.LinkedContexts.{Sends, AreSent, IsInstrOf}
 use Rattle.ft_modules.proofs.ModuleParts.{linked_instr}
 use Rattle.ft_modules.proofs.Trees.{range_get, like_raised, subst_raised}

@@ -32,7 +32,7 @@ use Rattle.ft_modules.specs.Linked.{changed_instr, laid, nodes_part, types_part,
 use Rattle.ft_modules.specs.Linked.{entry_by, linked}
 use Rattle.ft_modules.specs.Links.{Link, links}
 use Rattle.ft_modules.proofs.Elements.{all_of}
-use Rattle.ft_modules.proofs.Addresses.{within_blocks}
+use Rattle.ft_tolerance.proofs.BlockPlaces.{within_blocks}
 use Rattle.ft_modules.proofs.LaidNodes.{laid_nodes}
 use Rattle.ft_modules.proofs.Laying.{whence, laid_length}
 use Rattle.ft_modules.proofs.ModuleInstrs.{typed_moves}

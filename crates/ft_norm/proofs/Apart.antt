@@ -29,7 +29,7 @@ first_split P n c ts us f g = go (n == 0) refl
     go false e = g (eqb-false n 0 e)
 
 -- the polynomial of terms is that of the others plus the constant
-split_form : (fs : List Form) (ts : List Term) → AreTerms ts → polynomial_form fs ts
+pub split_form : (fs : List Form) (ts : List Term) → AreTerms ts → polynomial_form fs ts
     ≡ add_term one (constant_among ts) (polynomial_form fs (others ts))
 split_form fs [] h = refl
 split_form fs (t ∷ ts) h = first_split (λ c us. polynomial_form fs (t ∷ ts) ≡ add_term one c (polynomial_form fs us))
@@ -193,3 +193,17 @@ module _ (fs : List Form) (ps qs : List Term) (a : AreOver fs ps) (b : AreOver f
       ≡ is_not_zero (constant_of (norm_sub (polynomial_form fs ps) (polynomial_form fs qs)))
   by_others true n d = apart n (d.0 refl)
   by_others false n d = not_apart (λ m s. true≢false (sym (d.1 s)))
+
+  -- if the difference is a nonzero constant, the other terms are the same
+  pub apart_others : is_not_zero (constant_of (norm_sub (polynomial_form fs ps) (polynomial_form fs qs))) ≡ true →
+      others ps ≡ others qs
+  apart_others h =
+      let r = some_number difference (ap is_not_zero (constant_sum (polynomial_form fs ps)
+      (negation (polynomial_form fs qs))) ∙ h) in
+      others_same r.0 r.1
+    where
+      some_number : (p : Polynomial) → is_not_zero (constant_of p) ≡ true → (e : ℕ) × (p ≡ plus one e nought)
+      some_number nought h = cc
+      some_number (plus one e nought) h = (e, refl)
+      some_number (plus one e (plus n d p)) h = cc
+      some_number (plus (times a m) e p) h = cc

@@ -200,7 +200,7 @@ terms_reach_agree n m fs gs h l k (t ∷ ts) r = let a = atoms_reach_agree n m f
     let b = terms_reach_agree n m fs gs h l k ts (omega arith) in omega arith
 
 -- so does the reach of an entry
-entry_reach_agree : (n m : ℕ) (fs gs : List Form) → Agree n fs gs → n ≤ length fs → m ≤ n → (e : Entry) →
+pub entry_reach_agree : (n m : ℕ) (fs gs : List Form) → Agree n fs gs → n ≤ length fs → m ≤ n → (e : Entry) →
     reach_of_entry fs e ≤ m → reach_of_entry gs e ≤ m
 entry_reach_agree n m fs gs h l k (Lone a) r = reach_agree n m fs gs h l k a r
 entry_reach_agree n m fs gs h l k (Linear ts) r = terms_reach_agree n m fs gs h l k (map full ts.items) r

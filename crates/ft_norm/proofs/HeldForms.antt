@@ -62,7 +62,8 @@ pub memory_from : (gs : List Normal) (f : Form) (u : Updates) → held gs f ≡ 
 memory_from gs f u h = record { found = h ∙ ap (λ w. Some (memory_form w)) (sym (updates_found gs f.0 u h)) }
 
 -- if every form stays, so do its sort and its contents
-keeps_from : (fs gs : List Normal) → ((f : Form) (x : Normal) → held fs f ≡ Some x → held gs f ≡ Some x) → Keeps fs gs
+pub keeps_from : (fs gs : List Normal) → ((f : Form) (x : Normal) → held fs f ≡ Some x → held gs f ≡ Some x) →
+    Keeps fs gs
 keeps_from fs gs k = record {
   forms_stay = k;
   integers_stay = λ (f : Form) h. integer_from gs f (polynomial fs f) (k f (integer_form (polynomial fs f)) h.found);

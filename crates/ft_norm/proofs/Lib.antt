@@ -18,6 +18,8 @@ pub mod Same
 pub mod Paths
 pub mod Made
 mod Distinct
+mod First
+mod Ways
 pub mod Apart
 pub mod Memos
 pub mod Constants

@@ -1,9 +1,14 @@
 -- What a memo remembers while forms are made.
 use Rattle.std.proofs.Common.{◌≡◌, ◌+◌, ◌≤◌, ℕ, true, false, List, None, Some, Result, Ok, Err, nat_eq, slice_get, sym}
-use Rattle.std.proofs.Common.{ap, ◌∙◌}
+use Rattle.std.proofs.Common.{ap, ◌∙◌, Bool, Option, ◌<◌, cond, filter, get_or, length, nat_lt, refl, subst}
+use Rattle.std.proofs.lemmas.Bool.{ltb-true}
+use Rattle.std.proofs.lemmas.Map.Entries.{lookup-filter-values, option_filter}
+use Rattle.std.proofs.lemmas.Option.{slice_get-get_or}
+use Rattle.std.specs.Map.{lookup}
+use Rattle.std.specs.Cmp.{nat_eq_equiv}
 use Rattle.std.specs.Prelude.{IfOk}
-use Rattle.indexmap.specs.IndexMap.{IsUnchanged, get}
-use Rattle.ft_static.specs.Form.{Form as Normal, Polynomial, Updates, updates}
+use Rattle.indexmap.specs.IndexMap.{IsUnchanged, IsUnique, get}
+use Rattle.ft_static.specs.Form.{Form as Normal, Polynomial, Updates, integer_form, nought, updates}
 use Rattle.ft_static.specs.NormalForm.{form_under}
 use Rattle.ft_static.specs.NodeRules.{AreNodes}
 use Rattle.ft_static.specs.NodeParts.{is_memory}
@@ -106,3 +111,33 @@ pub count_told : {E : Type 0} (ns : List Node) (fs gs : List Normal) (ints : Lis
     IfOk r (λ f. updates (updates_held gs f) ≤ updates (updates_held fs memory) + n)
 count_told ns fs gs ints memory n (Ok f) t = t.count
 count_told ns fs gs ints memory n (Err d) t = tt
+
+-- a value that passes the filter is there, and passes the test
+filtered : {X : Type 0} (p : X → Bool) (o : Option X) (x : X) → option_filter p o ≡ Some x → (o ≡ Some x) × (p x ≡ true)
+filtered p None x h = cc
+filtered p (Some y) x h = go (p y) refl h
+  where
+    go : (b : Bool) → p y ≡ b → cond b (Some y) None ≡ Some x → (Some y ≡ Some x) × (p x ≡ true)
+    go true e h = (h, subst (λ z. p z ≡ true) (let q : y ≡ x = cc in q) e)
+    go false e h = cc
+
+-- if a memo is left with the forms among the first n, what it remembers is right over the first n
+pub remembers_first : (ns : List Node) (fs gs : List Normal) (ints : List Form) (memory : Form) (n : ℕ) (m l : Memo) →
+    IsUnique nat_eq m.made → l.made.entries ≡ filter (λ e. nat_lt e.1.0 n) m.made.entries →
+    Remembers ns gs ints memory m → length fs ≡ n → Keeps fs gs → AreIntegers fs ints → IsMemory fs memory →
+    Remembers ns fs ints memory l
+remembers_first ns fs gs ints memory n m l u e r c k i w = record {
+  each = λ q f h.
+      let s : option_filter (λ (x : Form). nat_lt x.0 n) (get nat_eq m.made q) ≡ Some f =
+      sym (ap (lookup (nat_eq q)) e
+      ∙ lookup-filter-values nat_eq_equiv (λ (x : Form). nat_lt x.0 n) q m.made.entries u) ∙ h in
+      let t = filtered (λ (x : Form). nat_lt x.0 n) (get nat_eq m.made q) f s in
+      let b : f.0 < length fs = rw c (ltb-true f.0 n t.1) in
+      let p = polynomials_kept fs gs ints k i in
+      let v = k.updates_stay memory w in
+      let x = get_or fs f.0 (integer_form nought) in
+      let at : slice_get fs f.0 ≡ Some x = slice_get-get_or fs f.0 (integer_form nought) b in
+      at ∙ sym (k.forms_stay f x at) ∙ r.each q f t.0
+      ∙ ap (λ (ps : List Polynomial). Some (form_under ps (updates_held gs memory) (tree_at ns q))) p
+      ∙ ap (λ (y : Updates). Some (form_under (polynomials fs ints) y (tree_at ns q))) v;
+}

@@ -4,6 +4,7 @@ pub mod Orders
 pub mod Packing
 pub mod Entries
 pub mod Terms
+pub mod Ways
 pub mod Walks
 pub mod Parts
 pub mod Memos

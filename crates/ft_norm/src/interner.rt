@@ -1,7 +1,7 @@
-//! The interner: a growing list of distinct normal forms.
-ghost use Rattle.std.specs.Prelude.{◌≡◌, ◌↔◌, ◌+◌, ◌*◌, ◌<◌, ◌≤◌, [], Some, IfOk, IfSome, IsTrue, length, slice_get, true, false};
+//! The interner: a list of distinct normal forms.
+ghost use Rattle.std.specs.Prelude.{◌≡◌, ◌↔◌, ◌+◌, ◌*◌, ◌<◌, ◌≤◌, [], Some, IfOk, IfSome, IsTrue, List, length, slice_get, take, true, false};
 ghost use Rattle.ft_static.specs.Expression.{Expression, HasWords, IsLawful, Valuation, denotation};
-ghost use Rattle.ft_static.specs.Form.{has_atom, integer_form, memory_form, unchanged, updates, variable_atom};
+ghost use Rattle.ft_static.specs.Form.{Form as Normal, has_atom, integer_form, memory_form, unchanged, updates, variable_atom};
 ghost use Rattle.ft_static.specs.NodeRules.{AreNodes};
 ghost use Rattle.ft_static.specs.NodeParts.{is_memory};
 ghost use Rattle.ft_static.specs.NodeTree.{tree_at};
@@ -12,29 +12,37 @@ ghost use Rattle.ft_norm.specs.Entries.{IsCanonical, atom_form, entry_form, poly
 ghost use Rattle.ft_norm.specs.Orders.{AreTerms};
 ghost use Rattle.ft_norm.specs.Parts.{HaveSorts, form_of_parts, updates_of_parts};
 ghost use Rattle.ft_norm.specs.Terms.{AreOver, terms_of};
+ghost use Rattle.ft_norm.specs.Walks.{EndsWithin, form_of_walk};
 
 use crate::built::{entry_of, place_of_atom};
-use crate::entry::{Entry, LinearTerm, Term, is_word, word_of};
+use crate::entry::{Entry, LinearTerm, MONOMIALS, Term, is_word, word_of};
 use crate::form::Form;
 use crate::keys::Keys;
 use crate::substitution::Memo;
 use crate::terms::{Terms, terms_at};
+use crate::turns::{Path, note_paths};
 use crate::walk::{Walk, below_newest, constant_in, walk_from};
-use ft_isa::{NoMemory, Op, Steps, apply};
+use ft_isa::{NoMemory, Op, apply};
+use ft_meter::Meter;
 use ft_static::{Nodes, Shape};
-use indexmap::IndexSet;
+use indexmap::{IndexMap, IndexSet};
 use smallvec::SmallVec;
 use std::alloc::{AllocError, Global};
 use std::marker::Model;
-use std::sync::ledger::Ledger;
 
 /// The size of the cache that gives the place of a word's entry.
 const RECENT: usize = 64;
 
+/// The number of forms for which a new interner has room: a check begins with those of 129 variables.
+const FIRST_ROOM: usize = 192;
+
+/// How many updates walks pass for each whose path is noted.
+const SHARE: u64 = 4;
+
 /// The maximum number of forms, chosen so that the count and each form's number plus one fit in a `u32`.
 const FORMS: usize = 4_294_967_294;
 
-/// Normal forms of integers and memories, in a list that only grows: a `Form` keeps its meaning in all later calls. It
+/// Normal forms of integers and memories, in a list: a `Form` keeps its meaning until `keep_first` forgets it. An interner
 /// holds at most 4,294,967,294 forms. A call that makes a form returns `NoMemory` if memory runs out or that many are
 /// held; even then, the forms held before stay.
 #[derive(Drop)]
@@ -43,6 +51,12 @@ pub struct Interner {
     entries: IndexSet<Entry, Keys>,
     /// The place where a word's entry may be, indexed by the word modulo `RECENT`. It is tried before the table.
     recent: [u32; RECENT],
+    /// Paths of updates that walks have passed after many others.
+    paths: IndexMap<u32, Path>,
+    /// How many updates without a path long walks have passed since paths were noted.
+    passed: u64,
+    /// How many there must be before paths are noted.
+    wanted: u64,
 }
 
 impl Model for Interner {
@@ -50,7 +64,8 @@ impl Model for Interner {
     ghost use Rattle.std.specs.Coded.{coded_list};
     ghost use Rattle.ft_static.specs.Form.{Form as Normal};
     ghost use Rattle.ft_static.proofs.Spelled.{form_code};
-    ghost use Rattle.ft_norm.specs.Entries.{AreEntries, forms_of};
+    ghost use Rattle.ft_norm.specs.Entries.{forms_of};
+    ghost use Rattle.ft_norm.specs.Ways.{AreSound};
 
     ghost Value = { List Normal };
 
@@ -58,7 +73,7 @@ impl Model for Interner {
 
     ghost view = { λ s. forms_of s.entries.keys };
 
-    ghost invariant = { λ s. AreEntries s.entries.keys };
+    ghost invariant = { λ s. AreSound s.entries.keys s.paths };
 }
 
 impl Interner {
@@ -75,10 +90,14 @@ impl Interner {
         ensures { IfOk result (λ s. s ≡ []) }
     {
         let keys = Keys::new(first, second);
+        let entries = IndexSet::with_capacity_and_hasher(alloc, FIRST_ROOM, keys)?;
         Ok(Interner {
             alloc,
-            entries: IndexSet::with_hasher(alloc, keys),
+            entries,
             recent: [0; RECENT],
+            paths: IndexMap::new(alloc),
+            passed: 0,
+            wanted: 0,
         })
     }
 
@@ -135,6 +154,47 @@ impl Interner {
         Ok(form)
     }
 
+    /// The form of an operation, paid for by the terms of its operands: those of a sum or a difference are read and
+    /// written, and those of a product are multiplied with each other.
+    #[inline]
+    pub fn op_within<M: Meter>(
+        &mut self,
+        op: Op,
+        a: Form,
+        b: Form,
+        meter: &mut M,
+    ) -> Result<Form, NoMemory>
+        requires first { IsInteger self.old a }
+        requires second { IsInteger self.old b }
+        ensures kept { Keeps self.old self.new }
+        ensures form { IfOk result (λ f. held self.new f ≡ Some (integer_form (norm_op op (polynomial self.old a) (polynomial self.old b)))) }
+        ensures sort { IfOk result (λ f. IsInteger self.new f) }
+        ensures steps { M.counted meter.new ≡ M.counted meter.old }
+    {
+        let price = if M::WEIGHS { self.price(op, a, b) } else { 0 };
+        meter.pay(price)?;
+        self.op(op, a, b)
+    }
+
+    /// How many terms an operation reads and writes at most, and one more.
+    #[inline(always)]
+    fn price(&self, op: Op, a: Form, b: Form) -> u64
+        requires first { IsInteger self.now a }
+        requires second { IsInteger self.now b }
+    {
+        let p = self.terms(a).len() as u64;
+        let q = self.terms(b).len() as u64;
+        match op {
+            Op::Add | Op::Sub => p.saturating_add(q).saturating_mul(2).saturating_add(1),
+            Op::Mul => p
+                .saturating_mul(q)
+                .min(MONOMIALS as u64)
+                .saturating_mul(2)
+                .saturating_add(1),
+            _ => 1,
+        }
+    }
+
     /// The form of the remainder of an integer divided by a length.
     pub fn rem(&mut self, a: Form, length: u32) -> Result<Form, NoMemory>
         requires integer { IsInteger self.old a }
@@ -151,21 +211,18 @@ impl Interner {
         Ok(form)
     }
 
-    /// The form of the word that a memory holds at an address. A step is counted for each update that the walk passes.
-    pub fn sel<L: Ledger>(
-        &mut self,
-        memory: Form,
-        at: Form,
-        steps: &mut Steps<L>,
-    ) -> Result<Form, NoMemory>
+    /// The form of the word that a memory holds at an address. A step is counted for each update at which the walk goes on
+    /// to an older one.
+    pub fn sel<M: Meter>(&mut self, memory: Form, at: Form, meter: &mut M) -> Result<Form, NoMemory>
         requires memory { IsMemory self.old memory }
         requires address { IsInteger self.old at }
         ensures kept { Keeps self.old self.new }
         ensures form { IfOk result (λ f. held self.new f ≡ Some (integer_form (norm_sel (updates_held self.old memory) (polynomial self.old at)))) }
         ensures sort { IfOk result (λ f. IsInteger self.new f) }
-        ensures steps { steps.new ≤ steps.old + updates (updates_held self.old memory) }
+        ensures steps { M.counted meter.new ≤ M.counted meter.old + updates (updates_held self.old memory) }
     {
-        let form = match walk_from(self.entries.as_slice(), memory.0, at.0, steps) {
+        let walk = self.walked(memory, at, meter)?;
+        let form = match walk {
             Walk::Value(value) => Form(value),
             Walk::Stop(older) => self.alone(Shape::Sel {
                 memory: older,
@@ -196,14 +253,14 @@ impl Interner {
     /// The form of node `n` after `ints[i]` is substituted for integer variable `i`, and `memory` for the memory
     /// variable. The nodes obey their rules, and the scope of node `n` is at most the number of `ints`. Each node that
     /// the tree reaches is handled once, after its parts and without recursion. A step is counted for each of these
-    /// nodes, and for each update that a walk passes.
-    pub fn under<N: Nodes, L: Ledger>(
+    /// nodes, and for each update at which a walk goes on.
+    pub fn under<N: Nodes, M: Meter>(
         &mut self,
         nodes: &N,
         n: u32,
         ints: &[Form],
         memory: Form,
-        steps: &mut Steps<L>,
+        meter: &mut M,
     ) -> Result<Form, NoMemory>
         requires nodes { AreNodes (N.nodes nodes.now) }
         requires node { n < length (N.nodes nodes.now) }
@@ -215,10 +272,10 @@ impl Interner {
         ensures integer { (x : Numbered) → slice_get (N.nodes nodes.now) n ≡ Some x → is_memory x.shape ≡ false → IfOk result (λ f. IsInteger self.new f) }
         ensures memory { (x : Numbered) → slice_get (N.nodes nodes.now) n ≡ Some x → is_memory x.shape ≡ true → IfOk result (λ f. IsMemory self.new f) }
         ensures count { IfOk result (λ f. updates (updates_held self.new f) ≤ updates (updates_held self.old memory) + n) }
-        ensures steps { steps.new ≤ steps.old + (n + 1) * (1 + updates (updates_held self.old memory) + n) }
+        ensures steps { M.counted meter.new ≤ M.counted meter.old + (n + 1) * (1 + updates (updates_held self.old memory) + n) }
     {
         let mut memo = Memo::new(self.alloc);
-        memo.form(self, nodes, n, ints, memory, steps)
+        memo.form(self, nodes, n, ints, memory, meter)
     }
 
     /// Whether two forms, of either sort, are equal. If so, expressions with these forms denote the same value.
@@ -232,6 +289,64 @@ impl Interner {
         // read here.
         let _entries = &self.entries;
         a.0 == b.0
+    }
+
+    /// Walks the updates of a memory for an address, and notes paths through them if the walk was long.
+    fn walked<M: Meter>(&mut self, memory: Form, at: Form, meter: &mut M) -> Result<Walk, NoMemory>
+        requires memory { IsMemory self.old memory }
+        requires address { IsInteger self.old at }
+        ensures same { self.new ≡ self.old }
+        ensures ends { IfOk result (EndsWithin self.old) }
+        ensures form { IfOk result (λ w. form_of_walk self.old at.0 w ≡ norm_sel (updates_held self.old memory) (polynomial self.old at)) }
+        ensures steps { M.counted meter.new ≤ M.counted meter.old + updates (updates_held self.old memory) }
+    {
+        let mut far = 0;
+        let entries = self.entries.as_slice();
+        let walk = walk_from(entries, &self.paths, memory.0, at.0, &mut far, meter)?;
+        if far > 0 {
+            self.note(memory, far)?;
+        }
+        Ok(walk)
+    }
+
+    /// Notes the paths of the updates of a memory as soon as walks have passed `SHARE` times as many updates without a
+    /// path. So the time to note them, even in vain, is a fraction of that of the walks.
+    #[inline(never)]
+    fn note(&mut self, memory: Form, passed: u64) -> Result<(), AllocError>
+        requires memory { IsMemory self.old memory }
+        ensures same { self.new ≡ self.old }
+    {
+        self.passed = self.passed.saturating_add(passed);
+        if self.passed < self.wanted {
+            return Ok(());
+        }
+        let most = self.passed / SHARE;
+        let entries = self.entries.as_slice();
+        let noted = note_paths(self.alloc, entries, &mut self.paths, memory.0, most)?;
+        if noted {
+            self.passed = 0;
+            self.wanted = 0;
+        } else {
+            self.wanted = self.passed.saturating_mul(2);
+        }
+        Ok(())
+    }
+
+    /// How many forms are held.
+    pub fn count(&self) -> usize
+        ensures { result ≡ length self.now }
+    {
+        self.entries.len()
+    }
+
+    /// Forgets all forms but the first `count`. A `Form` made after these means nothing until its place is taken again.
+    /// So does what a memo remembers: `Memo::keep_first` forgets it, too.
+    pub fn keep_first(&mut self, count: usize)
+        ensures first { self.new ≡ take count self.old }
+        ensures kept { (fs : List Normal) → length fs ≡ count → Keeps fs self.old → Keeps fs self.new }
+    {
+        self.entries.truncate(count);
+        self.paths = IndexMap::new(self.alloc);
     }
 
     /// Interns an entry.
@@ -345,19 +460,19 @@ impl Interner {
 }
 
 /// The form of a node whose parts are given as the numbers of their forms. A variable beyond `ints` is the word 0.
-pub(crate) fn form_from<L: Ledger>(
+pub(crate) fn form_from<M: Meter>(
     forms: &mut Interner,
     parts: Shape,
     ints: &[Form],
     memory: Form,
-    steps: &mut Steps<L>,
+    meter: &mut M,
 ) -> Result<Form, NoMemory>
     requires parts { HaveSorts forms.old parts }
     requires ints { AreIntegers forms.old ints.now }
     requires memory { IsMemory forms.old memory }
     ensures kept { Keeps forms.old forms.new }
     ensures form { IfOk result (λ f. held forms.new f ≡ Some (form_of_parts (polynomials forms.old ints.now) (updates_held forms.old memory) forms.old parts)) }
-    ensures steps { steps.new ≤ steps.old + updates_of_parts forms.old parts }
+    ensures steps { M.counted meter.new ≤ M.counted meter.old + updates_of_parts forms.old parts }
 {
     match parts {
         Shape::Word(w) => forms.word(w),
@@ -365,8 +480,8 @@ pub(crate) fn form_from<L: Ledger>(
             Some(form) => Ok(*form),
             None => forms.word(0),
         },
-        Shape::Op { op, a, b } => forms.op(op, Form(a), Form(b)),
-        Shape::Sel { memory: m, at } => forms.sel(Form(m), Form(at), steps),
+        Shape::Op { op, a, b } => forms.op_within(op, Form(a), Form(b), meter),
+        Shape::Sel { memory: m, at } => forms.sel(Form(m), Form(at), meter),
         Shape::Memory => Ok(memory),
         Shape::Upd {
             memory: m,

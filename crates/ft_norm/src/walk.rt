@@ -1,5 +1,5 @@
 //! Finds constants among terms, and walks the updates of a memory.
-ghost use Rattle.std.specs.Prelude.{◌≡◌, ◌+◌, ◌<◌, ◌≤◌, List, [], ◌∷◌, length, map};
+ghost use Rattle.std.specs.Prelude.{◌≡◌, ◌≢◌, ◌+◌, ◌<◌, ◌≤◌, ℕ, IfOk, List, [], ◌∷◌, length, map};
 ghost use Rattle.std.specs.Bool.{Decides};
 ghost use Rattle.ft_static.specs.Form.{Form as Normal, Polynomial, nought, plus, update, updates};
 ghost use Rattle.ft_static.specs.NormalForm.{constant_of, is_not_zero, norm_sel, norm_sub, norm_upd};
@@ -7,11 +7,17 @@ ghost use Rattle.ft_norm.specs.Held.{polynomial_at, updates_at};
 ghost use Rattle.ft_norm.specs.Entries.{AreEntries, IsIntegerAt, IsMemoryAt, alone_term, forms_of, full, memory_reach, monomial_form, polynomial_form};
 ghost use Rattle.ft_norm.specs.Terms.{AreOver, IsView, constant_among, others, terms_of};
 ghost use Rattle.ft_norm.specs.Walks.{EndsWithin, form_of_walk};
+ghost use Rattle.ft_norm.specs.Ways.{ArePaths, AreAlike, IsUpdate, Passes};
 
 use crate::entry::{Atoms, Entry, LinearTerm, degree};
 use crate::terms::{Terms, terms_at};
-use ft_isa::Steps;
-use std::sync::ledger::Ledger;
+use crate::turns::{Path, follow};
+use ft_isa::NoMemory;
+use ft_meter::Meter;
+use indexmap::IndexMap;
+
+/// How many updates a walk passes before it looks for a path.
+const FEW: u32 = 32;
 
 /// Where a walk ends: at the value of an update with the address, or at the memory past which the walk cannot go.
 #[derive(Clone, Copy)]
@@ -119,7 +125,7 @@ fn are_apart(p: Terms<'_>, q: Terms<'_>) -> bool
 
 /// Whether these terms and those of entry `a` differ by a constant other than 0.
 #[inline(always)]
-fn differs(entries: &[Entry], terms: Terms<'_>, a: u32) -> bool
+pub fn differs(entries: &[Entry], terms: Terms<'_>, a: u32) -> bool
     requires view { IsView terms }
     requires terms { AreOver (forms_of entries.now) (terms_of terms) }
     requires address { a < length entries.now }
@@ -130,30 +136,72 @@ fn differs(entries: &[Entry], terms: Terms<'_>, a: u32) -> bool
 }
 
 /// Walks the updates of `memory`, newest first, past those whose addresses are known to differ from the address `p`. It
-/// stops at the first other update, or at the end, and counts a step for each update passed.
-pub fn walk_from<L: Ledger>(entries: &[Entry], memory: u32, p: u32, steps: &mut Steps<L>) -> Walk
+/// stops at the first other update, or at the end. It counts a step for each update passed one by one, and for each way
+/// that it takes along a path; it pays for the terms that it compares, and gives up if the meter refuses. `far` counts
+/// the updates at which it looked for a path in vain.
+pub fn walk_from<M: Meter>(
+    entries: &[Entry],
+    paths: &IndexMap<u32, Path>,
+    memory: u32,
+    p: u32,
+    far: &mut u64,
+    meter: &mut M,
+) -> Result<Walk, NoMemory>
     requires memory { IsMemoryAt (forms_of entries.now) memory }
     requires at { IsIntegerAt (forms_of entries.now) p }
     requires entries { AreEntries entries.now }
-    ensures ends { EndsWithin (forms_of entries.now) result }
-    ensures form { form_of_walk (forms_of entries.now) p result ≡ norm_sel (updates_at (forms_of entries.now) memory) (polynomial_at (forms_of entries.now) p) }
-    ensures steps { steps.new ≤ steps.old + updates (updates_at (forms_of entries.now) memory) }
+    requires paths { ArePaths entries.now paths.now }
+    ensures ends { IfOk result (EndsWithin (forms_of entries.now)) }
+    ensures form { IfOk result (λ w. form_of_walk (forms_of entries.now) p w ≡ norm_sel (updates_at (forms_of entries.now) memory) (polynomial_at (forms_of entries.now) p)) }
+    ensures steps { M.counted meter.new ≤ M.counted meter.old + updates (updates_at (forms_of entries.now) memory) }
 {
     let terms = terms_at(entries, p);
     let mut m = memory;
+    let mut passed: u32 = 0;
     loop {
         let Entry::Update { at, value, older } = &entries[m as usize] else {
-            return Walk::Stop(m);
+            return Ok(Walk::Stop(m));
         };
         if *at == p {
-            return Walk::Value(*value);
+            return Ok(Walk::Value(*value));
         }
+        meter.pay(if M::WEIGHS { terms.len() as u64 } else { 0 })?;
         if !differs(entries, terms, *at) {
-            return Walk::Stop(m);
+            return Ok(Walk::Stop(m));
         }
-        steps.tick();
-        m = *older;
+        meter.take(1)?;
+        m = past(entries, paths, m, p, *older, passed, far);
+        passed = passed.saturating_add(1);
     }
+}
+
+/// Where a walk for address `p` goes on that has passed update `m`, over `older`, and `passed` others before it. `far`
+/// counts the updates of long walks that have no path.
+#[inline(always)]
+fn past(
+    entries: &[Entry],
+    paths: &IndexMap<u32, Path>,
+    m: u32,
+    p: u32,
+    older: u32,
+    passed: u32,
+    far: &mut u64,
+) -> u32
+    requires entries { AreEntries entries.now }
+    requires paths { ArePaths entries.now paths.now }
+    requires memory { IsMemoryAt (forms_of entries.now) m }
+    requires address { IsIntegerAt (forms_of entries.now) p }
+    ensures { (a v : ℕ) → IsUpdate entries.now m a v older → AreAlike entries.now p a → p ≢ a → Passes entries.now m p result }
+{
+    if passed < FEW {
+        return older;
+    }
+    let next = follow(entries, paths, m, p);
+    if next < m {
+        return next;
+    }
+    *far = far.saturating_add(1);
+    older
 }
 
 /// The memory below an update at the address `at`: `memory` itself, or, if its newest update has that address, the

@@ -2,6 +2,7 @@
 ghost use Rattle.std.specs.Prelude.{◌≡◌, ◌<◌, ◌≤◌, ◌↔◌, [], ◌∷◌, ◌++◌, length, slice_get, Decides, IfOk, OnOk, OnErr, IsErr, IfSome, IfNone, IsTrue, option_to_list};
 ghost use Rattle.ft_isa.specs.Pending.{newest_at, with_address, with_value};
 
+use crate::pending_stores::PendingStores;
 use circular_buffer::HeapCircularBuffer;
 use ft_isa::NoMemory;
 use std::alloc::Global;
@@ -127,15 +128,7 @@ impl StoreQueue {
     pub fn newest_at(&self, addr: u64) -> Option<u64>
         ensures { result ≡ newest_at self.now addr }
     {
-        let mut newest = None;
-        for i in 0..self.pairs.len() {
-            if let Some((a, value)) = self.get(i) {
-                if a == addr {
-                    newest = Some(value);
-                }
-            }
-        }
-        newest
+        PendingStores::newest_at(self, addr)
     }
 
     /// Replaces the address of pair `i`. Returns `false`, with the queue unchanged, exactly when there is no such pair.

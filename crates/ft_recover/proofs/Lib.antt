@@ -1,2 +1,2 @@
-mod Stretches
-mod Restarts
+pub mod Stretches
+pub mod Restarts

@@ -86,7 +86,8 @@ same_run : {os os' : List Output} {s s' : Status} → Agrees os s os' s' → s �
 same_run (equal e f) never = (e, f)
 same_run (stopped e f) never = absurd (never e)
 
-begins : (os os' : List Output) (s s' : Status) → Agrees os s os' s' → IsPrefix os os'
+-- runs that agree: the outputs of the first begin those of the second
+pub begins : (os os' : List Output) (s s' : Status) → Agrees os s os' s' → IsPrefix os os'
 begins os os' s s' (equal e f) = ([], append-nil os ∙ e)
 begins os os' s s' (stopped e f) = f
 

@@ -15,17 +15,17 @@ use Rattle.ft_machine.proofs.Counting.{count_next}
 use Rattle.ft_machine.proofs.Putting.{outputs_next}
 use Rattle.ft_recover.specs.Passing.{Passes}
 
-abbrev no_outputs : List Output
+abbrev pub no_outputs : List Output
 no_outputs = []
 
-drop_none : (n : ℕ) → drop n no_outputs ≡ no_outputs
+pub drop_none : (n : ℕ) → drop n no_outputs ≡ no_outputs
 drop_none zero = refl
 drop_none (suc n) = refl
 
 none_less : (n : ℕ) → 0 ≡ 0 - n
 none_less n = omega arith
 
-one_less : (n m : ℕ) → n - m ≡ suc n - suc m
+pub one_less : (n m : ℕ) → n - m ≡ suc n - suc m
 one_less n m = omega arith
 
 pub drop_append : (n : ℕ) (xs ys : List Output) → drop n (xs ++ ys) ≡ drop n xs ++ drop (n - length xs) ys

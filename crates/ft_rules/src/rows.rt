@@ -5,7 +5,7 @@ ghost use Rattle.ft_norm.specs.Held.{Keeps};
 ghost use Rattle.ft_types.specs.Spellable.{IsBase, IsSpellable, IsSubst};
 ghost use Rattle.ft_typing.specs.TypingRow.{row};
 ghost use Rattle.ft_types.specs.declared.object.Object.{Object};
-ghost use Rattle.ft_contexts.specs.Contexts.{HoldsForms, HoldsOwn, NamesTypes, context_in};
+ghost use Rattle.ft_contexts.specs.Contexts.{HoldsForms, HoldsShared, NamesTypes, context_in};
 ghost use Rattle.ft_contexts.specs.Costs.{tree_cost};
 ghost use Rattle.ft_rules.specs.Answers.{Answers, Does, Grows, IsInstrOf, rule_cost};
 
@@ -16,28 +16,30 @@ use crate::transfer::leads;
 use crate::typed_words::has_type;
 use crate::why::{Next, RuleError};
 use ft_contexts::{Context, QUEUE_ROOM, RegForm, Shared, StateD, same_integers};
-use ft_isa::{Basic, Colour, Coloured, INT, Instr, Op, Reg, Steps, Subst};
+use ft_isa::{Basic, Colour, Coloured, INT, Instr, Op, Reg, Subst};
+use ft_meter::Meter;
 use ft_norm::Interner;
 use ft_types::Program;
 use ft_typing::{Why, same_colour};
-use std::sync::ledger::Ledger;
 
 /// An operation on two registers.
-fn operate(
+fn operate<M: Meter>(
     context: &mut Context,
     op: Op,
     rd: Reg,
     rs: Reg,
     rt: Reg,
     forms: &mut Interner,
+    meter: &mut M,
 ) -> Result<Next, RuleError>
     requires { HoldsForms forms.old context.old }
-    ensures { (o : Object) → NamesTypes o context.old → Does (row o (context_in forms.old context.old) (Instr.OpReg op rd rs rt)) o forms.old forms.new context.old context.new result }
+    ensures row { (o : Object) → NamesTypes o context.old → Does (row o (context_in forms.old context.old) (Instr.OpReg op rd rs rt)) o forms.old forms.new context.old context.new result }
+    ensures steps { M.counted meter.new ≡ M.counted meter.old }
 {
     let first = typed(context, rs)?;
     let second = typed(context, rt)?;
     need(Why::Colour, same_colour(second.colour, first.colour))?;
-    let form = forms.op(op, first.form, second.form)?;
+    let form = forms.op_within(op, first.form, second.form, meter)?;
     context.put(
         rd,
         RegForm {
@@ -50,21 +52,23 @@ fn operate(
 }
 
 /// An operation on a register and a word.
-fn operate_word(
+fn operate_word<M: Meter>(
     context: &mut Context,
     op: Op,
     rd: Reg,
     rs: Reg,
     value: Coloured,
     forms: &mut Interner,
+    meter: &mut M,
 ) -> Result<Next, RuleError>
     requires { HoldsForms forms.old context.old }
-    ensures { (o : Object) → NamesTypes o context.old → Does (row o (context_in forms.old context.old) (Instr.OpWord op rd rs value)) o forms.old forms.new context.old context.new result }
+    ensures row { (o : Object) → NamesTypes o context.old → Does (row o (context_in forms.old context.old) (Instr.OpWord op rd rs value)) o forms.old forms.new context.old context.new result }
+    ensures steps { M.counted meter.new ≡ M.counted meter.old }
 {
     let first = typed(context, rs)?;
     need(Why::Colour, same_colour(value.colour, first.colour))?;
     let word = forms.word(value.word)?;
-    let form = forms.op(op, first.form, word)?;
+    let form = forms.op_within(op, first.form, word, meter)?;
     context.put(
         rd,
         RegForm {
@@ -105,22 +109,22 @@ fn claim<P: Program>(
 }
 
 /// A load.
-fn load<L: Ledger>(
+fn load<M: Meter>(
     context: &mut Context,
     colour: Colour,
     rd: Reg,
     rs: Reg,
     forms: &mut Interner,
-    steps: &mut Steps<L>,
+    meter: &mut M,
 ) -> Result<Next, RuleError>
     requires { HoldsForms forms.old context.old }
     ensures row { (o : Object) → NamesTypes o context.old → Does (row o (context_in forms.old context.old) (Instr.Ld colour rd rs)) o forms.old forms.new context.old context.new result }
-    ensures steps { steps.new ≤ steps.old + updates (context_in forms.old context.old).memory + 2 * length (context_in forms.old context.old).queue }
+    ensures steps { M.counted meter.new ≤ M.counted meter.old + updates (context_in forms.old context.old).memory + 2 * length (context_in forms.old context.old).queue }
 {
     let address = one(context, rs, colour)?;
     let basic = referred(address.basic)?;
-    let memory = context.seen(colour, forms, steps)?;
-    let form = forms.sel(memory, address.form, steps)?;
+    let memory = context.seen(colour, forms, meter)?;
+    let form = forms.sel(memory, address.form, meter)?;
     context.put(
         rd,
         RegForm {
@@ -194,23 +198,23 @@ fn jump_green(context: &mut Context, rd: Reg, forms: &Interner) -> Result<Next, 
 }
 
 /// A blue jump, which ends the block.
-fn jump_blue<P: Program, L: Ledger>(
+fn jump_blue<P: Program, M: Meter>(
     context: &Context,
     shared: &mut Shared,
     program: &P,
     rd: Reg,
     subst: Subst,
     forms: &mut Interner,
-    steps: &mut Steps<L>,
+    meter: &mut M,
 ) -> Result<Next, RuleError>
     requires spellable { IsSpellable (P.object program.now) }
     requires held { HoldsForms forms.old context.now }
     requires types { NamesTypes (P.object program.now) context.now }
     requires subst { IsSubst (P.object program.now).nodes (length (P.object program.now).substs) subst.first subst }
-    requires own { HoldsOwn (P.object program.now) forms.old shared.old.own }
-    ensures own { HoldsOwn (P.object program.now) forms.new shared.new.own }
+    requires shared { HoldsShared (P.object program.now) forms.old shared.old }
+    ensures shared { HoldsShared (P.object program.now) forms.new shared.new }
     ensures row { Does (row (P.object program.now) (context_in forms.old context.now) (Instr.JmpB rd subst)) (P.object program.now) forms.old forms.new context.now context.now result }
-    ensures steps { steps.new ≤ steps.old + 210 * tree_cost (P.object program.now) (length (P.object program.now).nodes) }
+    ensures steps { M.counted meter.new ≤ M.counted meter.old + 210 * tree_cost (P.object program.now) (length (P.object program.now).nodes) }
 {
     let (code_type, form) = jumped(context, rd, Colour::Blue)?;
     let (d_type, d_form) = target(context)?;
@@ -225,7 +229,7 @@ fn jump_blue<P: Program, L: Ledger>(
         subst,
         code_type as u32,
         forms,
-        steps,
+        meter,
     )?;
     Ok(Next::Ends)
 }
@@ -251,7 +255,7 @@ fn branch_green(
 }
 
 /// A blue branch, after which the block continues.
-fn branch_blue<P: Program, L: Ledger>(
+fn branch_blue<P: Program, M: Meter>(
     context: &mut Context,
     shared: &mut Shared,
     program: &P,
@@ -259,16 +263,16 @@ fn branch_blue<P: Program, L: Ledger>(
     rd: Reg,
     subst: Subst,
     forms: &mut Interner,
-    steps: &mut Steps<L>,
+    meter: &mut M,
 ) -> Result<Next, RuleError>
     requires spellable { IsSpellable (P.object program.now) }
     requires held { HoldsForms forms.old context.old }
     requires types { NamesTypes (P.object program.now) context.old }
     requires subst { IsSubst (P.object program.now).nodes (length (P.object program.now).substs) subst.first subst }
-    requires own { HoldsOwn (P.object program.now) forms.old shared.old.own }
-    ensures own { HoldsOwn (P.object program.now) forms.new shared.new.own }
+    requires shared { HoldsShared (P.object program.now) forms.old shared.old }
+    ensures shared { HoldsShared (P.object program.now) forms.new shared.new }
     ensures row { Does (row (P.object program.now) (context_in forms.old context.old) (Instr.BzB rz rd subst)) (P.object program.now) forms.old forms.new context.old context.new result }
-    ensures steps { steps.new ≤ steps.old + 210 * tree_cost (P.object program.now) (length (P.object program.now).nodes) }
+    ensures steps { M.counted meter.new ≤ M.counted meter.old + 210 * tree_cost (P.object program.now) (length (P.object program.now).nodes) }
 {
     let (test, code_type, form) = branched(context, rz, rd, Colour::Blue)?;
     let (d_test, d_type, d_form) = conditional(context)?;
@@ -284,7 +288,7 @@ fn branch_blue<P: Program, L: Ledger>(
         subst,
         code_type as u32,
         forms,
-        steps,
+        meter,
     )?;
     context.put_d(StateD::Zero);
     Ok(Next::On)
@@ -304,12 +308,12 @@ fn halt(context: &Context, forms: &Interner) -> Result<Next, RuleError>
 /// Types one instruction. It returns `On` if the block continues after it, and the context is then that of the next
 /// instruction; `Ends` if the instruction, a blue jump or `halt`, ends the block. `Refused` names the first failing
 /// premise, never `BlockEnd`, and leaves the context unchanged. If memory runs out, the context is unchanged, too.
-pub fn apply_rule<P: Program, L: Ledger>(
+pub fn apply_rule<P: Program, M: Meter>(
     ctx: &mut Context,
     forms: &mut Interner,
     program: &P,
     instr: &Instr,
-    steps: &mut Steps<L>,
+    meter: &mut M,
 ) -> Result<Next, RuleError>
     requires spellable { IsSpellable (P.object program.now) }
     requires held { HoldsForms forms.old ctx.old }
@@ -321,46 +325,46 @@ pub fn apply_rule<P: Program, L: Ledger>(
     ensures held { HoldsForms forms.new ctx.new }
     ensures types { NamesTypes (P.object program.now) ctx.new }
     ensures grows { Grows forms.old forms.new ctx.old ctx.new }
-    ensures steps { steps.new ≤ steps.old + rule_cost (P.object program.now) (context_in forms.old ctx.old) instr.now }
+    ensures steps { M.counted meter.new ≤ M.counted meter.old + rule_cost (P.object program.now) (context_in forms.old ctx.old) instr.now }
 {
     let mut shared = Shared::new(ctx.alloc(), forms)?;
-    apply_rule_over(ctx, &mut shared, forms, program, instr, steps)
+    apply_rule_over(ctx, &mut shared, forms, program, instr, meter)
 }
 
 /// Like `apply_rule`, with the data that the blocks share, which other instructions may have used before.
-pub fn apply_rule_over<P: Program, L: Ledger>(
+pub fn apply_rule_over<P: Program, M: Meter>(
     ctx: &mut Context,
     shared: &mut Shared,
     forms: &mut Interner,
     program: &P,
     instr: &Instr,
-    steps: &mut Steps<L>,
+    meter: &mut M,
 ) -> Result<Next, RuleError>
     requires spellable { IsSpellable (P.object program.now) }
     requires held { HoldsForms forms.old ctx.old }
     requires types { NamesTypes (P.object program.now) ctx.old }
     requires instr { IsInstrOf (P.object program.now) instr.now }
-    requires own { HoldsOwn (P.object program.now) forms.old shared.old.own }
+    requires shared { HoldsShared (P.object program.now) forms.old shared.old }
     ensures row { Answers (row (P.object program.now) (context_in forms.old ctx.old) instr.now) forms.new ctx.new result }
     ensures before { OnErr result (ctx.new ≡ ctx.old) }
     ensures kept { Keeps forms.old forms.new }
     ensures held { HoldsForms forms.new ctx.new }
     ensures types { NamesTypes (P.object program.now) ctx.new }
     ensures grows { Grows forms.old forms.new ctx.old ctx.new }
-    ensures own { HoldsOwn (P.object program.now) forms.new shared.new.own }
-    ensures steps { steps.new ≤ steps.old + rule_cost (P.object program.now) (context_in forms.old ctx.old) instr.now }
+    ensures shared { HoldsShared (P.object program.now) forms.new shared.new }
+    ensures steps { M.counted meter.new ≤ M.counted meter.old + rule_cost (P.object program.now) (context_in forms.old ctx.old) instr.now }
 {
     match *instr {
-        Instr::OpReg { op, rd, rs, rt } => operate(ctx, op, rd, rs, rt, forms),
-        Instr::OpWord { op, rd, rs, value } => operate_word(ctx, op, rd, rs, value, forms),
+        Instr::OpReg { op, rd, rs, rt } => operate(ctx, op, rd, rs, rt, forms, meter),
+        Instr::OpWord { op, rd, rs, value } => operate_word(ctx, op, rd, rs, value, forms, meter),
         Instr::Mov { rd, value, basic } => claim(ctx, program, rd, value, basic, forms),
-        Instr::Ld { colour, rd, rs } => load(ctx, colour, rd, rs, forms, steps),
+        Instr::Ld { colour, rd, rs } => load(ctx, colour, rd, rs, forms, meter),
         Instr::St { colour, rd, rs } => store(ctx, colour, rd, rs, forms),
         Instr::JmpG { rd } => jump_green(ctx, rd, forms),
-        Instr::JmpB { rd, subst } => jump_blue(ctx, shared, program, rd, subst, forms, steps),
+        Instr::JmpB { rd, subst } => jump_blue(ctx, shared, program, rd, subst, forms, meter),
         Instr::BzG { rz, rd } => branch_green(ctx, rz, rd, forms),
         Instr::BzB { rz, rd, subst } => {
-            branch_blue(ctx, shared, program, rz, rd, subst, forms, steps)
+            branch_blue(ctx, shared, program, rz, rd, subst, forms, meter)
         }
         Instr::Halt => halt(ctx, forms),
         Instr::Idx {

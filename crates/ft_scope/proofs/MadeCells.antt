@@ -120,7 +120,8 @@ count_words (array n l at w ∷ ds) = omega (
   length-append (replicate l w) (cell_words ds),
 )
 
-array_length : (t : List ℕ) (k l : ℕ) → length (array_names t k l) ≡ l
+-- an array has as many cells as its length
+pub array_length : (t : List ℕ) (k l : ℕ) → length (array_names t k l) ≡ l
 array_length t k zero = refl
 array_length t k (suc l) = ap suc (array_length t (k + 1) l)
 

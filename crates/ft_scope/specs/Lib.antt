@@ -5,6 +5,7 @@ pub mod Props
 pub mod Resolved
 pub mod ProgramOf
 pub mod Outcome
+pub mod InitialWords
 pub mod Proper
 pub mod Held
 pub mod Renames

@@ -20,7 +20,7 @@ fn with_place(mut name: Vec<u8>, place: u32) -> Result<Vec<u8>, AllocError>
 }
 
 /// The name of a cell: the declared name, followed by its place in square brackets if the cell belongs to an array.
-fn cell_name(alloc: Global, text: &[u8], place: Option<u32>) -> Result<Vec<u8>, AllocError>
+pub fn cell_name(alloc: Global, text: &[u8], place: Option<u32>) -> Result<Vec<u8>, AllocError>
     ensures { IfOk result (λ v. v.items ≡ cell_name text.now place) }
 {
     let name = Vec::from_slice(alloc, text)?;

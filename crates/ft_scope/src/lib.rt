@@ -19,6 +19,7 @@ mod renaming;
 mod resolving;
 mod slot;
 
+pub use cell_names::cell_name;
 pub use laws::{one_text_has_one_outcome, programs_are_proper};
 pub use prog::Prog;
 pub use resolving::resolve;

@@ -84,7 +84,8 @@ alike_step c o s t w v h f ok = subst (λ (x : Status). Follows c (step o s w) (
 
 -- A STRIKE
 
-alike_itself : (c : Colour) (m : Registers) → AreAlikeRegisters c m m
+-- registers are alike to themselves
+pub alike_itself : (c : Colour) (m : Registers) → AreAlikeRegisters c m m
 unfolding AreAlikeRegisters
 alike_itself c m = λ r. record { colour = refl; word = λ _. refl }
 

@@ -1,4 +1,5 @@
 pub mod Lists
+pub mod Statuses
 pub mod Premises
 pub mod Forms
 pub mod RegisterRows
@@ -7,6 +8,7 @@ pub mod StayingRows
 pub mod Transfers
 pub mod WantedColours
 pub mod AcceptedSteps
+pub mod BlockPlaces
 pub mod Start
 pub mod Whole
 pub mod Alike

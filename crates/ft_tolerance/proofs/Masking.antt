@@ -32,7 +32,7 @@ use Rattle.ft_tolerance.proofs.Whole.{along}
 
 -- ONE STEP
 
-undetected : (o : Object) (p : Place) (s : State) → EndsOrFits o p s → s.status ≢ Detected
+pub undetected : (o : Object) (p : Place) (s : State) → EndsOrFits o p s → s.status ≢ Detected
 undetected o p s (ended d) e = cc
 undetected o p s (running go at fits) e = cc
 
@@ -46,7 +46,7 @@ step_follows c o p s t w v spelled acc at go fits h =
     (undetected o _ (step o s w).state k.after)
 
 -- a state that is done does not change, and neither does an alike state
-stopped_follows : (c : Colour) (o : Object) (s t : State) (w v : List Wild) → s.status ≡ Done → AreAlike c s t →
+pub stopped_follows : (c : Colour) (o : Object) (s t : State) (w v : List Wild) → s.status ≡ Done → AreAlike c s t →
     Follows c (step o s w) (step o t v)
 stopped_follows c o s t w v d h =
     subst (λ (x : Status). Follows c (step_at o x s w) (step o t v)) (sym d)
@@ -59,7 +59,8 @@ follows_along c o p s t w v spelled acc (ended d) h = stopped_follows c o s t w 
 follows_along c o p s t w v spelled acc (running go at fits) h = step_follows c o p s t w v spelled acc at go fits h
 
 -- a detected state stays detected
-detected_stays : (o : Object) (t : State) (v : List Wild) → t.status ≡ Detected → (step o t v).state.status ≡ Detected
+pub detected_stays : (o : Object) (t : State) (v : List Wild) → t.status ≡ Detected →
+    (step o t v).state.status ≡ Detected
 detected_stays o t v d = ap (λ (x : Stepping). x.state.status) (stays_at o t.status t v (subst HasStopped (sym d) tt))
     ∙ d
 
@@ -84,19 +85,20 @@ pub data AreTied (c : Colour) (r x : Ran) : Type 0 where
   over : x.state.status ≡ Detected → IsPrefix x.outputs r.outputs → AreTied c r x
 
 -- a prefix of a list stays a prefix when the list is extended
-prefix_more : (a b rest : List Output) → IsPrefix a b → IsPrefix a (b ++ rest)
+pub prefix_more : (a b rest : List Output) → IsPrefix a b → IsPrefix a (b ++ rest)
 prefix_more a b rest h = begins_on a b (b ++ rest) h (rest, refl)
 
 -- if the outputs so far are equal, the runs are tied after a step that keeps them alike or detects the second
-tied_after : (c : Colour) (os ps : List Output) (x y : Stepping) → os ≡ ps → Follows c x y →
+pub tied_after : (c : Colour) (os ps : List Output) (x y : Stepping) → os ≡ ps → Follows c x y →
     AreTied c (extended os x) (extended ps y)
 tied_after c os ps x y e (keeps_alike h f) = together h (λ i. e i ++ option_to_list (f i))
 tied_after c os ps x y e (is_detected h f) =
     over h (subst (λ (z : Option Output). IsPrefix (ps ++ option_to_list z) (os ++ option_to_list x.output)) (sym f)
     (prefix_more (ps ++ []) os (option_to_list x.output) ([], append-nil (ps ++ []) ∙ append-nil ps ∙ sym e)))
 
-over_after : (c : Colour) (o : Object) (r : Stepping) (os ps : List Output) (x : Status) (w : List Wild) (t : State) → x
-    ≡ Detected → t.status ≡ Detected → IsPrefix ps os → AreTied c (extended os r) (extended ps (step_at o x t w))
+pub over_after : (c : Colour) (o : Object) (r : Stepping) (os ps : List Output) (x : Status) (w : List Wild)
+    (t : State) → x ≡ Detected → t.status ≡ Detected → IsPrefix ps os →
+    AreTied c (extended os r) (extended ps (step_at o x t w))
 over_after c o r os ps Running w t e f h = cc
 over_after c o r os ps Done w t e f h = cc
 over_after c o r os ps Detected w t e f h = over f
@@ -104,7 +106,8 @@ over_after c o r os ps Detected w t e f h = over f
     (prefix_more ps os (option_to_list r.output) h))
 
 -- tied runs stay tied after one more step of both, without a strike
-tied_step : (c : Colour) (o : Object) (p : Place) (r x : Ran) → IsSpellable o → IsAccepted o → EndsOrFits o p r.state →
+pub tied_step : (c : Colour) (o : Object) (p : Place) (r x : Ran) → IsSpellable o → IsAccepted o →
+    EndsOrFits o p r.state →
     AreTied c r x → AreTied c (extended r.outputs (step o r.state r.wild)) (extended x.outputs (step o x.state x.wild))
 tied_step c o p r x spelled acc fits (together h e) =
     tied_after c r.outputs x.outputs _ _ e (follows_along c o p r.state x.state r.wild x.wild spelled acc fits h)
@@ -119,7 +122,7 @@ before o x w = lockstep (run o None w) (run o (Some x) w) (λ n r s. n ≤ x.ste
     ap (λ (q : Ran). extended q.outputs (step o q.state q.wild)) (same (omega arith))
     ∙ ap (λ s. extended r.outputs (step o s r.wild)) (sym (spared x k (λ e. omega arith) r.state)))
 
-alike_tied : (c : Colour) (r x : Ran) → AreTied c r x → IsAlikeOrDetected c r.state x.state
+pub alike_tied : (c : Colour) (r x : Ran) → AreTied c r x → IsAlikeOrDetected c r.state x.state
 alike_tied c r x (together h e) = is_alike h
 alike_tied c r x (over h e) = has_stopped h
 
@@ -179,7 +182,7 @@ alike_at_once o site v k w s e = is_alike (subst (λ (u : State).
 pub stays_alike : (o : Object) (x : Strike) (w : List Wild) (n : ℕ) → IsSpellable o → IsAccepted o → StaysAlike o x w n
 stays_alike o x w n spelled acc le = alike_tied _ _ _ (tied o x w spelled acc n le)
 
-agrees_tied : (c : Colour) (r x : Ran) → AreTied c r x → Agrees x.outputs x.state.status r.outputs r.state.status
+pub agrees_tied : (c : Colour) (r x : Ran) → AreTied c r x → Agrees x.outputs x.state.status r.outputs r.state.status
 agrees_tied c r x (together h e) = equal (sym e) (sym h.status)
 agrees_tied c r x (over h e) = stopped h e
 

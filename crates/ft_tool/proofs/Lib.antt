@@ -1,4 +1,6 @@
 mod Mapped
+mod Held
+mod Begun
 mod Answered
 mod OverFiles
 mod Recovered
@@ -20,3 +22,4 @@ mod Linking
 mod ModulesInTurn
 mod Statuses
 mod Obeyed
+mod AtTypes

@@ -1,6 +1,6 @@
 -- The answers of `link`: to a map, to a module or for the linked object.
 use Rattle.std.proofs.Common.{◌≡◌, ℕ, ◌≤◌, Bool, List, [], ◌∷◌, ◌++◌, length, Option, Some, None, Ok, Err, inl, inr}
-use Rattle.std.proofs.Common.{refl, sym, subst}
+use Rattle.std.proofs.Common.{refl, sym, ap, ◌∙◌, subst}
 use Rattle.std.specs.Prelude.{◌⊎◌, IsTrue, IfErr, Result}
 use Rattle.std.proofs.lemmas.Option.{none-some}
 use Rattle.ft_edge.specs.Causes.{Rose}
@@ -39,6 +39,7 @@ use Rattle.ft_tool.specs.Links.{IsMap, EndsAtMap, bad_line, line_twice, unlinked
 use Rattle.ft_tool.specs.Links.{no_object, no_module, LinksObject, LinksUnless, LinksAdded, LinksText, LinksFile}
 use Rattle.ft_tool.specs.Links.{ComesInTurn}
 use Rattle.ft_tool.specs.LinkTurns.{EndsWithFile, AddsFile, AddsObject, FailsInTurn, MakesOfText}
+use Rattle.ft_tool.specs.Calls.{HasMade, map_load, asked_after, LoadsLink}
 use Rattle.ft_tool.specs.Calls.{LoadList}
 use Rattle.ft_tool.specs.Answers.{FailsIn}
 use Rattle.ft_tool.specs.Told.{OfFiles}
@@ -55,6 +56,11 @@ pub err_ends : {T : Type 0} (r : Result T Ending) (P Q : Answer → Type 0) (old
     → IfErr r (λ e. Ends e P old new L) → IfErr r (λ e. Ends e Q old new M)
 err_ends (Ok v) P Q old new L M f g h = tt
 err_ends (Err e) P Q old new L M f g h = Ends-map e P Q old new L M f g h
+
+-- if a call failed, what its error says may be replaced by what follows from it
+pub if_err_map : {T E : Type 0} (r : Result T E) {P Q : E → Type 0} → ((e : E) → P e → Q e) → IfErr r P → IfErr r Q
+if_err_map (Ok v) f h = tt
+if_err_map (Err e) f h = f e h
 
 -- if a fact holds unless the call ends early, then so does a weaker fact
 pub known_less : (P Q Early : Type 0) → (P → Q) → P ⊎ Early → Q ⊎ Early
@@ -238,3 +244,27 @@ pub links_between : (told again : Option Files) (name : Word) (text lent : List 
     IsToldFile told name text → (a : Answer) → LinksText again lent a → LinksFile told name a
 links_between told again name text lent e f file a h =
     (text, (file, subst (λ t. LinksText t text a) e (subst (λ b. LinksText again b a) f h)))
+
+-- the loads that were made after the map's text was read are, with that of the map, the loads of the link
+pub loads_of_text : (told : Option Files) (name : Word) (text lent : List ℕ) (early : Bool)
+    (asked between asked' : Option LoadList) → lent ≡ text → IsToldFile told name text
+    → HasMade (map_load name ∷ []) asked between → MakesOfText told lent early between asked'
+    → LoadsLink told name (IsTrue early) asked asked'
+loads_of_text told name text lent early asked between asked' same file first (inl h) =
+    let own = subst (IsToldFile told name) (sym same) file in
+    inl (record {
+      none = known_less ((a : Answer) × EndsAtMap lent a) ((text : List ℕ)
+          × (IsToldFile told name text × ((a : Answer) × EndsAtMap text a)))
+          (IsTrue early) (λ x. (lent, (own, x))) h.0;
+      made = h.1 ∙ first;
+    })
+loads_of_text told name text lent early asked between asked' same file first (inr h) =
+    inr (record {
+      text = lent;
+      is_file = subst (IsToldFile told name) (sym same) file;
+      linkage = h.0;
+      is_map = h.1.0;
+      loads = h.1.1.0;
+      in_turn = h.1.1.1.0;
+      made = h.1.1.1.1 ∙ ap (asked_after h.1.1.0) first;
+    })

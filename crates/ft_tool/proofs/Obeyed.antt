@@ -72,9 +72,9 @@ does_untaken {r} {q} {e} {left} {old} {new} {shelf} {shelf'} {Takes} same h =
     })
 
 -- the answer to a session, and what it means that the load or a take of a session failed
-abbrev SessionAnswers : Debugging → ShelfLog → SourceLog → Answer → Type 0
-SessionAnswers d shelf script a =
-    OfFiles shelf.files (λ files. OfScript script.left (λ text. OverFile (DebugsObject d text) d.object files a))
+abbrev SessionAnswers : Debugging → ShelfLog → Option (List ℕ) → Answer → Type 0
+SessionAnswers d shelf left a =
+    OfFiles shelf.files (λ files. OfScript left (λ text. OverFile (DebugsObject d text) d.object files a))
 
 abbrev SessionFails : Debugging → ShelfLog → ShelfLog → SourceLog → SourceLog → Type 0
 SessionFails d shelf shelf' script script' =
@@ -89,16 +89,16 @@ session_fails d shelf shelf' script script' files are (inr h) =
 
 -- what a call does for a session
 pub does_session : (d : Debugging) {r : Request} (e : Ending) {old new : SinkLog} (shelf shelf' : ShelfLog)
-    (script script' : SourceLog) → r ≡ Debugs d
-    → Ends e (SessionAnswers d shelf script) old new (SessionFails d shelf shelf' script script')
+    (left : Option (List ℕ)) (script script' : SourceLog) → r ≡ Debugs d
+    → Ends e (SessionAnswers d shelf left) old new (SessionFails d shelf shelf' script script')
     → (e ≢ endings.LoadFailed → NoLoadFails shelf shelf') → HasMade (object_load d.object ∷ []) shelf.asked shelf'.asked
-    → Does r e script.left old new shelf shelf' (FailsTaking r shelf.files script script')
-does_session d e {old} {new} shelf shelf' script script' same ends load_failures made =
+    → Does r e left old new shelf shelf' (FailsTaking r shelf.files script script')
+does_session d e {old} {new} shelf shelf' left script script' same ends load_failures made =
     let m = some_files shelf.files in
     let fails = FailsLoading (Debugs d) shelf shelf' ⊎ FailsTaking (Debugs d) shelf.files script script' in
-    subst (λ p. Does p e script.left old new shelf shelf' (FailsTaking p shelf.files script script')) (sym same)
+    subst (λ p. Does p e left old new shelf shelf' (FailsTaking p shelf.files script script')) (sym same)
     (record {
-      ends = Ends-map e (SessionAnswers d shelf script) (AnswersTo (Debugs d) shelf.files script.left) old new
+      ends = Ends-map e (SessionAnswers d shelf left) (AnswersTo (Debugs d) shelf.files left) old new
           (SessionFails d shelf shelf' script script') fails (λ a is. is)
           (λ h. session_fails d shelf shelf' script script' h.0 h.1.0 h.1.1) ends;
       load_failures = load_failures;
@@ -117,8 +117,8 @@ takes_session d told script script' is (inr h) = inr h
 -- WORDS
 
 module _ (words : List Word) {r : Request} (asks : Asks words r) {e : Ending} {old new : SinkLog}
-    {shelf shelf' : ShelfLog} {script script' : SourceLog}
-    (does : Does r e script.left old new shelf shelf' (FailsTaking r shelf.files script script')) where
+    {shelf shelf' : ShelfLog} {left : Option (List ℕ)} {script script' : SourceLog}
+    (does : Does r e left old new shelf shelf' (FailsTaking r shelf.files script script')) where
   abbrev Fails : Type 0
   Fails = FailsLoading r shelf shelf' ⊎ FailsTaking r shelf.files script script'
 
@@ -137,9 +137,9 @@ module _ (words : List Word) {r : Request} (asks : Asks words r) {e : Ending} {o
         fails = f.1.1;
       })
 
-  pub asked_ends : Ends e (IsAnswer words shelf.files script.left) old new Failed
+  pub asked_ends : Ends e (IsAnswer words shelf.files left) old new Failed
   asked_ends =
-      Ends-map e (AnswersTo r shelf.files script.left) (IsAnswer words shelf.files script.left) old new Fails Failed
+      Ends-map e (AnswersTo r shelf.files left) (IsAnswer words shelf.files left) old new Fails Failed
       (λ a h. record {
         request = r;
         asks = asks;
@@ -151,11 +151,11 @@ module _ (words : List Word) {r : Request} (asks : Asks words r) {e : Ending} {o
       }) fails_so does.ends
 
   pub asked_failures : part_end e ≢ Unwritten → new.failures ≡ old.failures
-  asked_failures = count_kept (part_end e) (AnswersTo r shelf.files script.left) old new Fails does.ends
+  asked_failures = count_kept (part_end e) (AnswersTo r shelf.files left) old new Fails does.ends
 
   pub asked_usage : e ≡ endings.Usage → Asks words Usage
   asked_usage is =
-      let answers = AnswersTo r shelf.files script.left in
+      let answers = AnswersTo r shelf.files left in
       let h : Concludes answers 2 old new = subst (λ z. Ends z answers old new Fails) is does.ends in
       subst (Asks words) (usage_alone r shelf.files h.is.0 h.is.1.1.0 h.answer h.is.1.1.1.1 h.status_is) asks
 
@@ -176,3 +176,8 @@ asked_takes words asks (inl h) =
       taken = h.taken;
     })
 asked_takes words asks (inr h) = inr h
+
+-- the loads are those of the request, or none; the latter with a status instead of an ending
+pub loads_or_nothing : {A B P Q : Type 0} → (P → Q) → A ⊎ (P × B) → A ⊎ (Q × B)
+loads_or_nothing f (inl h) = inl h
+loads_or_nothing f (inr h) = inr (f h.0, h.1)

@@ -1,4 +1,4 @@
--- Two answers to the same words, for the same files and script, agree.
+-- Two answers to the same words, for the same files and script, are equal.
 use Rattle.std.proofs.Common.{◌≡◌, ◌≢◌, ℕ, List, Some, None, Result, sym, ◌∙◌, subst}
 use Rattle.ft_edge.specs.Loads.{Files}
 use Rattle.ft_isa.specs.declared.plan.Strike.{Strike}
@@ -17,7 +17,6 @@ use Rattle.ft_script.specs.Commands.{Command, AreCommands}
 use Rattle.ft_syntax.specs.declared.source_error.SourceError.{SourceError}
 use Rattle.ft_scope.specs.Resolved.{Program}
 use Rattle.ft_scope.specs.Outcome.{IsOutcome}
-use Rattle.ft_compile.specs.Laws.{DoneRunsWriteTheMeaning, RunningRunsBeginTheMeaning}
 use Rattle.ft_command.specs.Options.{Word}
 use Rattle.ft_command.specs.Commands.{Request, Usage, Checks, Runs, Trials, Campaigns, Surveys, Compiles, Executes}
 use Rattle.ft_command.specs.Commands.{Means, Debugs, Demonstrates, Upgrades, Assembles, Disassembles, Asks, Schedules}
@@ -32,11 +31,9 @@ use Rattle.ft_tool.specs.Answers.{ChecksObject, TrialsObject, RunsObject, Survey
 use Rattle.ft_tool.specs.Answers.{CampaignsObject, Answers, IsAnswer, DisassemblesObject, SchedulesObject}
 use Rattle.ft_tool.specs.Answers.{RecoversObject}
 use Rattle.ft_asm.specs.Reads.{Answer as Said, Applies}
-use Rattle.ft_tool.specs.OneAnswer.{AreCompilations, AreExecutions, AreAnswers}
-use Rattle.ft_tool.specs.OneAnswer as one
 use Rattle.ft_tool.proofs.OneObject.{over_file, upgraded_same, over_assembly, scheduled_same, run_same, recovery_same}
 use Rattle.ft_tool.proofs.OneCampaign.{over_list_file, strikes_same, session_same, shown_same}
-use Rattle.ft_tool.proofs.OneCompilation.{over_source, two_objects, executed_same}
+use Rattle.ft_tool.proofs.OneCompilation.{over_source, compiled_same, executed_same}
 use Rattle.ft_tool.proofs.OneLink.{says_same, link_same}
 
 -- ANSWERS
@@ -59,12 +56,10 @@ pub record HasLaws : Type 0 where
       AreCommands script others → commands ≡ others
   pub one_map : (text : List ℕ) (said others : List MapLine) → AreSaid text said → AreSaid text others → said ≡ others
   pub one_schedule : (o s t : Object) → IsSpellable o → IsScheduled o s → IsScheduled o t → s ≡ t
-  pub done : DoneRunsWriteTheMeaning
-  pub running : RunningRunsBeginTheMeaning
 
--- two answers to one request agree
+-- two answers to one request are equal
 same_answers : HasLaws → (r : Request) (files : Files) (script : List ℕ) (a b : Answer) →
-    Answers r (Some files) files script a → Answers r (Some files) files script b → AreAnswers r a b
+    Answers r (Some files) files script a → Answers r (Some files) files script b → a ≡ b
 same_answers l Usage files script a b h g = h ∙ sym g
 same_answers l (Checks name) files script a b h g = over_file l.one_object l.unbroken ChecksObject (λ o x y e f. e
     ∙ sym f) name files a b h g
@@ -84,14 +79,11 @@ same_answers l (Surveys c) files script a b h g =
     over_list_file l.one_verdict l.one_list l.one_refusal l.either AnyVerdicts c files o x y e f) c.object files a b h
     g
 same_answers l (Compiles name) files script a b h g =
-    over_source l.one_outcome CompilesProgram AreCompilations two_objects (λ x y s e. one.refused_both s e) name files a
-    b h g
+    over_source l.one_outcome CompilesProgram compiled_same name files a b h g
 same_answers l (Executes x) files script a b h g =
-    over_source l.one_outcome (ExecutesProgram x.steps) AreExecutions (executed_same l.done l.running x.steps)
-    (λ x y s e. one.both_refused s e) x.source files a b h g
+    over_source l.one_outcome (ExecutesProgram x.steps) (executed_same x.steps) x.source files a b h g
 same_answers l (Means m) files script a b h g =
-    over_source l.one_outcome (MeansProgram m.turns) (λ x y. x ≡ y) (λ p x y e f. e ∙ sym f) (λ x y s e.
-    e) m.source files a b h g
+    over_source l.one_outcome (MeansProgram m.turns) (λ p x y e f. e ∙ sym f) m.source files a b h g
 same_answers l (Debugs d) files script a b h g = over_file l.one_object l.unbroken (DebugsObject d script) (λ o x y e f.
     session_same l.one_script d script o x y e f) d.object files a b h g
 same_answers l (Demonstrates turns) files script a b h g = shown_same l.one_verdict turns a b h g
@@ -115,6 +107,6 @@ answers_told l words r files script a asks h =
 
 pub one_answer : HasLaws → (words : List Word) (r : Request) (files : Files) (script : List ℕ) (a b : Answer) →
     Asks words r → IsAnswer words (Some files) (Some script) a → IsAnswer words (Some files) (Some script) b
-    → AreAnswers r a b
+    → a ≡ b
 one_answer l words r files script a b asks h g = same_answers l r files script a b
     (answers_told l words r files script a asks h) (answers_told l words r files script b asks g)

@@ -8,9 +8,10 @@ pub mod Objects
 pub mod Links
 pub mod Answers
 pub mod Calls
-pub mod OneAnswer
 pub mod Told
+pub mod Known
 pub mod LinkTurns
 pub mod Files
 pub mod Endings
 pub mod Does
+pub mod Programs

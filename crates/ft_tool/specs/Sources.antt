@@ -1,10 +1,10 @@
 -- The answers of a command for the text of a source.
 use Rattle.std.specs.Prelude.{◌≡◌, ◌≢◌, ◌⊎◌, ℕ, List, [], None}
-use Rattle.ft_types.specs.declared.object.Object.{Object}
 use Rattle.ft_semantics.specs.Run.{run}
 use Rattle.ft_format.specs.declared.version.Version.TheVariants.{Second}
 use Rattle.ft_format.specs.Format.{Spells}
 use Rattle.ft_compile.specs.StandsFor.{StandsFor}
+use Rattle.ft_compile.specs.Emitted.{compiled_object}
 use Rattle.ft_syntax.specs.declared.source_error.SourceError.{SourceError}
 use Rattle.ft_syntax.specs.declared.source_error.SourceError.TheVariants.{NoMemory}
 use Rattle.ft_scope.specs.Resolved.{Program}
@@ -30,20 +30,18 @@ OverText Over text a =
     ((p : Program) × (IsProgramOf text p × Over p a))
     ⊎ ((e : SourceError) × (IsRefusalOf text e × IsSourceRefused e a))
 
--- the answer of `compile`: the bytes of an object that stands for the program, in version 2 of the format and in one
--- piece
+-- the answer of `compile`: the bytes of the program's object, which stands for the program, in version 2 of the format and
+-- in one piece
 pub record CompilesProgram (p : Program) (a : Answer) : Type 0 where
-  pub object : Object
-  pub stands : StandsFor p object
+  pub stands : StandsFor p (compiled_object p)
   pub bytes : List ℕ
-  pub spelled : Spells bytes Second object
+  pub spelled : Spells bytes Second (compiled_object p)
   pub answer : a ≡ one_piece bytes 0
 
--- the answer of `exec`: the run of an object that stands for the program, for this many steps and without a strike
+-- the answer of `exec`: the run of the object that `compile` writes, for this many steps and without a strike
 pub record ExecutesProgram (steps : ℕ) (p : Program) (a : Answer) : Type 0 where
-  pub object : Object
-  pub stands : StandsFor p object
-  pub is : a ≡ ran object (run object None [] steps)
+  pub stands : StandsFor p (compiled_object p)
+  pub is : a ≡ ran (compiled_object p) (run (compiled_object p) None [] steps)
 
 -- the answer of `mean` for this many turns
 abbrev pub MeansProgram : ℕ → Program → Answer → Type 0

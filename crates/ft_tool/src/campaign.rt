@@ -8,6 +8,8 @@ ghost use Rattle.ft_edge.specs.Logs.{LoadFails, NoLoadFails};
 ghost use Rattle.ft_tool.specs.Answers.{CampaignsUnless, CampaignsObject, OverFile, FailsIn};
 ghost use Rattle.ft_tool.specs.Calls.{HasMade, LoadsFor};
 ghost use Rattle.ft_tool.specs.Replies.{IsToldFile};
+ghost use Rattle.ft_tool.specs.Known.{ForFiles, revealing};
+ghost use Rattle.ft_edge.specs.Loads.{Files};
 ghost use Rattle.ft_tool.specs.Told.{CampaignsListOf, LoadsOther, OfFiles};
 ghost use Rattle.ft_tool.specs.Lists.{NoneCorrupt, OverFaults};
 ghost use Rattle.ft_tool.specs.Endings.{Ends, ends_early};
@@ -120,10 +122,11 @@ fn campaign_checked<P: Program, F: Shelf, K: Sink>(
     requires spellable { IsSpellable (P.object checked.now) }
     requires accepted { refusal (P.object checked.now) ≡ None }
     requires steps { asked.now.steps ≤ 1000000 }
-    requires own { IsToldFile (F.log shelf.old).files asked.now.object.now bytes.now }
-    ensures ends { Ends result (CampaignsListOf (campaign_view asked.now) (F.log shelf.old).files bytes.now (P.object checked.now))
+    ensures ends { ForFiles (F.log shelf.old).files (F.agrees shelf.new) (λ told.
+        IsToldFile told asked.now.object.now bytes.now → Ends result (CampaignsListOf (campaign_view asked.now) told bytes.now (P.object checked.now))
         (K.log out.old) (K.log out.new)
-        (LoadFails asked.now.faults.now (F.log shelf.old) (F.log shelf.new)) }
+        (LoadFails asked.now.faults.now (F.log shelf.old) (F.log shelf.new))) }
+    ensures earlier { (files : Files) → F.agrees shelf.new files → F.agrees shelf.old files }
     ensures load_failures { result ≢ Ending.LoadFailed → NoLoadFails
         (F.log shelf.old) (F.log shelf.new) }
     ensures made { LoadsOther (campaign_view asked.now) (F.log shelf.old).asked (F.log shelf.new).asked }
@@ -142,11 +145,12 @@ fn campaign_object<P: Program, F: Shelf, K: Sink>(
 ) -> Ending
     requires spellable { IsSpellable (P.object program.now) }
     requires steps { asked.now.steps ≤ 1000000 }
-    requires own { IsToldFile (F.log shelf.old).files asked.now.object.now bytes.now }
-    ensures ends { Ends result (CampaignsUnless (refusal (P.object program.now)) (CampaignsListOf (campaign_view asked.now) (F.log shelf.old).files bytes.now (P.object program.now)))
+    ensures ends { ForFiles (F.log shelf.old).files (F.agrees shelf.new) (λ told.
+        IsToldFile told asked.now.object.now bytes.now → Ends result (CampaignsUnless (refusal (P.object program.now)) (CampaignsListOf (campaign_view asked.now) told bytes.now (P.object program.now)))
         (K.log out.old) (K.log out.new)
         (LoadFails asked.now.faults.now (F.log shelf.old) (F.log shelf.new)
-        × (refusal (P.object program.now) ≡ None)) }
+        × (refusal (P.object program.now) ≡ None))) }
+    ensures earlier { (files : Files) → F.agrees shelf.new files → F.agrees shelf.old files }
     ensures load_failures { result ≢ Ending.LoadFailed → NoLoadFails
         (F.log shelf.old) (F.log shelf.new) }
     ensures made { (((refusal (P.object program.now) ≢ None) ⊎ IsTrue (ends_early result)) × HasMade [] (F.log shelf.old).asked (F.log shelf.new).asked)
@@ -166,13 +170,15 @@ pub(crate) fn campaign_file<F: Shelf, K: Sink>(
     out: &mut K,
 ) -> Ending
     requires { asked.now.steps ≤ 1000000 }
-    ensures ends { Ends result (λ a. OfFiles (F.log shelf.old).files (λ files. OverFile (CampaignsObject (campaign_view asked.now) files) asked.now.object.now files a))
+    ensures ends { ForFiles (F.log shelf.old).files (F.agrees shelf.new) (λ told.
+        Ends result (λ a. OfFiles told (λ files. OverFile (CampaignsObject (campaign_view asked.now) files) asked.now.object.now files a))
         (K.log out.old) (K.log out.new)
-        (OfFiles (F.log shelf.old).files (λ files. FailsIn (Campaigns (campaign_view asked.now)) files
-        (F.log shelf.old) (F.log shelf.new))) }
+        (OfFiles told (λ files. FailsIn (Campaigns (campaign_view asked.now)) files
+        (revealing told (F.log shelf.old)) (revealing told (F.log shelf.new))))) }
     ensures load_failures { result ≢ Ending.LoadFailed → NoLoadFails
         (F.log shelf.old) (F.log shelf.new) }
-    ensures made { OfFiles (F.log shelf.old).files (λ files. LoadsFor (Campaigns (campaign_view asked.now)) (F.log shelf.old).files files (IsTrue (ends_early result)) (F.log shelf.old).asked (F.log shelf.new).asked) }
+    ensures made { ForFiles (F.log shelf.old).files (F.agrees shelf.new) (λ told.
+        OfFiles told (λ files. LoadsFor (Campaigns (campaign_view asked.now)) told files (IsTrue (ends_early result)) (F.log shelf.old).asked (F.log shelf.new).asked)) }
 {
     let mut bytes = Vec::new(alloc);
     match load_object(asked.object, shelf, &mut bytes) {

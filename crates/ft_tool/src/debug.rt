@@ -10,6 +10,7 @@ ghost use Rattle.ft_edge.specs.Logs.{NoLoadFails};
 ghost use Rattle.ft_tool.specs.Scripts.{DebugsObject};
 ghost use Rattle.ft_tool.specs.Answers.{OverFile, SpellsFile, FailsIn, FailsAtScript};
 ghost use Rattle.ft_tool.specs.Calls.{HasMade, object_load};
+ghost use Rattle.ft_tool.specs.Known.{ForFiles, ForScript, revealing};
 ghost use Rattle.ft_tool.specs.Told.{OfFiles, OfScript};
 ghost use Rattle.ft_tool.specs.Endings.{Ends};
 
@@ -52,9 +53,9 @@ fn debug_object<P: Program, I: Source, K: Sink>(
     out: &mut K,
 ) -> Ending
     requires spellable { IsSpellable (P.object program.now) }
-    ensures ends { Ends result (λ a. OfScript (I.log script.old).left (λ text. DebugsObject (debugging_view asked.now) text (P.object program.now) a))
+    ensures ends { ForScript (I.log script.old).left (I.heard script.old) (I.heard script.new) (I.may_be_left script.new) (λ left. Ends result (λ a. OfScript left (λ text. DebugsObject (debugging_view asked.now) text (P.object program.now) a))
         (K.log out.old) (K.log out.new)
-        (Rose (I.log script.old).failures (I.log script.new).failures) }
+        (Rose (I.log script.old).failures (I.log script.new).failures)) }
     ensures script_failures { result ≢ Ending.LoadFailed → (I.log script.new).failures ≡ (I.log script.old).failures }
     ensures taken { TakesAtMost 1048577 (I.log script.old) (I.log script.new) }
 {
@@ -72,19 +73,22 @@ pub(crate) fn debug_file<F: Shelf, I: Source, K: Sink>(
     script: &mut I,
     out: &mut K,
 ) -> Ending
-    ensures ends { Ends result (λ a. OfFiles (F.log shelf.old).files (λ files. OfScript (I.log script.old).left (λ text. OverFile (DebugsObject (debugging_view asked.now) text) asked.now.object.now files a)))
+    ensures ends { ForFiles (F.log shelf.old).files (F.agrees shelf.new) (λ told.
+        ForScript (I.log script.old).left (I.heard script.old) (I.heard script.new) (I.may_be_left script.new) (λ left.
+        Ends result (λ a. OfFiles told (λ files. OfScript left (λ text. OverFile (DebugsObject (debugging_view asked.now) text) asked.now.object.now files a)))
         (K.log out.old) (K.log out.new)
-        (OfFiles (F.log shelf.old).files (λ files. FailsIn (Debugs (debugging_view asked.now)) files
-        (F.log shelf.old) (F.log shelf.new)
+        (OfFiles told (λ files. FailsIn (Debugs (debugging_view asked.now)) files
+        (revealing told (F.log shelf.old)) (revealing told (F.log shelf.new))
         ⊎ FailsAtScript (debugging_view asked.now) files
-        (I.log script.old) (I.log script.new))) }
+        (I.log script.old) (I.log script.new))))) }
     ensures load_failures { result ≢ Ending.LoadFailed → NoLoadFails
         (F.log shelf.old) (F.log shelf.new) }
     ensures script_failures { result ≢ Ending.LoadFailed → (I.log script.new).failures ≡ (I.log script.old).failures }
     ensures made { HasMade (object_load asked.now.object.now ∷ []) (F.log shelf.old).asked (F.log shelf.new).asked }
-    ensures script { (OfFiles (F.log shelf.old).files (λ files. SpellsFile files asked.now.object.now)
+    ensures script { ForFiles (F.log shelf.old).files (F.agrees shelf.new) (λ told.
+        (OfFiles told (λ files. SpellsFile files asked.now.object.now)
         × TakesAtMost 1048577 (I.log script.old) (I.log script.new))
-        ⊎ (script.new ≡ script.old) }
+        ⊎ (script.new ≡ script.old)) }
 {
     let mut bytes = Vec::new(alloc);
     match load_object(asked.object, shelf, &mut bytes) {

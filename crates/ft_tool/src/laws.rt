@@ -10,26 +10,20 @@ ghost use Rattle.ft_command.specs.Options.{Word};
 ghost use Rattle.ft_command.specs.Commands.{Request, Asks};
 ghost use Rattle.ft_tool.specs.Replies.{Answer};
 ghost use Rattle.ft_tool.specs.Answers.{IsAnswer};
-ghost use Rattle.ft_tool.specs.OneAnswer.{AreAnswers};
 
 use ft_asm::answers_are_one;
 use ft_campaign::{one_text_has_one_list, verdicts_are_one};
 use ft_command::words_ask_for_one_thing;
-use ft_compile::runs_and_meanings_write_the_same_lines;
 use ft_exchange::schedules_are_equal;
 use ft_format::rules_are_exact;
 use ft_link_map::lines_are_one;
 use ft_scope::one_text_has_one_outcome;
 use ft_script::commands_are_one;
 
-/// If the files and the script are known, the words have at most one answer, pieces and status included. The exceptions
-/// are `compile` and `exec`, since the definition leaves open which object stands for a source. Two answers of
-/// `compile` are the same refusal, or one object each. Two answers of `exec` are the same refusal, or each has status 0
-/// or 9 and the pieces of one are a prefix of the other's; if both have status 0, the answers are equal. Neither
-/// command ever ends with status 8.
+/// If the files and the script are known, the words have at most one answer, pieces and status included.
 pub fn words_have_one_answer()
     ensures { (words : List Word) (request : Request) (files : Files) (script : List ℕ) (a b : Answer) → Asks words request
-        → IsAnswer words (Some files) (Some script) a → IsAnswer words (Some files) (Some script) b → AreAnswers request a b }
+        → IsAnswer words (Some files) (Some script) a → IsAnswer words (Some files) (Some script) b → a ≡ b }
 {
     words_ask_for_one_thing();
     rules_are_exact();
@@ -40,7 +34,6 @@ pub fn words_have_one_answer()
     commands_are_one();
     lines_are_one();
     schedules_are_equal();
-    runs_and_meanings_write_the_same_lines();
 }
 
 /// Without a strike, an accepted object has the same outputs and the same status whatever the answers to wild loads. So

@@ -6,6 +6,7 @@
 #![tactic(auto)]
 
 mod assemble;
+mod at_system;
 mod campaign;
 mod check;
 mod compile;
@@ -32,6 +33,7 @@ mod trial;
 mod unlinked;
 mod upgrade;
 
+pub use at_system::whole;
 pub use ft_demo::sample;
 pub use laws::{answers_matter_after_a_strike_alone, words_have_one_answer};
 pub use top::tool;

@@ -9,6 +9,8 @@ ghost use Rattle.ft_tool.specs.Calls.{HasMade, LoadsLink, object_load};
 ghost use Rattle.ft_tool.specs.Endings.{Ends, ends_early};
 ghost use Rattle.ft_tool.specs.Links.{EndsAtObject, IsMap, LinksAdded, LinksFiles, LinksFile, LinksText};
 ghost use Rattle.ft_tool.specs.LinkTurns.{AddsObject, AddsFile, EndsWithFile, FailsInTurn, HasAdded, MakesInTurn, MakesOfText};
+ghost use Rattle.ft_tool.specs.Known.{ForFiles, revealing};
+ghost use Rattle.ft_edge.specs.Loads.{Files};
 ghost use Rattle.ft_tool.specs.Told.{OfFiles};
 
 use crate::ending::{Ending, put_object, refuse_check, refuse_object};
@@ -62,11 +64,14 @@ fn add_file<F: Shelf, K: Sink>(
     shelf: &mut F,
     out: &mut K,
 ) -> Result<(), Ending>
-    ensures ok { OnOk result (AddsFile (F.log shelf.old).files name.now linker.old linker.new) }
+    ensures ok { OnOk result (ForFiles (F.log shelf.old).files (F.agrees shelf.new) (λ told.
+        AddsFile told name.now linker.old linker.new)) }
     ensures untouched { OnOk result (out.new ≡ out.old) }
-    ensures ends { IfErr result (λ e. Ends e (EndsWithFile (F.log shelf.old).files linker.old name.now)
+    ensures ends { IfErr result (λ e. ForFiles (F.log shelf.old).files (F.agrees shelf.new) (λ told.
+        Ends e (EndsWithFile told linker.old name.now)
         (K.log out.old) (K.log out.new)
-        (LoadFails name.now (F.log shelf.old) (F.log shelf.new))) }
+        (LoadFails name.now (F.log shelf.old) (F.log shelf.new)))) }
+    ensures earlier { (files : Files) → F.agrees shelf.new files → F.agrees shelf.old files }
     ensures files { (F.log shelf.new).files ≡ (F.log shelf.old).files }
     ensures load_failures { result ≢ Err Ending.LoadFailed → NoLoadFails
         (F.log shelf.old) (F.log shelf.new) }
@@ -89,14 +94,18 @@ fn add_files<F: Shelf, K: Sink>(
 ) -> Result<(), Ending>
     requires none { linker.old ≡ [] }
     requires names { All IsAscii linkage.now.files }
-    ensures ok { OnOk result (HasAdded (F.log shelf.old).files linkage.now linker.new [] (F.log shelf.old).asked (F.log shelf.new).asked) }
+    ensures ok { OnOk result (ForFiles (F.log shelf.old).files (F.agrees shelf.new) (λ told.
+        HasAdded told linkage.now linker.new [] (F.log shelf.old).asked (F.log shelf.new).asked)) }
     ensures untouched { OnOk result (out.new ≡ out.old) }
-    ensures ends { IfErr result (λ e. Ends e (LinksFiles (F.log shelf.old).files linkage.now [] linkage.now.files)
+    ensures ends { IfErr result (λ e. ForFiles (F.log shelf.old).files (F.agrees shelf.new) (λ told.
+        Ends e (LinksFiles told linkage.now [] linkage.now.files)
         (K.log out.old) (K.log out.new)
-        (FailsInTurn linkage.now (F.log shelf.old) (F.log shelf.new))) }
+        (FailsInTurn linkage.now (revealing told (F.log shelf.old)) (revealing told (F.log shelf.new))))) }
+    ensures earlier { (files : Files) → F.agrees shelf.new files → F.agrees shelf.old files }
     ensures load_failures { result ≢ Err Ending.LoadFailed → NoLoadFails
         (F.log shelf.old) (F.log shelf.new) }
-    ensures made { IfErr result (λ e. MakesInTurn (F.log shelf.old).files linkage.now (ends_early e) (F.log shelf.old).asked (F.log shelf.new).asked) }
+    ensures made { IfErr result (λ e. ForFiles (F.log shelf.old).files (F.agrees shelf.new) (λ told.
+        MakesInTurn told linkage.now (ends_early e) (F.log shelf.old).asked (F.log shelf.new).asked)) }
 {
     let files = linkage.files.as_slice();
     for file in files {
@@ -130,12 +139,15 @@ fn link_files<F: Shelf, K: Sink>(
 ) -> Ending
     requires sound { IsSound linkage.now }
     requires names { All IsAscii linkage.now.files }
-    ensures ends { Ends result (LinksFiles (F.log shelf.old).files linkage.now [] linkage.now.files)
+    ensures ends { ForFiles (F.log shelf.old).files (F.agrees shelf.new) (λ told.
+        Ends result (LinksFiles told linkage.now [] linkage.now.files)
         (K.log out.old) (K.log out.new)
-        (FailsInTurn linkage.now (F.log shelf.old) (F.log shelf.new)) }
+        (FailsInTurn linkage.now (revealing told (F.log shelf.old)) (revealing told (F.log shelf.new)))) }
+    ensures earlier { (files : Files) → F.agrees shelf.new files → F.agrees shelf.old files }
     ensures load_failures { result ≢ Ending.LoadFailed → NoLoadFails
         (F.log shelf.old) (F.log shelf.new) }
-    ensures made { MakesInTurn (F.log shelf.old).files linkage.now (ends_early result) (F.log shelf.old).asked (F.log shelf.new).asked }
+    ensures made { ForFiles (F.log shelf.old).files (F.agrees shelf.new) (λ told.
+        MakesInTurn told linkage.now (ends_early result) (F.log shelf.old).asked (F.log shelf.new).asked) }
 {
     let Ok(mut linker) = Linker::new(alloc) else {
         return Ending::NoMemory;
@@ -149,13 +161,15 @@ fn link_files<F: Shelf, K: Sink>(
 /// Reads a link map, links its modules and writes the object.
 fn link_text<F: Shelf, K: Sink>(alloc: Global, text: &[u8], shelf: &mut F, out: &mut K) -> Ending
     requires { length text.now ≤ 65536 }
-    ensures ends { Ends result (LinksText (F.log shelf.old).files text.now)
+    ensures ends { ForFiles (F.log shelf.old).files (F.agrees shelf.new) (λ told. Ends result (LinksText told text.now)
         (K.log out.old) (K.log out.new)
         ((linkage : LinkMap) × (IsMap text.now linkage × FailsInTurn linkage
-        (F.log shelf.old) (F.log shelf.new))) }
+        (revealing told (F.log shelf.old)) (revealing told (F.log shelf.new))))) }
+    ensures earlier { (files : Files) → F.agrees shelf.new files → F.agrees shelf.old files }
     ensures load_failures { result ≢ Ending.LoadFailed → NoLoadFails
         (F.log shelf.old) (F.log shelf.new) }
-    ensures made { MakesOfText (F.log shelf.old).files text.now (ends_early result) (F.log shelf.old).asked (F.log shelf.new).asked }
+    ensures made { ForFiles (F.log shelf.old).files (F.agrees shelf.new) (λ told.
+        MakesOfText told text.now (ends_early result) (F.log shelf.old).asked (F.log shelf.new).asked) }
 {
     match read_map(alloc, text) {
         Ok(linkage) => link_files(alloc, &linkage, shelf, out),
@@ -170,13 +184,14 @@ pub(crate) fn link_file<F: Shelf, K: Sink>(
     shelf: &mut F,
     out: &mut K,
 ) -> Ending
-    ensures ends { Ends result (LinksFile (F.log shelf.old).files name.now)
+    ensures ends { ForFiles (F.log shelf.old).files (F.agrees shelf.new) (λ told. Ends result (LinksFile told name.now)
         (K.log out.old) (K.log out.new)
-        (OfFiles (F.log shelf.old).files (λ files. FailsIn (Links name.now) files
-        (F.log shelf.old) (F.log shelf.new))) }
+        (OfFiles told (λ files. FailsIn (Links name.now) files
+        (revealing told (F.log shelf.old)) (revealing told (F.log shelf.new))))) }
     ensures load_failures { result ≢ Ending.LoadFailed → NoLoadFails
         (F.log shelf.old) (F.log shelf.new) }
-    ensures made { LoadsLink (F.log shelf.old).files name.now (IsTrue (ends_early result)) (F.log shelf.old).asked (F.log shelf.new).asked }
+    ensures made { ForFiles (F.log shelf.old).files (F.agrees shelf.new) (λ told.
+        LoadsLink told name.now (IsTrue (ends_early result)) (F.log shelf.old).asked (F.log shelf.new).asked) }
 {
     let mut text = Vec::new(alloc);
     match load_bytes(name, MAP_LIMIT, shelf, &mut text) {

@@ -1,10 +1,12 @@
 //! Loads the files of a command.
-ghost use Rattle.std.specs.Prelude.{◌≡◌, [], ◌∷◌};
+ghost use Rattle.std.specs.Prelude.{◌≡◌, ◌≤◌, [], ◌∷◌, length, IfOk};
 ghost use Rattle.ft_command.specs.Asked.{campaign_view};
 ghost use Rattle.ft_tool.specs.Calls.{HasMade, object_load, list_load};
 ghost use Rattle.ft_tool.specs.Replies.{IsToldFile};
 ghost use Rattle.ft_tool.specs.Told.{IsListOf, LoadsOther};
 ghost use Rattle.ft_edge.specs.Logs.{LoadCause as EdgeCause};
+ghost use Rattle.ft_tool.specs.Known.{ForFiles};
+ghost use Rattle.ft_edge.specs.Loads.{Files};
 ghost use Rattle.ft_tool.specs.Files.{Gives, fault_of, LoadsBytes, LoadsObject, LoadCause, ReadsList, GetsList, ListCause};
 
 use ft_campaign::{ListError, read_faults};
@@ -39,8 +41,9 @@ pub(crate) fn load_bytes<F: Shelf>(
     bytes: &mut Vec<u8>,
 ) -> Result<Load, LoadFault>
     requires { bytes.old.items ≡ [] }
-    ensures gives { Gives (F.log shelf.old).files name.now limit bytes.new.items result }
+    ensures gives { ForFiles (F.log shelf.old).files (F.agrees shelf.new) (λ told. Gives told name.now limit bytes.new.items result) }
     ensures files { (F.log shelf.new).files ≡ (F.log shelf.old).files }
+    ensures earlier { (files : Files) → F.agrees shelf.new files → F.agrees shelf.old files }
     ensures cause { EdgeCause (F.log shelf.old) (F.log shelf.new) name.now result }
     ensures made { HasMade ((name.now, limit) ∷ []) (F.log shelf.old).asked (F.log shelf.new).asked }
 {
@@ -78,8 +81,9 @@ pub(crate) fn load_object_bytes<F: Shelf>(
     bytes: &mut Vec<u8>,
 ) -> Result<(), ObjectFault>
     requires { bytes.old.items ≡ [] }
-    ensures loads { LoadsBytes (F.log shelf.old).files name.now bytes.new.items result }
+    ensures loads { ForFiles (F.log shelf.old).files (F.agrees shelf.new) (λ told. LoadsBytes told name.now bytes.new.items result) }
     ensures files { (F.log shelf.new).files ≡ (F.log shelf.old).files }
+    ensures earlier { (files : Files) → F.agrees shelf.new files → F.agrees shelf.old files }
     ensures cause { LoadCause name.now result (F.log shelf.old) (F.log shelf.new) }
     ensures made { HasMade (object_load name.now ∷ []) (F.log shelf.old).asked (F.log shelf.new).asked }
 {
@@ -98,8 +102,9 @@ pub(crate) fn load_object<'a, F: Shelf>(
     bytes: &'a mut Vec<u8>,
 ) -> Result<View<'a>, ObjectFault>
     requires empty { bytes.old.items ≡ [] }
-    ensures loads { LoadsObject (F.log shelf.old).files name.now result }
+    ensures loads { ForFiles (F.log shelf.old).files (F.agrees shelf.new) (λ told. LoadsObject told name.now result) }
     ensures files { (F.log shelf.new).files ≡ (F.log shelf.old).files }
+    ensures earlier { (files : Files) → F.agrees shelf.new files → F.agrees shelf.old files }
     ensures cause { LoadCause name.now result (F.log shelf.old) (F.log shelf.new) }
     ensures made { HasMade (object_load name.now ∷ []) (F.log shelf.old).asked (F.log shelf.new).asked }
 {
@@ -131,7 +136,8 @@ pub(crate) enum ListFault {
 
 /// Reads bytes as a fault list.
 fn read_list(alloc: Global, bytes: &[u8]) -> Result<Vec<Strike>, ListFault>
-    ensures { ReadsList (λ v. v.items) bytes.now result }
+    ensures reads { ReadsList (λ v. v.items) bytes.now result }
+    ensures few { IfOk result (λ faults. length faults.items ≤ 65536) }
 {
     match read_faults(alloc, bytes) {
         Ok(faults) => Ok(faults),
@@ -143,9 +149,12 @@ fn read_list(alloc: Global, bytes: &[u8]) -> Result<Vec<Strike>, ListFault>
 
 /// Loads the file with this name and reads it as a fault list.
 fn load_list<F: Shelf>(alloc: Global, name: &str, shelf: &mut F) -> Result<Vec<Strike>, ListFault>
-    ensures gets { GetsList (λ v. v.items) (IsToldFile (F.log shelf.old).files name.now) result }
+    ensures gets { ForFiles (F.log shelf.old).files (F.agrees shelf.new) (λ told.
+        GetsList (λ v. v.items) (IsToldFile told name.now) result) }
+    ensures few { IfOk result (λ faults. length faults.items ≤ 65536) }
     ensures cause { ListCause name.now result (F.log shelf.old) (F.log shelf.new) }
     ensures files { (F.log shelf.new).files ≡ (F.log shelf.old).files }
+    ensures earlier { (files : Files) → F.agrees shelf.new files → F.agrees shelf.old files }
     ensures made { HasMade (list_load name.now ∷ []) (F.log shelf.old).asked (F.log shelf.new).asked }
 {
     let mut bytes = Vec::new(alloc);
@@ -165,10 +174,12 @@ pub(crate) fn list_of<F: Shelf>(
     bytes: &[u8],
     shelf: &mut F,
 ) -> Result<Vec<Strike>, ListFault>
-    requires { IsToldFile (F.log shelf.old).files asked.now.object.now bytes.now }
-    ensures gets { GetsList (λ v. v.items) (IsListOf (campaign_view asked.now) (F.log shelf.old).files bytes.now) result }
+    ensures gets { ForFiles (F.log shelf.old).files (F.agrees shelf.new) (λ told.
+        IsToldFile told asked.now.object.now bytes.now → GetsList (λ v. v.items) (IsListOf (campaign_view asked.now) told bytes.now) result) }
+    ensures few { IfOk result (λ faults. length faults.items ≤ 65536) }
     ensures cause { ListCause asked.now.faults.now result (F.log shelf.old) (F.log shelf.new) }
     ensures files { (F.log shelf.new).files ≡ (F.log shelf.old).files }
+    ensures earlier { (files : Files) → F.agrees shelf.new files → F.agrees shelf.old files }
     ensures made { LoadsOther (campaign_view asked.now) (F.log shelf.old).asked (F.log shelf.new).asked }
 {
     if asked.faults == asked.object {

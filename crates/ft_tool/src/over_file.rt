@@ -1,6 +1,7 @@
 //! Commands on one file.
 ghost use Rattle.std.specs.Prelude.{◌≡◌, ◌≢◌, ◌<◌, List, ℕ, Option, length};
 ghost use Rattle.ft_tool.specs.Does.{Does};
+ghost use Rattle.ft_tool.specs.Known.{ForFiles, revealing};
 
 use crate::ending::Ending;
 use crate::load::load_bytes;
@@ -57,9 +58,10 @@ pub(crate) fn over_file<C: FileCommand, F: Shelf, K: Sink>(
     shelf: &mut F,
     out: &mut K,
 ) -> Ending
-    ensures { (left : Option (List ℕ)) → Does (C.request command.now) result left
+    ensures { ForFiles (F.log shelf.old).files (F.agrees shelf.new) (λ told.
+        (left : Option (List ℕ)) → Does (C.request command.now) result left
         (K.log out.old) (K.log out.new)
-        (F.log shelf.old) (F.log shelf.new) ⊥ }
+        (revealing told (F.log shelf.old)) (revealing told (F.log shelf.new)) ⊥) }
 {
     let mut bytes = Vec::new(alloc);
     match load_bytes(command.file(), command.limit(), shelf, &mut bytes) {

@@ -3,6 +3,8 @@ ghost use Rattle.std.specs.Prelude.{◌≡◌, ◌≢◌, ◌≤◌, Some};
 ghost use Rattle.ft_command.specs.Asked.{campaign_view};
 ghost use Rattle.ft_edge.specs.Logs.{LoadFails, NoLoadFails};
 ghost use Rattle.ft_tool.specs.Replies.{IsToldFile};
+ghost use Rattle.ft_tool.specs.Known.{ForFiles};
+ghost use Rattle.ft_edge.specs.Loads.{Files};
 ghost use Rattle.ft_tool.specs.Told.{OverListOf, LoadsOther};
 ghost use Rattle.ft_tool.specs.Endings.{Ends};
 
@@ -57,10 +59,11 @@ pub(crate) fn over_list<T: Target, F: Shelf, K: Sink>(
 ) -> Ending
     requires known { T.known target.now }
     requires steps { asked.now.steps ≤ 1000000 }
-    requires own { IsToldFile (F.log shelf.old).files asked.now.object.now bytes.now }
-    ensures ends { Ends result (OverListOf (T.promised target.now) (campaign_view asked.now) (F.log shelf.old).files bytes.now (T.object target.now))
+    ensures ends { ForFiles (F.log shelf.old).files (F.agrees shelf.new) (λ told.
+        IsToldFile told asked.now.object.now bytes.now → Ends result (OverListOf (T.promised target.now) (campaign_view asked.now) told bytes.now (T.object target.now))
         (K.log out.old) (K.log out.new)
-        (LoadFails asked.now.faults.now (F.log shelf.old) (F.log shelf.new)) }
+        (LoadFails asked.now.faults.now (F.log shelf.old) (F.log shelf.new))) }
+    ensures earlier { (files : Files) → F.agrees shelf.new files → F.agrees shelf.old files }
     ensures load_failures { result ≢ Ending.LoadFailed → NoLoadFails
         (F.log shelf.old) (F.log shelf.new) }
     ensures made { LoadsOther (campaign_view asked.now) (F.log shelf.old).asked (F.log shelf.new).asked }

@@ -1,6 +1,7 @@
 //! Commands on the object in one file, which is read in place.
 ghost use Rattle.std.specs.Prelude.{List, ℕ, Option};
 ghost use Rattle.ft_tool.specs.Does.{Does};
+ghost use Rattle.ft_tool.specs.Known.{ForFiles, revealing};
 
 use crate::ending::{Ending, refuse_bytes};
 use crate::load::OBJECT_LIMIT;
@@ -92,9 +93,9 @@ pub(crate) fn over_object<C: ObjectCommand + Drop, F: Shelf, K: Sink>(
     shelf: &mut F,
     out: &mut K,
 ) -> Ending
-    ensures { (left : Option (List ℕ)) → Does (C.request command) result left
+    ensures { ForFiles (F.log shelf.old).files (F.agrees shelf.new) (λ told. (left : Option (List ℕ)) → Does (C.request command) result left
         (K.log out.old) (K.log out.new)
-        (F.log shelf.old) (F.log shelf.new) ⊥ }
+        (revealing told (F.log shelf.old)) (revealing told (F.log shelf.new)) ⊥) }
 {
     over_file(alloc, &OverObject { command }, shelf, out)
 }

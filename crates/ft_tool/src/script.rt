@@ -1,6 +1,7 @@
 //! The script of a command.
 ghost use Rattle.std.specs.Prelude.{◌≡◌};
 ghost use Rattle.ft_edge.specs.Streams.{TakesAtMost};
+ghost use Rattle.ft_tool.specs.Known.{ForScript};
 ghost use Rattle.ft_tool.specs.Scripts.{TakesScript, TakeCause};
 
 use ft_edge::Source;
@@ -29,7 +30,7 @@ pub(crate) enum ScriptFault {
 
 /// Reads the script to its end, or to one byte past the limit. It is not read after its end, nor after a failed take.
 pub(crate) fn take_script<I: Source>(alloc: Global, script: &mut I) -> Result<Vec<u8>, ScriptFault>
-    ensures takes { TakesScript (λ v. v.items) (I.log script.old).left result }
+    ensures takes { ForScript (I.log script.old).left (I.heard script.old) (I.heard script.new) (I.may_be_left script.new) (λ left. TakesScript (λ v. v.items) left result) }
     ensures cause { TakeCause (I.log script.old).failures (I.log script.new).failures result }
     ensures taken { TakesAtMost 1048577 (I.log script.old) (I.log script.new) }
 {

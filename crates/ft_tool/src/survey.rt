@@ -7,6 +7,7 @@ ghost use Rattle.ft_edge.specs.Logs.{NoLoadFails};
 ghost use Rattle.ft_tool.specs.Answers.{SurveysObject, OverFile, FailsIn};
 ghost use Rattle.ft_tool.specs.Calls.{LoadsFor};
 ghost use Rattle.ft_tool.specs.Replies.{IsToldFile};
+ghost use Rattle.ft_tool.specs.Known.{ForFiles, revealing};
 ghost use Rattle.ft_tool.specs.Told.{OverListOf, LoadsOther, OfFiles};
 ghost use Rattle.ft_tool.specs.Lists.{AnyVerdicts, OverFaults};
 ghost use Rattle.ft_tool.specs.Endings.{Ends, ends_early};
@@ -117,13 +118,15 @@ pub(crate) fn survey_file<F: Shelf, K: Sink>(
     out: &mut K,
 ) -> Ending
     requires { asked.now.steps ≤ 1000000 }
-    ensures ends { Ends result (λ a. OfFiles (F.log shelf.old).files (λ files. OverFile (SurveysObject (campaign_view asked.now) files) asked.now.object.now files a))
+    ensures ends { ForFiles (F.log shelf.old).files (F.agrees shelf.new) (λ told.
+        Ends result (λ a. OfFiles told (λ files. OverFile (SurveysObject (campaign_view asked.now) files) asked.now.object.now files a))
         (K.log out.old) (K.log out.new)
-        (OfFiles (F.log shelf.old).files (λ files. FailsIn (Surveys (campaign_view asked.now)) files
-        (F.log shelf.old) (F.log shelf.new))) }
+        (OfFiles told (λ files. FailsIn (Surveys (campaign_view asked.now)) files
+        (revealing told (F.log shelf.old)) (revealing told (F.log shelf.new))))) }
     ensures load_failures { result ≢ Ending.LoadFailed → NoLoadFails
         (F.log shelf.old) (F.log shelf.new) }
-    ensures made { OfFiles (F.log shelf.old).files (λ files. LoadsFor (Surveys (campaign_view asked.now)) (F.log shelf.old).files files (IsTrue (ends_early result)) (F.log shelf.old).asked (F.log shelf.new).asked) }
+    ensures made { ForFiles (F.log shelf.old).files (F.agrees shelf.new) (λ told.
+        OfFiles told (λ files. LoadsFor (Surveys (campaign_view asked.now)) told files (IsTrue (ends_early result)) (F.log shelf.old).asked (F.log shelf.new).asked)) }
 {
     let mut bytes = Vec::new(alloc);
     match load_object(asked.object, shelf, &mut bytes) {

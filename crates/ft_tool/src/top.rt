@@ -2,6 +2,7 @@
 ghost use Rattle.std.specs.Prelude.{◌≡◌, ◌≢◌, ◌⊎◌, [], map, string_bytes, IsTrue};
 ghost use Rattle.ft_edge.specs.Logs.{NoLoadFails};
 ghost use Rattle.ft_tool.specs.Calls.{HasMade, is_early, Loads, TakesFrom};
+ghost use Rattle.ft_tool.specs.Known.{ForFiles, ForScript, revealing};
 ghost use Rattle.ft_tool.specs.Does.{Does, FailsTaking, TakesFor};
 ghost use Rattle.ft_command.specs.Asked.{asked};
 ghost use Rattle.ft_command.specs.Commands.{Asks, Usage, HasFewSteps, HasTurns};
@@ -41,12 +42,14 @@ fn obey<F: Shelf, I: Source, K: Sink>(
 ) -> Ending
     requires few_steps { HasFewSteps (asked command) }
     requires turns { HasTurns (asked command) }
-    ensures does { Does (asked command.entry) result (I.log script.old).left
-        (K.log out.old) (K.log out.new) (F.log shelf.old) (F.log shelf.new)
-        (FailsTaking (asked command.entry) (F.log shelf.old).files
-        (I.log script.old) (I.log script.new)) }
-    ensures script { TakesFor (asked command.entry) (F.log shelf.old).files
-        (I.log script.old) (I.log script.new) ⊎ (script.new ≡ script.old) }
+    ensures does { ForFiles (F.log shelf.old).files (F.agrees shelf.new) (λ told.
+        ForScript (I.log script.old).left (I.heard script.old) (I.heard script.new) (I.may_be_left script.new) (λ left.
+        Does (asked command.entry) result left
+        (K.log out.old) (K.log out.new) (revealing told (F.log shelf.old)) (revealing told (F.log shelf.new))
+        (FailsTaking (asked command.entry) told
+        (I.log script.old) (I.log script.new)))) }
+    ensures script { ForFiles (F.log shelf.old).files (F.agrees shelf.new) (λ told. TakesFor (asked command.entry) told
+        (I.log script.old) (I.log script.new) ⊎ (script.new ≡ script.old)) }
     ensures script_failures { result ≢ Ending.LoadFailed → (I.log script.new).failures ≡ (I.log script.old).failures }
 {
     match command {
@@ -80,20 +83,23 @@ fn carry_out<F: Shelf, I: Source, K: Sink>(
     script: &mut I,
     out: &mut K,
 ) -> Ending
-    ensures ends { Ends result (IsAnswer (map string_bytes words.now) (F.log shelf.old).files (I.log script.old).left)
+    ensures ends { ForFiles (F.log shelf.old).files (F.agrees shelf.new) (λ told.
+        ForScript (I.log script.old).left (I.heard script.old) (I.heard script.new) (I.may_be_left script.new) (λ left.
+        Ends result (IsAnswer (map string_bytes words.now) told left)
         (K.log out.old) (K.log out.new)
-        (FailedToLoad (map string_bytes words.now) (F.log shelf.old) (F.log shelf.new)
-        ⊎ FailedToTake (map string_bytes words.now) (F.log shelf.old).files
-        (I.log script.old) (I.log script.new)) }
+        (FailedToLoad (map string_bytes words.now) (revealing told (F.log shelf.old)) (revealing told (F.log shelf.new))
+        ⊎ FailedToTake (map string_bytes words.now) told
+        (I.log script.old) (I.log script.new)))) }
     ensures usage { result ≡ Ending.Usage → Asks (map string_bytes words.now) Usage }
     ensures failures { part_end result ≢ Unwritten → (K.log out.new).failures ≡ (K.log out.old).failures }
     ensures load_failures { result ≢ Ending.LoadFailed → NoLoadFails
         (F.log shelf.old) (F.log shelf.new) }
-    ensures script { TakesFrom (map string_bytes words.now) (F.log shelf.old).files
-        (I.log script.old) (I.log script.new) ⊎ (script.new ≡ script.old) }
-    ensures loads { Loads (map string_bytes words.now) (IsTrue (ends_early result))
-        (F.log shelf.old) (F.log shelf.new)
-        ⊎ ((result ≡ Ending.NoMemory) × HasMade [] (F.log shelf.old).asked (F.log shelf.new).asked) }
+    ensures script { ForFiles (F.log shelf.old).files (F.agrees shelf.new) (λ told. TakesFrom (map string_bytes words.now) told
+        (I.log script.old) (I.log script.new) ⊎ (script.new ≡ script.old)) }
+    ensures loads { ForFiles (F.log shelf.old).files (F.agrees shelf.new) (λ told.
+        Loads (map string_bytes words.now) (IsTrue (ends_early result))
+        (revealing told (F.log shelf.old)) (revealing told (F.log shelf.new))
+        ⊎ ((result ≡ Ending.NoMemory) × HasMade [] (F.log shelf.old).asked (F.log shelf.new).asked)) }
     ensures script_failures { result ≢ Ending.LoadFailed → (I.log script.new).failures ≡ (I.log script.old).failures }
 {
     match command_of(alloc, words) {
@@ -119,22 +125,26 @@ pub fn tool<F: Shelf, I: Source, K: Sink>(
     // and its outputs are a prefix of those. A recovery writes the whole output of the run without the strike. The
     // object linked from accepted modules is accepted and runs as they do.
     ensures headline { result ≢ 3 → result ≢ 4 → result ≢ 5 →
-        Concludes (IsAnswer (map string_bytes words.now) (F.log shelf.old).files (I.log script.old).left) result
-        (K.log out.old) (K.log out.new) }
+        ForFiles (F.log shelf.old).files (F.agrees shelf.new) (λ told.
+        ForScript (I.log script.old).left (I.heard script.old) (I.heard script.new) (I.may_be_left script.new) (λ left.
+        Concludes (IsAnswer (map string_bytes words.now) told left) result
+        (K.log out.old) (K.log out.new))) }
     ensures usage { result ≡ 2 → Asks (map string_bytes words.now) Usage }
 
     // A load of one of the command's files or a take of its script failed, and nothing was written.
-    ensures load_failure { result ≡ 3 →
-        FailedToLoad (map string_bytes words.now) (F.log shelf.old) (F.log shelf.new)
-        ⊎ FailedToTake (map string_bytes words.now) (F.log shelf.old).files
-        (I.log script.old) (I.log script.new) }
+    ensures load_failure { result ≡ 3 → ForFiles (F.log shelf.old).files (F.agrees shelf.new) (λ told.
+        FailedToLoad (map string_bytes words.now) (revealing told (F.log shelf.old)) (revealing told (F.log shelf.new))
+        ⊎ FailedToTake (map string_bytes words.now) told
+        (I.log script.old) (I.log script.new)) }
     ensures load_failure_puts_nothing { result ≡ 3 → K.log out.new ≡ K.log out.old }
 
     // A put failed and was the last: all earlier pieces were written, and a prefix of the piece whose put failed. The
     // count of failed puts rose or is 2^64 - 1.
     ensures write_failure { result ≡ 4 →
-        BreaksOff (IsAnswer (map string_bytes words.now) (F.log shelf.old).files (I.log script.old).left)
-        (K.log out.old) (K.log out.new) }
+        ForFiles (F.log shelf.old).files (F.agrees shelf.new) (λ told.
+        ForScript (I.log script.old).left (I.heard script.old) (I.heard script.new) (I.may_be_left script.new) (λ left.
+        BreaksOff (IsAnswer (map string_bytes words.now) told left)
+        (K.log out.old) (K.log out.new))) }
 
     // Nothing was written. This status is meant to report that memory ran out.
     ensures no_memory_puts_nothing { result ≡ 5 → K.log out.new ≡ K.log out.old }
@@ -148,11 +158,12 @@ pub fn tool<F: Shelf, I: Source, K: Sink>(
     // when the command gets to it, except that a fault list with the object's name is not loaded again. With statuses
     // 3 and 5, loads of fault lists and modules may be missing; with status 5, all loads may be.
     ensures load_failures { result ≢ 3 → NoLoadFails (F.log shelf.old) (F.log shelf.new) }
-    ensures script { TakesFrom (map string_bytes words.now) (F.log shelf.old).files
-        (I.log script.old) (I.log script.new) ⊎ (script.new ≡ script.old) }
-    ensures loads { Loads (map string_bytes words.now) (IsTrue (is_early result))
-        (F.log shelf.old) (F.log shelf.new)
-        ⊎ ((result ≡ 5) × HasMade [] (F.log shelf.old).asked (F.log shelf.new).asked) }
+    ensures script { ForFiles (F.log shelf.old).files (F.agrees shelf.new) (λ told. TakesFrom (map string_bytes words.now) told
+        (I.log script.old) (I.log script.new) ⊎ (script.new ≡ script.old)) }
+    ensures loads { ForFiles (F.log shelf.old).files (F.agrees shelf.new) (λ told.
+        Loads (map string_bytes words.now) (IsTrue (is_early result))
+        (revealing told (F.log shelf.old)) (revealing told (F.log shelf.new))
+        ⊎ ((result ≡ 5) × HasMade [] (F.log shelf.old).asked (F.log shelf.new).asked)) }
     ensures script_failures { result ≢ 3 → (I.log script.new).failures ≡ (I.log script.old).failures }
 {
     match carry_out(alloc, words, shelf, script, out) {

@@ -74,6 +74,19 @@ impl<'a> View<'a> {
         })
     }
 
+    /// A view of bytes that are known to spell an object: those of a view made before. It reads only the header.
+    pub fn again(bytes: &'a [u8]) -> View<'a>
+        requires unbroken { broken bytes.now ≡ None }
+        ensures seen { result ≡ bytes.now }
+    {
+        let header = Header::read(bytes);
+        View {
+            header,
+            at: Places::of(header),
+            bytes,
+        }
+    }
+
     /// The numbers of the record of cell `i`.
     fn cell_record(&self, i: u32) -> CellRow
         requires { i < (header_at self.now).cells }

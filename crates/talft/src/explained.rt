@@ -3,7 +3,7 @@ use crate::build::line_of_build;
 use crate::looks::Folders;
 use crate::streams::{STANDARD_ERROR, STANDARD_INPUT, STANDARD_OUTPUT, is_pipe, is_terminal};
 use crate::watched::Watched;
-use crate::{NO_MEMORY, NOT_WRITTEN, answer, ended};
+use crate::{NO_MEMORY, NOT_WRITTEN, answer};
 use ft_edge::{FolderShelf, GatheringSink, MemShelf, Shelf};
 use ft_explain::{LastLine, asks_for_version, explain, form_of_words};
 use ft_isa::NoMemory;
@@ -171,10 +171,7 @@ pub(crate) fn run<R: Env + Files + Print + Eprint + Input + AllocGlobal + Clone 
     let Ok(out) = GatheringSink::new(rt.alloc(), &mut watched) else {
         return Ok(NO_MEMORY);
     };
-    let mut out = LastLine::new(out);
-    let status = answer(rt, words, &mut out)?;
-    let (out, line) = out.into_parts();
-    let status = ended(out, status);
+    let (status, line) = answer(rt, words, LastLine::new(out))?;
     if status == NOT_WRITTEN {
         say_unwritten(rt, watched.reason());
         return Ok(status);

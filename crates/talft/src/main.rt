@@ -1,11 +1,12 @@
 //! The program: the tool with the system's files, standard input and standard output.
 //!
-//! The program's words are its arguments, and `ft_tool::tool` does what they ask for: its contract says
-//! what it writes and returns. Arguments that are not UTF-8 are not a command, so `tool` then gets no
-//! words. Output is buffered and written in large pieces. What is in the buffer at the end is written before
-//! the program ends; the status is that of `tool`, or 4 if this last write fails. A call that is
-//! refused, is cut short or detects a fault is explained on standard error.
+//! The program's words are its arguments, and `ft_tool::whole` does what they ask for: its contract says what it writes
+//! and returns, the last flush included. Arguments that are not UTF-8 are not a command, so `whole` then gets no words.
+//! Output is buffered and written in large pieces. A call that is refused, is cut short or detects a fault is explained
+//! on standard error.
 #![tactic(auto)]
+
+ghost use Rattle.std.specs.Prelude.{◌≡◌, []};
 
 mod build;
 mod explained;
@@ -13,7 +14,7 @@ mod looks;
 mod streams;
 mod watched;
 
-use ft_edge::{FolderShelf, GatheringSink, Sink, StdinSource};
+use ft_edge::{FolderShelf, GatheringSink, Gathers, StdinSource};
 use std::io::Write;
 use std::process::ExitCode;
 use std::rt::{Env, Files};
@@ -34,15 +35,19 @@ fn words<R: Env + AllocGlobal>(rt: &R) -> io::Result<Vec<String>> {
     Ok(words)
 }
 
-/// Does what the words ask for, with the system's files and standard input.
-fn answer<R: Files + Input + AllocGlobal + Clone + Drop, K: Sink>(
+/// Does what the words ask for, with the system's files and standard input, and flushes the output.
+/// `ft_tool::whole` promises what was written.
+fn answer<R: Files + Input + AllocGlobal + Clone + Drop, W: Write + Drop, K: Gathers<W>>(
     rt: &R,
     words: &[String],
-    out: &mut K,
-) -> io::Result<u8> {
+    out: K,
+) -> io::Result<(u8, K::Kept)>
+    requires { K.bytes out ≡ [] }
+{
     let mut shelf = FolderShelf::new(rt.clone()?, rt.alloc());
     let mut script = StdinSource::new(rt.clone()?);
-    Ok(ft_tool::tool(rt.alloc(), words, &mut shelf, &mut script, out))
+    let (status, _, kept) = ft_tool::whole(rt.alloc(), words, &mut shelf, &mut script, out);
+    Ok((status, kept))
 }
 
 fn run<R: Env + Files + Print + Eprint + Input + AllocGlobal + Clone + Drop>(
@@ -56,23 +61,11 @@ fn run<R: Env + Files + Print + Eprint + Input + AllocGlobal + Clone + Drop>(
     if explained::is_wanted(rt) {
         return explained::run(rt, words.as_slice());
     }
-    let Ok(mut out) = GatheringSink::new(rt.alloc(), io::writer(rt)) else {
+    let Ok(out) = GatheringSink::new(rt.alloc(), io::writer(rt)) else {
         return Ok(NO_MEMORY);
     };
-    let status = answer(rt, words.as_slice(), &mut out)?;
-    Ok(ended(out, status))
-}
-
-/// Writes what is still buffered. After a failed put, nothing more is written.
-fn ended<W: Write + Drop>(out: GatheringSink<W>, status: u8) -> u8 {
-    if status == NOT_WRITTEN {
-        let _ = out.discard();
-        return status;
-    }
-    match out.finish() {
-        Ok(_) => status,
-        Err(_) => NOT_WRITTEN,
-    }
+    let (status, ()) = answer(rt, words.as_slice(), out)?;
+    Ok(status)
 }
 
 fn main(rt: HostRuntime) -> ExitCode {

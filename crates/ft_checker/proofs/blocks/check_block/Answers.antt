@@ -41,7 +41,7 @@ loop-i-init g c =
     let n = length-map c.args.start.now.context.queue (pair_in fs) in
     record {
       kept = keeps_itself _;
-      own = c.requires.own;
+      shared = c.requires.shared;
       held = rw same c.requires.start.held;
       types = rw same c.requires.start.types;
       from = omega arith;
@@ -79,7 +79,7 @@ loop-i-preserved g c =
       memory = omega (arith, c.turn.ensures.grows.memory, c.loop-i.invariant.memory);
       steps = omega (arith, c.turn.ensures.steps, c.loop-i.invariant.steps, sw, sm);
       kept = keeps_both _ _ _ c.loop-i.invariant.kept c.turn.ensures.kept;
-      own = c.turn.ensures.own;
+      shared = c.turn.ensures.shared;
       held = c.turn.ensures.held;
       types = c.turn.ensures.types;
       left = ap (λ (m : ℕ). walk o (context_in c.turn.new.forms c.turn.new.context) m others) n ∙ sym goes ∙ whole;

@@ -31,7 +31,8 @@ returns-in_err-check_block-clause-steps g c =
     let x = block_there o.blocks c.loop-b.b (omega arith) in
     let e = ap (λ (n : ℕ). instrs_cost o (take n o.instrs)) (begins_there o c.loop-b.b x.0 c.requires x.1) in
     let s = c.check_block.ensures.steps x.0 x.1 in
-    let w = start_within o c.loop-b.steps c.renew.new.steps c.renew.ensures.steps in
+    let w = start_within o (g.M.Meter.counted c.loop-b.meter) (g.M.Meter.counted c.renew.new.meter)
+    c.renew.ensures.steps in
     let m : (c.loop-b.b + 1) * visit_cost o ≡ c.loop-b.b * visit_cost o + visit_cost o = omega arith in
     let a = cost_all o o.instrs (block_end o c.loop-b.b) in
     let k : (c.loop-b.b + 1) * visit_cost o ≤ length o.blocks * visit_cost o =
@@ -52,7 +53,8 @@ loop-b-preserved g c =
     let x = block_there o.blocks c.loop-b.b (omega arith) in
     let e = ap (λ (n : ℕ). instrs_cost o (take n o.instrs)) (begins_there o c.loop-b.b x.0 c.requires x.1) in
     let s = c.check_block.ensures.steps x.0 x.1 in
-    let w = start_within o c.loop-b.steps c.renew.new.steps c.renew.ensures.steps in
+    let w = start_within o (g.M.Meter.counted c.loop-b.meter) (g.M.Meter.counted c.renew.new.meter)
+    c.renew.ensures.steps in
     let m : (c.loop-b.b + 1) * visit_cost o ≡ c.loop-b.b * visit_cost o + visit_cost o = omega arith in
     let n : c.loop-b.b + 1 ≡ suc c.loop-b.b = omega arith in
     let z = ap (λ (k : ℕ). instrs_cost o (take (begins o k) o.instrs)) n in
@@ -61,7 +63,7 @@ loop-b-preserved g c =
     (g.P.Program.object c.args.program.now).blocks y.0 y.1 in
     let passed = c.in_ok-check_block.ensures.judged y.0 y.1 in
     record {
-      own = c.check_block.ensures.own;
+      shared = c.check_block.ensures.shared;
       start = last_kept o c.renew.new.forms c.check_block.new.forms c.renew.new.last c.check_block.ensures.kept
           c.in_ok-renew.ensures.start;
       left = sym (rw passed at turn) ∙ c.loop-b.invariant.left;
@@ -87,7 +89,8 @@ check_block-requires-clause-code_type g c = λ x f.
 pub returns-in_err-renew-clause-steps : goal.returns-in_err-renew-clause-steps
 returns-in_err-renew-clause-steps g c =
     let o = g.P.Program.object c.args.program.now in
-    let w = start_within o c.loop-b.steps c.renew.new.steps c.renew.ensures.steps in
+    let w = start_within o (g.M.Meter.counted c.loop-b.meter) (g.M.Meter.counted c.renew.new.meter)
+    c.renew.ensures.steps in
     let m : (c.loop-b.b + 1) * visit_cost o ≡ c.loop-b.b * visit_cost o + visit_cost o = omega arith in
     let a = cost_all o o.instrs (begins o c.loop-b.b) in
     let k : (c.loop-b.b + 1) * visit_cost o ≤ length o.blocks * visit_cost o =
@@ -97,7 +100,7 @@ returns-in_err-renew-clause-steps g c =
 pub loop-b-init : goal.loop-b-init
 loop-b-init g c = let o = g.P.Program.object c.args.program.now in
     record {
-      own = c.in_ok-shared.ensures.own o;
+      shared = c.in_ok-shared.ensures.shared o;
       start = tt;
       left = refl;
       steps = (let w = none_cost o in omega (arith, w));
@@ -105,3 +108,6 @@ loop-b-init g c = let o = g.P.Program.object c.args.program.now in
 
 pub returns-in_err-renew-clause-judged : goal.returns-in_err-renew-clause-judged
 returns-in_err-renew-clause-judged g c = judges_stop _ _ c.from_residual-in_err-renew.ensures.1
+
+pub returns-in_err-context-clause-judged : goal.returns-in_err-context-clause-judged
+returns-in_err-context-clause-judged g c = judges_stop _ _ c.from_residual-in_err-context.ensures.1

@@ -44,8 +44,13 @@ pub returns-else-last-2-clause-turns : goal.returns-else-last-2-clause-turns
 returns-else-last-2-clause-turns g c = λ k others next h.
     end_more _ k others next (rw c.in-Ends.is at c.in_ok-next.ensures.row) (h ∙ c.if-last-2.false)
 
+pub returns-in_err-pay-clause-turns : goal.returns-in_err-pay-clause-turns
+returns-in_err-pay-clause-turns g c = λ k others next h.
+    exit_turns _ c.from_residual.result NoMemory k others next (next (context_in c.args.forms.now c.args.context.now))
+    c.from_residual.ensures.1 tt
+
 pub returns-in_err-next-clause-turns : goal.returns-in_err-next-clause-turns
 returns-in_err-next-clause-turns g c = λ k others next h.
-    exit_turns _ c.from_residual.result c.in_err-next.field-0.0 k others next
-    (next (context_in c.apply_rule_over.new.forms c.apply_rule_over.new.ctx)) c.from_residual.ensures.1
+    exit_turns _ c.from_residual-in_err-next.result c.in_err-next.field-0.0 k others next
+    (next (context_in c.apply_rule_over.new.forms c.apply_rule_over.new.ctx)) c.from_residual-in_err-next.ensures.1
     c.in_err-next.ensures.row

@@ -20,7 +20,7 @@ returns-then-not-begins-clause-judged g c = refusal_first (g.P.Program.object c.
     ∙ c.if-not-begins.true)
 
 pub returns-in_err-check_cells-clause-judged : goal.returns-in_err-check_cells-clause-judged
-returns-in_err-check_cells-clause-judged g c = judges_exit _ _ _ _ c.from_residual.ensures.1
+returns-in_err-check_cells-clause-judged g c = judges_exit _ _ _ _ c.from_residual-in_err-check_cells.ensures.1
     (refusal_rest (g.P.Program.object c.args.program.now) _
     (type_found (g.P.Program.object c.args.program.now) (g.P.Program.object c.args.program.now).entry
     c.block-first.result (rw c.entry.ensures at c.block-first.ensures)) (sym c.is_entry_type-begins.ensures
@@ -39,4 +39,4 @@ returns-clause-judged g c =
 
 pub returns-clause-steps : goal.returns-clause-steps
 returns-clause-steps g c = let w = cost_whole (g.P.Program.object c.args.program.now) in
-    omega (arith, w, c.check_blocks.ensures.steps)
+    omega (arith, w, c.check_blocks.ensures.steps, c.pay.ensures)

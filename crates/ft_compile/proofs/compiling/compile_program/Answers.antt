@@ -1,7 +1,8 @@
-use Rattle.std.proofs.Common.{ℕ, ◌<◌, ◌≤◌, arith}
+use Rattle.std.proofs.Common.{ℕ, ◌<◌, ◌≤◌, ap, ◌∙◌, arith}
 use Rattle.ft_lower.specs.Cutting.{blocks_of}
 use Rattle.ft_scope.specs.ProgramOf.{program_of}
 use Rattle.ft_dup.proofs.WellFormedBlocks.{shape_of_well}
+use Rattle.ft_compile.specs.Emitted.{emitted}
 use Rattle.ft_compile.proofs.BlockWalks.{module_of_flow}
 use Rattle.ft_compile.proofs.Stands.{emits, stands}
 use Rattle.ft_compile.proofs.compiling.compile_program.Goals as goal
@@ -28,6 +29,14 @@ returns-clause-emitted c =
     let h = c.in_ok-flow.ensures in
     emits (program_of c.args.prog.now) c.in_ok-object.object f.vars f.cells (blocks_of f)
     (few_of c.in_ok-flow.flow.vars h.few) h.well h.vars h.cells h.runs h.light h.pairs c.in_ok-object.ensures
+
+pub returns-clause-object : goal.returns-clause-object
+returns-clause-object c =
+    let p = program_of c.args.prog.now in
+    let f = c.in_ok-flow.flow in
+    let h = c.in_ok-flow.ensures in
+    c.in_ok-object.ensures ∙ ap (λ v. emitted p.names p.inits v (blocks_of f)) h.vars
+    ∙ ap (emitted p.names p.inits p.vars) h.blocks
 
 pub returns-clause-joins : goal.returns-clause-joins
 returns-clause-joins c =

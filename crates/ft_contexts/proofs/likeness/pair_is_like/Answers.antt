@@ -24,11 +24,13 @@ returns-clause-like g c =
 pub returns-in_err-value-clause-steps : goal.returns-in_err-value-clause-steps
 returns-in_err-value-clause-steps g c =
     let x = put_steps (g.P.Program.object c.args.program.now) c.args.forms.now c.integer.new.forms c.args.put.now
-    c.integer.new.steps c.integer-2.new.steps c.integer.ensures.kept c.requires.put c.integer-2.ensures.steps in
+    (g.M.Meter.counted c.integer.new.meter) (g.M.Meter.counted c.integer-2.new.meter) c.integer.ensures.kept
+    c.requires.put c.integer-2.ensures.steps in
     omega (arith, c.integer.ensures.steps, x)
 
 pub returns-clause-steps : goal.returns-clause-steps
 returns-clause-steps g c =
     let x = put_steps (g.P.Program.object c.args.program.now) c.args.forms.now c.integer.new.forms c.args.put.now
-    c.integer.new.steps c.integer-2.new.steps c.integer.ensures.kept c.requires.put c.integer-2.ensures.steps in
+    (g.M.Meter.counted c.integer.new.meter) (g.M.Meter.counted c.integer-2.new.meter) c.integer.ensures.kept
+    c.requires.put c.integer-2.ensures.steps in
     omega (arith, c.integer.ensures.steps, x)

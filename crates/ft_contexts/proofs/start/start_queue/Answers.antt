@@ -49,7 +49,8 @@ loop-j-preserved g c =
     ≡ queue_pair o row ∷ others = ap (map (queue_pair o))
     (drop_next (queue_rows o c.args.t) c.loop-j.j row c.queue_row-address.ensures) in
     let so = g.P.Program.object c.args.program.now in
-    let sy = two_trees c.loop-j.steps c.integer.new.steps c.integer-in-loop-j.new.steps c.args.steps.now c.loop-j.j
+    let sy = two_trees (g.M.Meter.counted c.loop-j.meter) (g.M.Meter.counted c.integer.new.meter)
+    (g.M.Meter.counted c.integer-in-loop-j.new.meter) (g.M.Meter.counted c.args.meter.now) c.loop-j.j
     (tree_cost so 0) c.loop-j.invariant.steps c.integer.ensures.steps c.integer-in-loop-j.ensures.steps in
     record {
       steps = sy;
@@ -90,28 +91,35 @@ returns-clause-pairs g c =
 pub returns-in_err-address-clause-steps : goal.returns-in_err-address-clause-steps
 returns-in_err-address-clause-steps g c =
     let so = g.P.Program.object c.args.program.now in
-    let sy = two_trees c.loop-j.steps c.integer.new.steps c.integer.new.steps c.args.steps.now c.loop-j.j
+    let sy = two_trees (g.M.Meter.counted c.loop-j.meter) (g.M.Meter.counted c.integer.new.meter)
+    (g.M.Meter.counted c.integer.new.meter) (g.M.Meter.counted c.args.meter.now) c.loop-j.j
     (tree_cost so 0) c.loop-j.invariant.steps c.integer.ensures.steps (omega arith) in
-    some_trees c.integer.new.steps c.args.steps.now (c.loop-j.j + 1) c.args.rows (2 * tree_cost so 0) sy
+    some_trees (g.M.Meter.counted c.integer.new.meter) (g.M.Meter.counted c.args.meter.now) (c.loop-j.j + 1) c.args.rows
+    (2 * tree_cost so 0) sy
     (omega (arith, c.loop-j-test.true))
 
 pub returns-in_err-value-clause-steps : goal.returns-in_err-value-clause-steps
 returns-in_err-value-clause-steps g c =
     let so = g.P.Program.object c.args.program.now in
-    let sy = two_trees c.loop-j.steps c.integer.new.steps c.integer-in-loop-j.new.steps c.args.steps.now c.loop-j.j
+    let sy = two_trees (g.M.Meter.counted c.loop-j.meter) (g.M.Meter.counted c.integer.new.meter)
+    (g.M.Meter.counted c.integer-in-loop-j.new.meter) (g.M.Meter.counted c.args.meter.now) c.loop-j.j
     (tree_cost so 0) c.loop-j.invariant.steps c.integer.ensures.steps c.integer-in-loop-j.ensures.steps in
-    some_trees c.integer-in-loop-j.new.steps c.args.steps.now (c.loop-j.j + 1) c.args.rows (2 * tree_cost so 0) sy
+    some_trees (g.M.Meter.counted c.integer-in-loop-j.new.meter) (g.M.Meter.counted c.args.meter.now) (c.loop-j.j + 1)
+    c.args.rows (2 * tree_cost so 0) sy
     (omega (arith, c.loop-j-test.true))
 
 pub returns-in_err-push-clause-steps : goal.returns-in_err-push-clause-steps
 returns-in_err-push-clause-steps g c =
     let so = g.P.Program.object c.args.program.now in
-    let sy = two_trees c.loop-j.steps c.integer.new.steps c.integer-in-loop-j.new.steps c.args.steps.now c.loop-j.j
+    let sy = two_trees (g.M.Meter.counted c.loop-j.meter) (g.M.Meter.counted c.integer.new.meter)
+    (g.M.Meter.counted c.integer-in-loop-j.new.meter) (g.M.Meter.counted c.args.meter.now) c.loop-j.j
     (tree_cost so 0) c.loop-j.invariant.steps c.integer.ensures.steps c.integer-in-loop-j.ensures.steps in
-    some_trees c.integer-in-loop-j.new.steps c.args.steps.now (c.loop-j.j + 1) c.args.rows (2 * tree_cost so 0) sy
+    some_trees (g.M.Meter.counted c.integer-in-loop-j.new.meter) (g.M.Meter.counted c.args.meter.now) (c.loop-j.j + 1)
+    c.args.rows (2 * tree_cost so 0) sy
     (omega (arith, c.loop-j-test.true))
 
 pub returns-clause-steps : goal.returns-clause-steps
-returns-clause-steps g c = some_trees c.loop-j.steps c.args.steps.now c.loop-j.j c.args.rows
+returns-clause-steps g c = some_trees (g.M.Meter.counted c.loop-j.meter) (g.M.Meter.counted c.args.meter.now) c.loop-j.j
+    c.args.rows
     (2 * tree_cost (g.P.Program.object c.args.program.now) 0) c.loop-j.invariant.steps
     (omega (arith, c.loop-j.auto.j-end))

@@ -9,7 +9,7 @@ use Rattle.ft_contexts.proofs.start.start_queue.Given as goal
 abbrev pub invariant-loop-j : goal.invariant-loop-j
 invariant-loop-j g l = let o = g.P.Program.object l.program in record {
   kept : Keeps l.fn.forms l.forms;
-  steps : l.steps ≤ l.fn.steps + l.j * (2 * tree_cost o 0);
+  steps : (g.M.Meter.counted l.meter) ≤ (g.M.Meter.counted l.fn.meter) + l.j * (2 * tree_cost o 0);
   own : HoldsOwn o l.forms l.own;
   held : HoldsQueue l.forms l.queue;
   left : map (pair_in l.forms) l.queue ++ map (queue_pair o) (drop l.j (queue_rows o l.t))

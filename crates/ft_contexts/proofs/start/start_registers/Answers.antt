@@ -42,7 +42,8 @@ loop-j-preserved g c =
     in
     let made : held c.integer.new.forms c.in_ok-form.form ≡ Some (integer_form (integer_form_of o row.expr)) =
     c.in_ok-form.ensures.form in
-    let sy = one_tree c.loop-j.steps c.integer.new.steps (c.loop-j.j + 1) c.args.steps.now c.loop-j.j (tree_cost o 0)
+    let sy = one_tree (g.M.Meter.counted c.loop-j.meter) (g.M.Meter.counted c.integer.new.meter) (c.loop-j.j + 1)
+    (g.M.Meter.counted c.args.meter.now) c.loop-j.j (tree_cost o 0)
     c.loop-j.invariant.steps c.integer.ensures.steps refl in
     record {
       steps = sy;
@@ -69,11 +70,14 @@ returns-clause-known g c = sym (registers_end (g.P.Program.object c.args.program
 pub returns-in_err-form-clause-steps : goal.returns-in_err-form-clause-steps
 returns-in_err-form-clause-steps g c =
     let so = g.P.Program.object c.args.program.now in
-    let sy = one_tree c.loop-j.steps c.integer.new.steps (c.loop-j.j + 1) c.args.steps.now c.loop-j.j (tree_cost so 0)
+    let sy = one_tree (g.M.Meter.counted c.loop-j.meter) (g.M.Meter.counted c.integer.new.meter) (c.loop-j.j + 1)
+    (g.M.Meter.counted c.args.meter.now) c.loop-j.j (tree_cost so 0)
     c.loop-j.invariant.steps c.integer.ensures.steps refl in
-    some_trees c.integer.new.steps c.args.steps.now (c.loop-j.j + 1) c.args.rows (tree_cost so 0) sy
+    some_trees (g.M.Meter.counted c.integer.new.meter) (g.M.Meter.counted c.args.meter.now) (c.loop-j.j + 1) c.args.rows
+    (tree_cost so 0) sy
     (omega (arith, c.loop-j-test.true))
 
 pub returns-clause-steps : goal.returns-clause-steps
-returns-clause-steps g c = some_trees c.loop-j.steps c.args.steps.now c.loop-j.j c.args.rows
+returns-clause-steps g c = some_trees (g.M.Meter.counted c.loop-j.meter) (g.M.Meter.counted c.args.meter.now) c.loop-j.j
+    c.args.rows
     (tree_cost (g.P.Program.object c.args.program.now) 0) c.loop-j.invariant.steps (omega (arith, c.loop-j.auto.j-end))

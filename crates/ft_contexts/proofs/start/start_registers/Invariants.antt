@@ -10,7 +10,7 @@ use Rattle.ft_contexts.proofs.start.start_registers.Given as goal
 abbrev pub invariant-loop-j : goal.invariant-loop-j
 invariant-loop-j g l = let o = g.P.Program.object l.program in record {
   kept : Keeps l.fn.forms l.forms;
-  steps : l.steps ≤ l.fn.steps + l.j * tree_cost o 0;
+  steps : (g.M.Meter.counted l.meter) ≤ (g.M.Meter.counted l.fn.meter) + l.j * tree_cost o 0;
   own : HoldsOwn o l.forms l.own;
   sized : length l.registers ≡ 64;
   held : HoldsRegisters l.forms l.registers;

@@ -1,5 +1,6 @@
-use Rattle.std.proofs.Common.{◌+◌, ◌-◌, ◌≤◌, length, take}
+use Rattle.std.proofs.Common.{◌≡◌, ◌+◌, ◌-◌, ◌≤◌, false, length, take}
 use Rattle.std.specs.Io.KnownBytes.{Consumes}
+use Rattle.ft_history.specs.Files.{gives}
 use Rattle.ft_edge.proofs.folder_shelf.fill.Given as goal
 
 abbrev pub invariant-loop-filled : goal.invariant-loop-filled
@@ -7,6 +8,7 @@ invariant-loop-filled g l = record {
   read : Consumes (g.F.Read.remaining l.fn.file) (g.F.Read.remaining l.file) (take l.filled l.into.items);
   filled : l.filled ≤ length l.into.items;
   within : length l.into.items ≤ l.limit + 1;
+  heard : l.heard.files ≡ gives l.fn.heard.files (take l.filled l.into.items) false;
 }
 
 abbrev pub decreases-loop-filled : goal.decreases-loop-filled

@@ -18,6 +18,9 @@ use Rattle.ft_lower.proofs.lowering.lower.Goals as goal
 resolved : (p : Prog) → IsResolved (program_of p)
 resolved p = record { names = p.fits; need = p.small_need; weight = p.light }
 
+pub returns-clause-blocks : goal.returns-clause-blocks
+returns-clause-blocks c = ap (blocks_onto []) c.in_ok-steps.ensures
+
 pub returns-clause-few : goal.returns-clause-few
 returns-clause-few c = omega (arith, c.args.prog.now.small_need)
 

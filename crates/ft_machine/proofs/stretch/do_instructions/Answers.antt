@@ -10,22 +10,29 @@ use Rattle.ft_machine.proofs.Lengths.{has_length}
 use Rattle.ft_machine.proofs.Spanned.{there_is}
 use Rattle.ft_machine.proofs.Going.{goes_none, goes_then, goes_lost, goes_may, passes_quiet, passes_done}
 use Rattle.ft_machine.proofs.Going.{passes_detected, passes_on, passes_last, commit_cell, next_is, same_place}
+use Rattle.ft_machine.specs.Banks.{bank_over}
 use Rattle.ft_machine.proofs.stretch.do_instructions.Goals as goal
 
 pub returns-in_default-clause-goes : goal.returns-in_default-clause-goes
 returns-in_default-clause-goes g c =
+    let pending = g.Q.PendingStores.pending in
     let o = g.P.Program.object c.args.program.now in
     let lost = c.in_default.ensures.none in
     let first = c.args.first in
-    subst (λ (f : Option Instr). Goes g.T.Outlet o (doing c.args.bank.now first first None) c.args.wild.now
-    c.args.outlet.now (record (doing c.args.bank.now first first f) { status = status.Detected }) c.args.wild.now
+    subst (λ (f : Option Instr). Goes g.T.Outlet o
+    (doing (bank_over c.args.file.now (pending c.args.queue.now) c.args.cells.now) first first None) c.args.wild.now
+    c.args.outlet.now (record (doing (bank_over c.args.file.now (pending c.args.queue.now) c.args.cells.now) first first
+    f) { status = status.Detected }) c.args.wild.now
     c.args.outlet.now 1 Detected) (sym lost)
-    (goes_lost g.T.Outlet o c.args.bank.now first c.args.wild.now c.args.outlet.now lost)
+    (goes_lost g.T.Outlet o (bank_over c.args.file.now (pending c.args.queue.now) c.args.cells.now) first
+    c.args.wild.now c.args.outlet.now lost)
 
 pub loop-at-init : goal.loop-at-init
 loop-at-init g c =
+    let pending = g.Q.PendingStores.pending in
     let o = g.P.Program.object c.args.program.now in
-    let s = doing c.args.bank.now c.args.first c.args.first None in
+    let s = doing (bank_over c.args.file.now (pending c.args.queue.now) c.args.cells.now) c.args.first c.args.first None
+    in
     let w = c.args.wild.now in
     let t = c.args.outlet.now in
     let all = c.instructions_in-all.result in
@@ -52,7 +59,8 @@ loop-at-init g c =
       there = omega (arith, c.stretch_end-past.ensures.end, c.place_of-end.ensures);
       left = omega (arith, c.place_of.ensures);
       some = omega (arith, c.stretch_end-past.ensures.some at in_limit in_code);
-      goes = subst (λ q. Goes g.T.Outlet o s w t (doing c.args.bank.now q q None) w t
+      goes = subst (λ q. Goes g.T.Outlet o s w t (doing
+          (bank_over c.args.file.now (pending c.args.queue.now) c.args.cells.now) q q None) w t
           (2 * (all - (at + room - at) / 16)) Running) pc
           (subst (λ n. Goes g.T.Outlet o s w t s w t n Running) none (goes_none g.T.Outlet o s w t refl));
     }
@@ -92,8 +100,10 @@ next_place i small = next_is i small ∙ same_place i
 
 pub loop-at-preserved-in-On : goal.loop-at-preserved-in-On
 loop-at-preserved-in-On g c =
+    let pending = g.Q.PendingStores.pending in
     let o = g.P.Program.object c.args.program.now in
-    let s = doing c.args.bank.now c.args.first c.args.first None in
+    let s = doing (bank_over c.args.file.now (pending c.args.queue.now) c.args.cells.now) c.args.first c.args.first None
+    in
     let v = c.loop-at.invariant in
     let all = c.instructions_in-all.result in
     let limit = c.loop-at.limit in
@@ -101,7 +111,7 @@ loop-at-preserved-in-On g c =
     let w = c.args.wild.now in
     let t = c.args.outlet.now in
     let left = c.execute.new.wild in
-    let new = c.execute.new.self in
+    let new = (bank_over c.execute.new.self (pending c.execute.new.queue) c.execute.new.cells) in
     let at = there_is o i c.fetch.result c.fetch.ensures in
     let room = has_room c.loop-at.at c.loop-at.past limit c.loop-at-test.true v.past v.whole v.limit_whole in
     let done = on_done all limit c.loop-at.at room v.left in
@@ -124,7 +134,8 @@ loop-at-preserved-in-On g c =
           (2 * (all - (limit - (c.loop-at.at + 16)) / 16)) Running) (next_number c.loop-at.at)
           (subst (λ q. Goes g.T.Outlet o s w t (doing new q q None) left c.loop-at.outlet
           (2 * (all - (limit - (c.loop-at.at + 16)) / 16)) Running) (next_place i small)
-          (goes_then g.T.Outlet o s c.loop-at.bank new i c.fetch.result effects.On w c.loop-at.wild left t
+          (goes_then g.T.Outlet o s (bank_over c.loop-at.file (pending c.loop-at.queue) c.loop-at.cells) new i
+          c.fetch.result effects.On w c.loop-at.wild left t
           c.loop-at.outlet c.loop-at.outlet (2 * (all - (limit - c.loop-at.at) / 16))
           (2 * (all - (limit - (c.loop-at.at + 16)) / 16)) Running v.goes at c.in-On.ensures
           (passes_quiet g.T.Outlet c.loop-at.outlet) done));
@@ -132,8 +143,10 @@ loop-at-preserved-in-On g c =
 
 pub returns-in_default-index_at-clause-goes : goal.returns-in_default-index_at-clause-goes
 returns-in_default-index_at-clause-goes g c =
+    let pending = g.Q.PendingStores.pending in
     let o = g.P.Program.object c.args.program.now in
-    let s = doing c.args.bank.now c.args.first c.args.first None in
+    let s = doing (bank_over c.args.file.now (pending c.args.queue.now) c.args.cells.now) c.args.first c.args.first None
+    in
     let v = c.loop-at.invariant in
     let all = c.instructions_in-all.result in
     let limit = c.loop-at.limit in
@@ -141,18 +154,21 @@ returns-in_default-index_at-clause-goes g c =
     let w = c.args.wild.now in
     let t = c.args.outlet.now in
     let left = c.execute.new.wild in
-    let new = c.execute.new.self in
+    let new = (bank_over c.execute.new.self (pending c.execute.new.queue) c.execute.new.cells) in
     let at = there_is o i c.fetch.result c.fetch.ensures in
     let room = has_room c.loop-at.at c.loop-at.past limit c.loop-at-test.true v.past v.whole v.limit_whole in
     let done = on_done all limit c.loop-at.at room v.left in
-    goes_then g.T.Outlet o s c.loop-at.bank new i c.fetch.result (effects.To c.in-To.target) w c.loop-at.wild left t
+    goes_then g.T.Outlet o s (bank_over c.loop-at.file (pending c.loop-at.queue) c.loop-at.cells) new i c.fetch.result
+    (effects.To c.in-To.target) w c.loop-at.wild left t
     c.loop-at.outlet c.loop-at.outlet (2 * (all - (limit - c.loop-at.at) / 16)) c.steps_but.result Running v.goes at
     c.in-To.ensures (passes_quiet g.T.Outlet c.loop-at.outlet) (done ∙ sym c.steps_but.ensures)
 
 pub loop-at-preserved-in-To : goal.loop-at-preserved-in-To
 loop-at-preserved-in-To g c =
+    let pending = g.Q.PendingStores.pending in
     let o = g.P.Program.object c.args.program.now in
-    let s = doing c.args.bank.now c.args.first c.args.first None in
+    let s = doing (bank_over c.args.file.now (pending c.args.queue.now) c.args.cells.now) c.args.first c.args.first None
+    in
     let v = c.loop-at.invariant in
     let all = c.instructions_in-all.result in
     let limit = c.loop-at.limit in
@@ -160,7 +176,7 @@ loop-at-preserved-in-To g c =
     let w = c.args.wild.now in
     let t = c.args.outlet.now in
     let left = c.execute.new.wild in
-    let new = c.execute.new.self in
+    let new = (bank_over c.execute.new.self (pending c.execute.new.queue) c.execute.new.cells) in
     let at = there_is o i c.fetch.result c.fetch.ensures in
     let room = has_room c.loop-at.at c.loop-at.past limit c.loop-at-test.true v.past v.whole v.limit_whole in
     let done = on_done all limit c.loop-at.at room v.left in
@@ -181,7 +197,8 @@ loop-at-preserved-in-To g c =
       some = omega (arith, v.left, room);
       goes = subst (λ q. Goes g.T.Outlet o s w t (doing new q q None) left c.loop-at.outlet
           (2 * (all - (to + rest - to) / 16)) Running) pc
-          (goes_then g.T.Outlet o s c.loop-at.bank new i c.fetch.result (effects.To c.in-To.target) w c.loop-at.wild
+          (goes_then g.T.Outlet o s (bank_over c.loop-at.file (pending c.loop-at.queue) c.loop-at.cells) new i
+          c.fetch.result (effects.To c.in-To.target) w c.loop-at.wild
           left t c.loop-at.outlet c.loop-at.outlet (2 * (all - (limit - c.loop-at.at) / 16))
           (2 * (all - (to + rest - to) / 16)) Running v.goes at c.in-To.ensures
           (passes_quiet g.T.Outlet c.loop-at.outlet) (done ∙ same_rest all to rest));
@@ -189,19 +206,25 @@ loop-at-preserved-in-To g c =
 
 pub take-requires : goal.take-requires
 take-requires g c =
+    let pending = g.Q.PendingStores.pending in
     let o = g.P.Program.object c.args.program.now in
     let pc = 1 + c.loop-at.at / 16 in
-    goes_may g.T.Outlet o (doing c.args.bank.now c.args.first c.args.first None) (doing c.loop-at.bank pc pc None)
+    goes_may g.T.Outlet o (doing (bank_over c.args.file.now (pending c.args.queue.now) c.args.cells.now) c.args.first
+    c.args.first None) (doing (bank_over c.loop-at.file (pending c.loop-at.queue) c.loop-at.cells) pc pc None)
     c.args.wild.now c.loop-at.wild c.args.outlet.now c.loop-at.outlet
     (2 * (c.instructions_in-all.result - (c.loop-at.limit - c.loop-at.at) / 16)) Running c.loop-at.invariant.goes
     c.requires.may c.in-Commit.output
-    (commit_cell c.loop-at.bank c.execute.new.self pc c.fetch.result c.in-Commit.output c.loop-at.wild
+    (commit_cell (bank_over c.loop-at.file (pending c.loop-at.queue) c.loop-at.cells)
+    (bank_over c.execute.new.self (pending c.execute.new.queue) c.execute.new.cells) pc c.fetch.result
+    c.in-Commit.output c.loop-at.wild
     c.execute.new.wild c.in-Commit.ensures)
 
 pub returns-then-not-take-clause-goes : goal.returns-then-not-take-clause-goes
 returns-then-not-take-clause-goes g c =
+    let pending = g.Q.PendingStores.pending in
     let o = g.P.Program.object c.args.program.now in
-    let s = doing c.args.bank.now c.args.first c.args.first None in
+    let s = doing (bank_over c.args.file.now (pending c.args.queue.now) c.args.cells.now) c.args.first c.args.first None
+    in
     let v = c.loop-at.invariant in
     let all = c.instructions_in-all.result in
     let limit = c.loop-at.limit in
@@ -209,7 +232,7 @@ returns-then-not-take-clause-goes g c =
     let w = c.args.wild.now in
     let t = c.args.outlet.now in
     let left = c.execute.new.wild in
-    let new = c.execute.new.self in
+    let new = (bank_over c.execute.new.self (pending c.execute.new.queue) c.execute.new.cells) in
     let at = there_is o i c.fetch.result c.fetch.ensures in
     let room = has_room c.loop-at.at c.loop-at.past limit c.loop-at-test.true v.past v.whole v.limit_whole in
     let done = on_done all limit c.loop-at.at room v.left in
@@ -224,7 +247,8 @@ returns-then-not-take-clause-goes g c =
     c.steps_but-then-not-take.result Refused) (next_number c.loop-at.at)
     (subst (λ q. Goes g.T.Outlet o s w t (doing new q q None) left c.take.new.self c.steps_but-then-not-take.result
     Refused) (next_place i small)
-    (goes_then g.T.Outlet o s c.loop-at.bank new i c.fetch.result (effects.Commit c.in-Commit.output) w c.loop-at.wild
+    (goes_then g.T.Outlet o s (bank_over c.loop-at.file (pending c.loop-at.queue) c.loop-at.cells) new i c.fetch.result
+    (effects.Commit c.in-Commit.output) w c.loop-at.wild
     left t c.loop-at.outlet c.take.new.self (2 * (all - (limit - c.loop-at.at) / 16)) c.steps_but-then-not-take.result
     Refused v.goes at c.in-Commit.ensures (passes_last g.T.Outlet c.in-Commit.output c.take.result c.loop-at.outlet
     c.take.new.self c.if-not-take.true c.take.ensures.heard c.take.ensures.still) (done
@@ -232,8 +256,10 @@ returns-then-not-take-clause-goes g c =
 
 pub loop-at-preserved : goal.loop-at-preserved
 loop-at-preserved g c =
+    let pending = g.Q.PendingStores.pending in
     let o = g.P.Program.object c.args.program.now in
-    let s = doing c.args.bank.now c.args.first c.args.first None in
+    let s = doing (bank_over c.args.file.now (pending c.args.queue.now) c.args.cells.now) c.args.first c.args.first None
+    in
     let v = c.loop-at.invariant in
     let all = c.instructions_in-all.result in
     let limit = c.loop-at.limit in
@@ -241,7 +267,7 @@ loop-at-preserved g c =
     let w = c.args.wild.now in
     let t = c.args.outlet.now in
     let left = c.execute.new.wild in
-    let new = c.execute.new.self in
+    let new = (bank_over c.execute.new.self (pending c.execute.new.queue) c.execute.new.cells) in
     let at = there_is o i c.fetch.result c.fetch.ensures in
     let room = has_room c.loop-at.at c.loop-at.past limit c.loop-at-test.true v.past v.whole v.limit_whole in
     let done = on_done all limit c.loop-at.at room v.left in
@@ -264,7 +290,8 @@ loop-at-preserved g c =
           (2 * (all - (limit - (c.loop-at.at + 16)) / 16)) Running) (next_number c.loop-at.at)
           (subst (λ q. Goes g.T.Outlet o s w t (doing new q q None) left c.take.new.self
           (2 * (all - (limit - (c.loop-at.at + 16)) / 16)) Running) (next_place i small)
-          (goes_then g.T.Outlet o s c.loop-at.bank new i c.fetch.result (effects.Commit c.in-Commit.output) w
+          (goes_then g.T.Outlet o s (bank_over c.loop-at.file (pending c.loop-at.queue) c.loop-at.cells) new i
+          c.fetch.result (effects.Commit c.in-Commit.output) w
           c.loop-at.wild left t c.loop-at.outlet c.take.new.self (2 * (all - (limit - c.loop-at.at) / 16))
           (2 * (all - (limit - (c.loop-at.at + 16)) / 16)) Running v.goes at c.in-Commit.ensures
           (passes_on g.T.Outlet c.in-Commit.output c.take.result c.loop-at.outlet c.take.new.self c.if-not-take.false
@@ -273,8 +300,10 @@ loop-at-preserved g c =
 
 pub returns-in-Done-clause-goes : goal.returns-in-Done-clause-goes
 returns-in-Done-clause-goes g c =
+    let pending = g.Q.PendingStores.pending in
     let o = g.P.Program.object c.args.program.now in
-    let s = doing c.args.bank.now c.args.first c.args.first None in
+    let s = doing (bank_over c.args.file.now (pending c.args.queue.now) c.args.cells.now) c.args.first c.args.first None
+    in
     let v = c.loop-at.invariant in
     let all = c.instructions_in-all.result in
     let limit = c.loop-at.limit in
@@ -282,7 +311,7 @@ returns-in-Done-clause-goes g c =
     let w = c.args.wild.now in
     let t = c.args.outlet.now in
     let left = c.execute.new.wild in
-    let new = c.execute.new.self in
+    let new = (bank_over c.execute.new.self (pending c.execute.new.queue) c.execute.new.cells) in
     let at = there_is o i c.fetch.result c.fetch.ensures in
     let room = has_room c.loop-at.at c.loop-at.past limit c.loop-at-test.true v.past v.whole v.limit_whole in
     let done = on_done all limit c.loop-at.at room v.left in
@@ -290,14 +319,17 @@ returns-in-Done-clause-goes g c =
     rw c.number_at-in-Done.ensures (subst (λ (f : Option Instr).
     Goes g.T.Outlet o s w t (record (doing new pc pc f) { status = status.Done }) left c.loop-at.outlet
     c.steps_but-in-Done.result Done) (sym at)
-    (goes_then g.T.Outlet o s c.loop-at.bank new i c.fetch.result effects.Done w c.loop-at.wild left t c.loop-at.outlet
+    (goes_then g.T.Outlet o s (bank_over c.loop-at.file (pending c.loop-at.queue) c.loop-at.cells) new i c.fetch.result
+    effects.Done w c.loop-at.wild left t c.loop-at.outlet
     c.loop-at.outlet (2 * (all - (limit - c.loop-at.at) / 16)) c.steps_but-in-Done.result Done v.goes at
     c.in-Done.ensures (passes_done g.T.Outlet c.loop-at.outlet) (done ∙ sym c.steps_but-in-Done.ensures)))
 
 pub returns-in-Detected-clause-goes : goal.returns-in-Detected-clause-goes
 returns-in-Detected-clause-goes g c =
+    let pending = g.Q.PendingStores.pending in
     let o = g.P.Program.object c.args.program.now in
-    let s = doing c.args.bank.now c.args.first c.args.first None in
+    let s = doing (bank_over c.args.file.now (pending c.args.queue.now) c.args.cells.now) c.args.first c.args.first None
+    in
     let v = c.loop-at.invariant in
     let all = c.instructions_in-all.result in
     let limit = c.loop-at.limit in
@@ -305,7 +337,7 @@ returns-in-Detected-clause-goes g c =
     let w = c.args.wild.now in
     let t = c.args.outlet.now in
     let left = c.execute.new.wild in
-    let new = c.execute.new.self in
+    let new = (bank_over c.execute.new.self (pending c.execute.new.queue) c.execute.new.cells) in
     let at = there_is o i c.fetch.result c.fetch.ensures in
     let room = has_room c.loop-at.at c.loop-at.past limit c.loop-at-test.true v.past v.whole v.limit_whole in
     let done = on_done all limit c.loop-at.at room v.left in
@@ -313,7 +345,8 @@ returns-in-Detected-clause-goes g c =
     rw c.number_at-in-Detected.ensures (subst (λ (f : Option Instr).
     Goes g.T.Outlet o s w t (record (doing new pc pc f) { status = status.Detected }) left c.loop-at.outlet
     c.steps_but-in-Detected.result Detected) (sym at)
-    (goes_then g.T.Outlet o s c.loop-at.bank new i c.fetch.result effects.Detected w c.loop-at.wild left t
+    (goes_then g.T.Outlet o s (bank_over c.loop-at.file (pending c.loop-at.queue) c.loop-at.cells) new i c.fetch.result
+    effects.Detected w c.loop-at.wild left t
     c.loop-at.outlet c.loop-at.outlet (2 * (all - (limit - c.loop-at.at) / 16)) c.steps_but-in-Detected.result
     Detected v.goes at c.in-Detected.ensures (passes_detected g.T.Outlet c.loop-at.outlet) (done
     ∙ sym c.steps_but-in-Detected.ensures)))

@@ -11,7 +11,8 @@ invariant-loop-m g l = record {
   sort : memory_reach (forms_of l.entries) l.m ≤ length (forms_of l.entries);
   form : norm_sel (updates_at (forms_of l.entries) l.m) (polynomial_at (forms_of l.entries) l.p)
       ≡ norm_sel (updates_at (forms_of l.entries) l.memory) (polynomial_at (forms_of l.entries) l.p);
-  steps : l.steps + updates (updates_at (forms_of l.entries) l.m) ≤ l.initial.steps + updates
+  steps : (g.M.Meter.counted l.meter) + updates (updates_at (forms_of l.entries) l.m) ≤
+      (g.M.Meter.counted l.initial.meter) + updates
       (updates_at (forms_of l.entries) l.memory);
 }
 

@@ -26,8 +26,8 @@ pub apply_rule_over-requires-clause-held : goal.apply_rule_over-requires-clause-
 apply_rule_over-requires-clause-held g c = forms_kept c.args.forms.now c.new.new.forms c.args.ctx.now c.new.ensures.kept
     c.requires.held
 
-pub apply_rule_over-requires-clause-own : goal.apply_rule_over-requires-clause-own
-apply_rule_over-requires-clause-own g c = c.in_ok-shared.ensures.own (g.P.Program.object c.args.program.now)
+pub apply_rule_over-requires-clause-shared : goal.apply_rule_over-requires-clause-shared
+apply_rule_over-requires-clause-shared g c = c.in_ok-shared.ensures.shared (g.P.Program.object c.args.program.now)
 
 pub returns-clause-row : goal.returns-clause-row
 returns-clause-row g c = row_on (g.P.Program.object c.args.program.now) c.args.forms.now c.new.new.forms
@@ -43,5 +43,6 @@ returns-clause-grows g c = grows_on c.args.forms.now c.new.new.forms c.apply_rul
 
 pub returns-clause-steps : goal.returns-clause-steps
 returns-clause-steps g c = steps_on (g.P.Program.object c.args.program.now) c.args.forms.now c.new.new.forms
-    c.args.ctx.now c.args.instr.now c.args.steps.now c.apply_rule_over.new.steps c.new.ensures.kept c.requires.held
+    c.args.ctx.now c.args.instr.now (g.M.Meter.counted c.args.meter.now) (g.M.Meter.counted c.apply_rule_over.new.meter)
+    c.new.ensures.kept c.requires.held
     c.apply_rule_over.ensures.steps

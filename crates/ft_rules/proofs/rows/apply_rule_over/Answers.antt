@@ -2,7 +2,7 @@ use Rattle.std.proofs.Common.{length, ap, arith, subst}
 use Rattle.ft_types.specs.Spellable.{IsInstr, subst_of}
 use Rattle.ft_contexts.specs.Contexts.{context_in}
 use Rattle.ft_rules.proofs.Chains.{row_of, steps_of}
-use Rattle.ft_contexts.proofs.Kept.{owned_kept}
+use Rattle.ft_contexts.proofs.Kept.{shared_kept}
 use Rattle.ft_contexts.proofs.Spelled.{subst_spelled, instr_spelled}
 use Rattle.ft_rules.proofs.rows.apply_rule_over.Goals as goal
 
@@ -30,7 +30,7 @@ index-requires-clause-run g c =
 
 pub returns-in-OpReg : goal.returns-in-OpReg
 returns-in-OpReg g c =
-    let d = c.operate.ensures (g.P.Program.object c.args.program.now) c.requires.types in
+    let d = c.operate.ensures.row (g.P.Program.object c.args.program.now) c.requires.types in
     record {
       row = row_of (g.P.Program.object c.args.program.now) (context_in c.args.forms.now c.args.ctx.now)
           c.operate.new.forms c.operate.new.context c.operate.result c.args.instr.now _ c.in-OpReg.is d.row;
@@ -39,15 +39,16 @@ returns-in-OpReg g c =
       held = d.held;
       types = d.types;
       grows = d.grows;
-      own = owned_kept (g.P.Program.object c.args.program.now) c.args.forms.now c.operate.new.forms
-          c.args.shared.now.own d.kept c.requires.own;
+      shared = shared_kept (g.P.Program.object c.args.program.now) c.args.forms.now c.operate.new.forms
+          c.args.shared.now d.kept c.requires.shared;
       steps = steps_of (g.P.Program.object c.args.program.now) (context_in c.args.forms.now c.args.ctx.now)
-          c.args.instr.now _ c.args.steps.now c.args.steps.now c.in-OpReg.is (omega arith);
+          c.args.instr.now _ (g.M.Meter.counted c.args.meter.now) (g.M.Meter.counted c.operate.new.meter) c.in-OpReg.is
+          (omega (arith, c.operate.ensures.steps));
     }
 
 pub returns-in-OpWord : goal.returns-in-OpWord
 returns-in-OpWord g c =
-    let d = c.operate_word.ensures (g.P.Program.object c.args.program.now) c.requires.types in
+    let d = c.operate_word.ensures.row (g.P.Program.object c.args.program.now) c.requires.types in
     record {
       row = row_of (g.P.Program.object c.args.program.now) (context_in c.args.forms.now c.args.ctx.now)
           c.operate_word.new.forms c.operate_word.new.context c.operate_word.result c.args.instr.now _ c.in-OpWord.is
@@ -57,10 +58,12 @@ returns-in-OpWord g c =
       held = d.held;
       types = d.types;
       grows = d.grows;
-      own = owned_kept (g.P.Program.object c.args.program.now) c.args.forms.now c.operate_word.new.forms
-          c.args.shared.now.own d.kept c.requires.own;
+      shared = shared_kept (g.P.Program.object c.args.program.now) c.args.forms.now c.operate_word.new.forms
+          c.args.shared.now d.kept c.requires.shared;
       steps = steps_of (g.P.Program.object c.args.program.now) (context_in c.args.forms.now c.args.ctx.now)
-          c.args.instr.now _ c.args.steps.now c.args.steps.now c.in-OpWord.is (omega arith);
+          c.args.instr.now _ (g.M.Meter.counted c.args.meter.now) (g.M.Meter.counted c.operate_word.new.meter)
+          c.in-OpWord.is
+          (omega (arith, c.operate_word.ensures.steps));
     }
 
 pub returns-in-Ld : goal.returns-in-Ld
@@ -74,10 +77,11 @@ returns-in-Ld g c =
       held = d.held;
       types = d.types;
       grows = d.grows;
-      own = owned_kept (g.P.Program.object c.args.program.now) c.args.forms.now c.load.new.forms c.args.shared.now.own
-          d.kept c.requires.own;
+      shared = shared_kept (g.P.Program.object c.args.program.now) c.args.forms.now c.load.new.forms c.args.shared.now
+          d.kept c.requires.shared;
       steps = steps_of (g.P.Program.object c.args.program.now)
-          (context_in c.args.forms.now c.args.ctx.now) c.args.instr.now _ c.args.steps.now c.load.new.steps c.in-Ld.is
+          (context_in c.args.forms.now c.args.ctx.now) c.args.instr.now _ (g.M.Meter.counted c.args.meter.now)
+          (g.M.Meter.counted c.load.new.meter) c.in-Ld.is
           (omega (arith, c.load.ensures.steps));
     }
 
@@ -92,10 +96,11 @@ returns-in-St g c =
       held = d.held;
       types = d.types;
       grows = d.grows;
-      own = owned_kept (g.P.Program.object c.args.program.now) c.args.forms.now c.store.new.forms c.args.shared.now.own
-          d.kept c.requires.own;
+      shared = shared_kept (g.P.Program.object c.args.program.now) c.args.forms.now c.store.new.forms c.args.shared.now
+          d.kept c.requires.shared;
       steps = steps_of (g.P.Program.object c.args.program.now)
-          (context_in c.args.forms.now c.args.ctx.now) c.args.instr.now _ c.args.steps.now c.args.steps.now c.in-St.is
+          (context_in c.args.forms.now c.args.ctx.now) c.args.instr.now _ (g.M.Meter.counted c.args.meter.now)
+          (g.M.Meter.counted c.args.meter.now) c.in-St.is
           (omega arith);
     }
 
@@ -110,9 +115,10 @@ returns-in-JmpG g c =
       held = d.held;
       types = d.types;
       grows = d.grows;
-      own = c.requires.own;
+      shared = c.requires.shared;
       steps = steps_of (g.P.Program.object c.args.program.now) (context_in c.args.forms.now c.args.ctx.now)
-          c.args.instr.now _ c.args.steps.now c.args.steps.now c.in-JmpG.is (omega arith);
+          c.args.instr.now _ (g.M.Meter.counted c.args.meter.now) (g.M.Meter.counted c.args.meter.now) c.in-JmpG.is
+          (omega arith);
     }
 
 pub returns-in-BzG : goal.returns-in-BzG
@@ -126,9 +132,10 @@ returns-in-BzG g c =
       held = d.held;
       types = d.types;
       grows = d.grows;
-      own = c.requires.own;
+      shared = c.requires.shared;
       steps = steps_of (g.P.Program.object c.args.program.now) (context_in c.args.forms.now c.args.ctx.now)
-          c.args.instr.now _ c.args.steps.now c.args.steps.now c.in-BzG.is (omega arith);
+          c.args.instr.now _ (g.M.Meter.counted c.args.meter.now) (g.M.Meter.counted c.args.meter.now) c.in-BzG.is
+          (omega arith);
     }
 
 pub returns-in-Halt : goal.returns-in-Halt
@@ -142,9 +149,10 @@ returns-in-Halt g c =
       held = d.held;
       types = d.types;
       grows = d.grows;
-      own = c.requires.own;
+      shared = c.requires.shared;
       steps = steps_of (g.P.Program.object c.args.program.now) (context_in c.args.forms.now c.args.ctx.now)
-          c.args.instr.now _ c.args.steps.now c.args.steps.now c.in-Halt.is (omega arith);
+          c.args.instr.now _ (g.M.Meter.counted c.args.meter.now) (g.M.Meter.counted c.args.meter.now) c.in-Halt.is
+          (omega arith);
     }
 
 pub returns-in-Mov : goal.returns-in-Mov
@@ -158,10 +166,11 @@ returns-in-Mov g c =
       held = d.held;
       types = d.types;
       grows = d.grows;
-      own = owned_kept (g.P.Program.object c.args.program.now) c.args.forms.now c.claim.new.forms c.args.shared.now.own
-          d.kept c.requires.own;
+      shared = shared_kept (g.P.Program.object c.args.program.now) c.args.forms.now c.claim.new.forms c.args.shared.now
+          d.kept c.requires.shared;
       steps = steps_of (g.P.Program.object c.args.program.now)
-          (context_in c.args.forms.now c.args.ctx.now) c.args.instr.now _ c.args.steps.now c.args.steps.now c.in-Mov.is
+          (context_in c.args.forms.now c.args.ctx.now) c.args.instr.now _ (g.M.Meter.counted c.args.meter.now)
+          (g.M.Meter.counted c.args.meter.now) c.in-Mov.is
           (omega arith);
     }
 
@@ -176,10 +185,11 @@ returns-in-Idx g c =
       held = d.held;
       types = d.types;
       grows = d.grows;
-      own = owned_kept (g.P.Program.object c.args.program.now) c.args.forms.now c.index.new.forms c.args.shared.now.own
-          d.kept c.requires.own;
+      shared = shared_kept (g.P.Program.object c.args.program.now) c.args.forms.now c.index.new.forms c.args.shared.now
+          d.kept c.requires.shared;
       steps = steps_of (g.P.Program.object c.args.program.now)
-          (context_in c.args.forms.now c.args.ctx.now) c.args.instr.now _ c.args.steps.now c.args.steps.now c.in-Idx.is
+          (context_in c.args.forms.now c.args.ctx.now) c.args.instr.now _ (g.M.Meter.counted c.args.meter.now)
+          (g.M.Meter.counted c.args.meter.now) c.in-Idx.is
           (omega arith);
     }
 
@@ -194,9 +204,10 @@ returns-in-JmpB g c =
       held = d.held;
       types = d.types;
       grows = d.grows;
-      own = c.jump_blue.ensures.own;
+      shared = c.jump_blue.ensures.shared;
       steps = steps_of (g.P.Program.object c.args.program.now) (context_in c.args.forms.now c.args.ctx.now)
-          c.args.instr.now _ c.args.steps.now c.jump_blue.new.steps c.in-JmpB.is c.jump_blue.ensures.steps;
+          c.args.instr.now _ (g.M.Meter.counted c.args.meter.now) (g.M.Meter.counted c.jump_blue.new.meter) c.in-JmpB.is
+          c.jump_blue.ensures.steps;
     }
 
 pub returns-in-BzB : goal.returns-in-BzB
@@ -210,8 +221,9 @@ returns-in-BzB g c =
       held = d.held;
       types = d.types;
       grows = d.grows;
-      own = c.branch_blue.ensures.own;
+      shared = c.branch_blue.ensures.shared;
       steps = steps_of (g.P.Program.object c.args.program.now)
-          (context_in c.args.forms.now c.args.ctx.now) c.args.instr.now _ c.args.steps.now c.branch_blue.new.steps
+          (context_in c.args.forms.now c.args.ctx.now) c.args.instr.now _ (g.M.Meter.counted c.args.meter.now)
+          (g.M.Meter.counted c.branch_blue.new.meter)
           c.in-BzB.is c.branch_blue.ensures.steps;
     }

@@ -17,7 +17,7 @@ use Rattle.ft_contexts.specs.Contexts.{replacement_in, context_in}
 use Rattle.ft_contexts.specs.Costs.{tree_cost}
 use Rattle.ft_contexts.proofs.Costs.{cost_rises}
 use Rattle.ft_rules.proofs.Chains.{passes_exit, passes_stop, passes_after}
-use Rattle.ft_contexts.proofs.Kept.{memory_stays, owned_kept, forms_kept, variables_kept, context_stays}
+use Rattle.ft_contexts.proofs.Kept.{memory_stays, forms_kept, shared_made, variables_kept, context_stays}
 use Rattle.ft_contexts.proofs.Kept.{replacement_stays}
 use Rattle.ft_rules.proofs.transfer.leads.Goals as goal
 
@@ -82,7 +82,7 @@ queue_is_like-requires-clause-held g c = forms_kept c.args.forms.now c.registers
 
 pub queue_is_like-requires-clause-put : goal.queue_is_like-requires-clause-put
 queue_is_like-requires-clause-put g c = (variables_kept c.replace.new.forms c.registers_are_like.new.forms
-    c.replace.new.self.put c.registers_are_like.ensures.kept c.in_ok-replace.ensures.held)
+    c.replace.new.self.put c.registers_are_like.ensures.kept c.replace.ensures.shared.put)
 
 pub memory_is_like-requires-clause-held : goal.memory_is_like-requires-clause-held
 memory_is_like-requires-clause-held g c = forms_kept c.args.forms.now c.queue_is_like.new.forms c.args.context.now
@@ -92,7 +92,7 @@ memory_is_like-requires-clause-held g c = forms_kept c.args.forms.now c.queue_is
 pub memory_is_like-requires-clause-put : goal.memory_is_like-requires-clause-put
 memory_is_like-requires-clause-put g c = (variables_kept c.replace.new.forms c.queue_is_like.new.forms
     c.replace.new.self.put (keeps_both _ _ _ c.registers_are_like.ensures.kept c.queue_is_like.ensures.kept)
-    c.in_ok-replace.ensures.held)
+    c.replace.ensures.shared.put)
 
 pub returns-in_err-need-clause-passes : goal.returns-in_err-need-clause-passes
 unfolding leads
@@ -135,7 +135,7 @@ returns-in_err-need-3-clause-passes g c = λ next.
     (context_in c.replace.new.forms c.args.context.now) (context_in c.args.forms.now c.args.context.now)
     (reg_rows (g.P.Program.object c.args.program.now) c.args.t) c.in_ok-registers.ensures.like x1 k1 in
     let x2 = replacement_stays c.replace.new.forms c.registers_are_like.new.forms c.replace.new.self.put
-    c.registers_are_like.ensures.kept c.in_ok-replace.ensures.held ∙ x1 in
+    c.registers_are_like.ensures.kept c.replace.ensures.shared.put ∙ x1 in
     let k2 = context_stays c.args.forms.now c.registers_are_like.new.forms c.args.context.now
     (keeps_both _ _ _ c.replace.ensures.kept c.registers_are_like.ensures.kept) c.requires.held in
     let l2 = queue_so (g.P.Program.object c.args.program.now) _
@@ -162,7 +162,7 @@ returns-clause-passes g c = λ next.
     (context_in c.replace.new.forms c.args.context.now) (context_in c.args.forms.now c.args.context.now)
     (reg_rows (g.P.Program.object c.args.program.now) c.args.t) c.in_ok-registers.ensures.like x1 k1 in
     let x2 = replacement_stays c.replace.new.forms c.registers_are_like.new.forms c.replace.new.self.put
-    c.registers_are_like.ensures.kept c.in_ok-replace.ensures.held ∙ x1 in
+    c.registers_are_like.ensures.kept c.replace.ensures.shared.put ∙ x1 in
     let k2 = context_stays c.args.forms.now c.registers_are_like.new.forms c.args.context.now
     (keeps_both _ _ _ c.replace.ensures.kept c.registers_are_like.ensures.kept) c.requires.held in
     let l2 = queue_so (g.P.Program.object c.args.program.now) _
@@ -171,7 +171,7 @@ returns-clause-passes g c = λ next.
     (context_in c.registers_are_like.new.forms c.args.context.now) (context_in c.args.forms.now c.args.context.now)
     (queue_rows (g.P.Program.object c.args.program.now) c.args.t) c.in_ok-queue.ensures.like x2 k2 in
     let x3 = replacement_stays c.replace.new.forms c.queue_is_like.new.forms c.replace.new.self.put
-    (keeps_both _ _ _ c.registers_are_like.ensures.kept c.queue_is_like.ensures.kept) c.in_ok-replace.ensures.held
+    (keeps_both _ _ _ c.registers_are_like.ensures.kept c.queue_is_like.ensures.kept) c.replace.ensures.shared.put
     ∙ x1 in
     let k3 = context_stays c.args.forms.now c.queue_is_like.new.forms c.args.context.now
     (keeps_both _ _ _ (keeps_both _ _ _ c.replace.ensures.kept c.registers_are_like.ensures.kept)
@@ -181,9 +181,45 @@ returns-clause-passes g c = λ next.
     (replacement (g.P.Program.object c.args.program.now) c.args.subst)
     (context_in c.queue_is_like.new.forms c.args.context.now) (context_in c.args.forms.now c.args.context.now)
     (memory_of (g.P.Program.object c.args.program.now) c.args.t) c.in_ok-memory.ensures.like x3 k3 in
-    passes_after _ _ _ _ ((rw c.is_annotated-annotated.ensures at c.in_ok-need.ensures.passes) _
+    (rw c.is_annotated-annotated.ensures at c.in_ok-need.ensures.passes) _
+    ∙ (rw l1 at c.in_ok-need-2.ensures.passes) _ ∙ (rw l2 at c.in_ok-need-3.ensures.passes) _
+    ∙ (rw l3 at c.in_ok-need-4.ensures.passes) _
+
+pub returns-in_err-need-4-clause-passes : goal.returns-in_err-need-4-clause-passes
+unfolding leads
+returns-in_err-need-4-clause-passes g c = λ next.
+    let x1 = c.in_ok-replace.ensures.replaced in
+    let k1 = context_stays c.args.forms.now c.replace.new.forms c.args.context.now c.replace.ensures.kept
+    c.requires.held in
+    let l1 = registers_so (g.P.Program.object c.args.program.now) _
+    (replacement_in c.replace.new.forms c.replace.new.self.put)
+    (replacement (g.P.Program.object c.args.program.now) c.args.subst)
+    (context_in c.replace.new.forms c.args.context.now) (context_in c.args.forms.now c.args.context.now)
+    (reg_rows (g.P.Program.object c.args.program.now) c.args.t) c.in_ok-registers.ensures.like x1 k1 in
+    let x2 = replacement_stays c.replace.new.forms c.registers_are_like.new.forms c.replace.new.self.put
+    c.registers_are_like.ensures.kept c.replace.ensures.shared.put ∙ x1 in
+    let k2 = context_stays c.args.forms.now c.registers_are_like.new.forms c.args.context.now
+    (keeps_both _ _ _ c.replace.ensures.kept c.registers_are_like.ensures.kept) c.requires.held in
+    let l2 = queue_so (g.P.Program.object c.args.program.now) _
+    (replacement_in c.registers_are_like.new.forms c.replace.new.self.put)
+    (replacement (g.P.Program.object c.args.program.now) c.args.subst)
+    (context_in c.registers_are_like.new.forms c.args.context.now) (context_in c.args.forms.now c.args.context.now)
+    (queue_rows (g.P.Program.object c.args.program.now) c.args.t) c.in_ok-queue.ensures.like x2 k2 in
+    let x3 = replacement_stays c.replace.new.forms c.queue_is_like.new.forms c.replace.new.self.put
+    (keeps_both _ _ _ c.registers_are_like.ensures.kept c.queue_is_like.ensures.kept) c.replace.ensures.shared.put
+    ∙ x1 in
+    let k3 = context_stays c.args.forms.now c.queue_is_like.new.forms c.args.context.now
+    (keeps_both _ _ _ (keeps_both _ _ _ c.replace.ensures.kept c.registers_are_like.ensures.kept)
+    c.queue_is_like.ensures.kept) c.requires.held in
+    let l3 = memory_so (g.P.Program.object c.args.program.now) _
+    (replacement_in c.queue_is_like.new.forms c.replace.new.self.put)
+    (replacement (g.P.Program.object c.args.program.now) c.args.subst)
+    (context_in c.queue_is_like.new.forms c.args.context.now) (context_in c.args.forms.now c.args.context.now)
+    (memory_of (g.P.Program.object c.args.program.now) c.args.t) c.in_ok-memory.ensures.like x3 k3 in
+    passes_exit _ _ _ _ _ c.from_residual-in_err-need-4.ensures.1
+    ((rw c.is_annotated-annotated.ensures at c.in_ok-need.ensures.passes) _
     ∙ (rw l1 at c.in_ok-need-2.ensures.passes) _ ∙ (rw l2 at c.in_ok-need-3.ensures.passes) _)
-    ((rw l3 at c.need-4.ensures.passes) _)
+    ((rw l3 at c.in_err-need-4.ensures.passes) _)
 
 pub returns-in_err-replace-clause-steps : goal.returns-in_err-replace-clause-steps
 returns-in_err-replace-clause-steps g c =
@@ -218,8 +254,9 @@ returns-in_err-queue-clause-steps g c =
     let u = updates (updates_held c.replace.new.forms c.replace.new.self.put.memory) in
     let w = cost_rises o u n c.in_ok-replace.ensures.count in
     let k = memory_stays c.replace.new.forms c.registers_are_like.new.forms c.replace.new.self.put.memory
-    c.registers_are_like.ensures.kept c.in_ok-replace.ensures.held.memory in
-    let y : c.queue_is_like.new.steps ≤ c.registers_are_like.new.steps + 16 * tree_cost o u =
+    c.registers_are_like.ensures.kept c.replace.ensures.shared.put.memory in
+    let y : (g.M.Meter.counted c.queue_is_like.new.meter) ≤ (g.M.Meter.counted c.registers_are_like.new.meter) + 16 *
+    tree_cost o u =
     rw k at c.queue_is_like.ensures.steps in
     omega (arith, z, w, c.replace.ensures.steps, c.registers_are_like.ensures.steps, y)
 
@@ -231,8 +268,9 @@ returns-in_err-need-3-clause-steps g c =
     let u = updates (updates_held c.replace.new.forms c.replace.new.self.put.memory) in
     let w = cost_rises o u n c.in_ok-replace.ensures.count in
     let k = memory_stays c.replace.new.forms c.registers_are_like.new.forms c.replace.new.self.put.memory
-    c.registers_are_like.ensures.kept c.in_ok-replace.ensures.held.memory in
-    let y : c.queue_is_like.new.steps ≤ c.registers_are_like.new.steps + 16 * tree_cost o u =
+    c.registers_are_like.ensures.kept c.replace.ensures.shared.put.memory in
+    let y : (g.M.Meter.counted c.queue_is_like.new.meter) ≤ (g.M.Meter.counted c.registers_are_like.new.meter) + 16 *
+    tree_cost o u =
     rw k at c.queue_is_like.ensures.steps in
     omega (arith, z, w, c.replace.ensures.steps, c.registers_are_like.ensures.steps, y)
 
@@ -244,13 +282,15 @@ returns-in_err-memory-clause-steps g c =
     let u = updates (updates_held c.replace.new.forms c.replace.new.self.put.memory) in
     let w = cost_rises o u n c.in_ok-replace.ensures.count in
     let k = memory_stays c.replace.new.forms c.registers_are_like.new.forms c.replace.new.self.put.memory
-    c.registers_are_like.ensures.kept c.in_ok-replace.ensures.held.memory in
-    let y : c.queue_is_like.new.steps ≤ c.registers_are_like.new.steps + 16 * tree_cost o u =
+    c.registers_are_like.ensures.kept c.replace.ensures.shared.put.memory in
+    let y : (g.M.Meter.counted c.queue_is_like.new.meter) ≤ (g.M.Meter.counted c.registers_are_like.new.meter) + 16 *
+    tree_cost o u =
     rw k at c.queue_is_like.ensures.steps in
     let l = memory_stays c.replace.new.forms c.queue_is_like.new.forms c.replace.new.self.put.memory
     (keeps_both _ _ _ c.registers_are_like.ensures.kept c.queue_is_like.ensures.kept)
-    c.in_ok-replace.ensures.held.memory in
-    let x : c.memory_is_like.new.steps ≤ c.queue_is_like.new.steps + tree_cost o u =
+    c.replace.ensures.shared.put.memory in
+    let x : (g.M.Meter.counted c.memory_is_like.new.meter) ≤ (g.M.Meter.counted c.queue_is_like.new.meter) + tree_cost o
+    u =
     rw l at c.memory_is_like.ensures.steps in
     omega (arith, z, w, c.replace.ensures.steps, c.registers_are_like.ensures.steps, y, x)
 
@@ -262,42 +302,82 @@ returns-clause-steps g c =
     let u = updates (updates_held c.replace.new.forms c.replace.new.self.put.memory) in
     let w = cost_rises o u n c.in_ok-replace.ensures.count in
     let k = memory_stays c.replace.new.forms c.registers_are_like.new.forms c.replace.new.self.put.memory
-    c.registers_are_like.ensures.kept c.in_ok-replace.ensures.held.memory in
-    let y : c.queue_is_like.new.steps ≤ c.registers_are_like.new.steps + 16 * tree_cost o u =
+    c.registers_are_like.ensures.kept c.replace.ensures.shared.put.memory in
+    let y : (g.M.Meter.counted c.queue_is_like.new.meter) ≤ (g.M.Meter.counted c.registers_are_like.new.meter) + 16 *
+    tree_cost o u =
     rw k at c.queue_is_like.ensures.steps in
     let l = memory_stays c.replace.new.forms c.queue_is_like.new.forms c.replace.new.self.put.memory
     (keeps_both _ _ _ c.registers_are_like.ensures.kept c.queue_is_like.ensures.kept)
-    c.in_ok-replace.ensures.held.memory in
-    let x : c.memory_is_like.new.steps ≤ c.queue_is_like.new.steps + tree_cost o u =
+    c.replace.ensures.shared.put.memory in
+    let x : (g.M.Meter.counted c.memory_is_like.new.meter) ≤ (g.M.Meter.counted c.queue_is_like.new.meter) + tree_cost o
+    u =
     rw l at c.memory_is_like.ensures.steps in
     omega (arith, z, w, c.replace.ensures.steps, c.registers_are_like.ensures.steps, y, x)
 
-pub returns-in_err-registers-clause-own : goal.returns-in_err-registers-clause-own
-returns-in_err-registers-clause-own g c = owned_kept (g.P.Program.object c.args.program.now) c.replace.new.forms
-    c.registers_are_like.new.forms c.replace.new.self.own c.registers_are_like.ensures.kept c.replace.ensures.own
+pub returns-in_err-need-4-clause-steps : goal.returns-in_err-need-4-clause-steps
+returns-in_err-need-4-clause-steps g c =
+    let o = g.P.Program.object c.args.program.now in
+    let n = length o.nodes in
+    let z = cost_rises o 0 n (omega arith) in
+    let u = updates (updates_held c.replace.new.forms c.replace.new.self.put.memory) in
+    let w = cost_rises o u n c.in_ok-replace.ensures.count in
+    let k = memory_stays c.replace.new.forms c.registers_are_like.new.forms c.replace.new.self.put.memory
+    c.registers_are_like.ensures.kept c.replace.ensures.shared.put.memory in
+    let y : (g.M.Meter.counted c.queue_is_like.new.meter) ≤ (g.M.Meter.counted c.registers_are_like.new.meter) + 16 *
+    tree_cost o u =
+    rw k at c.queue_is_like.ensures.steps in
+    let l = memory_stays c.replace.new.forms c.queue_is_like.new.forms c.replace.new.self.put.memory
+    (keeps_both _ _ _ c.registers_are_like.ensures.kept c.queue_is_like.ensures.kept)
+    c.replace.ensures.shared.put.memory in
+    let x : (g.M.Meter.counted c.memory_is_like.new.meter) ≤ (g.M.Meter.counted c.queue_is_like.new.meter) + tree_cost o
+    u =
+    rw l at c.memory_is_like.ensures.steps in
+    omega (arith, z, w, c.replace.ensures.steps, c.registers_are_like.ensures.steps, y, x)
 
-pub returns-in_err-need-2-clause-own : goal.returns-in_err-need-2-clause-own
-returns-in_err-need-2-clause-own g c = owned_kept (g.P.Program.object c.args.program.now) c.replace.new.forms
-    c.registers_are_like.new.forms c.replace.new.self.own c.registers_are_like.ensures.kept c.replace.ensures.own
+pub returns-in_err-registers-clause-shared : goal.returns-in_err-registers-clause-shared
+returns-in_err-registers-clause-shared g c = shared_made (g.P.Program.object c.args.program.now) c.replace.new.forms
+    c.registers_are_like.new.forms c.replace.new.self c.registers_are_like.new.made c.registers_are_like.ensures.kept
+    c.replace.ensures.shared c.registers_are_like.ensures.made
 
-pub returns-in_err-queue-clause-own : goal.returns-in_err-queue-clause-own
-returns-in_err-queue-clause-own g c = owned_kept (g.P.Program.object c.args.program.now) c.replace.new.forms
-    c.queue_is_like.new.forms c.replace.new.self.own
-    (keeps_both _ _ _ c.registers_are_like.ensures.kept c.queue_is_like.ensures.kept) c.replace.ensures.own
+pub returns-in_err-need-2-clause-shared : goal.returns-in_err-need-2-clause-shared
+returns-in_err-need-2-clause-shared g c = shared_made (g.P.Program.object c.args.program.now) c.replace.new.forms
+    c.registers_are_like.new.forms c.replace.new.self c.registers_are_like.new.made c.registers_are_like.ensures.kept
+    c.replace.ensures.shared c.registers_are_like.ensures.made
 
-pub returns-in_err-need-3-clause-own : goal.returns-in_err-need-3-clause-own
-returns-in_err-need-3-clause-own g c = owned_kept (g.P.Program.object c.args.program.now) c.replace.new.forms
-    c.queue_is_like.new.forms c.replace.new.self.own
-    (keeps_both _ _ _ c.registers_are_like.ensures.kept c.queue_is_like.ensures.kept) c.replace.ensures.own
+pub returns-in_err-queue-clause-shared : goal.returns-in_err-queue-clause-shared
+returns-in_err-queue-clause-shared g c = shared_made (g.P.Program.object c.args.program.now) c.replace.new.forms
+    c.queue_is_like.new.forms c.replace.new.self c.queue_is_like.new.made
+    (keeps_both _ _ _ c.registers_are_like.ensures.kept c.queue_is_like.ensures.kept) c.replace.ensures.shared
+    c.queue_is_like.ensures.made
 
-pub returns-in_err-memory-clause-own : goal.returns-in_err-memory-clause-own
-returns-in_err-memory-clause-own g c = owned_kept (g.P.Program.object c.args.program.now) c.replace.new.forms
-    c.memory_is_like.new.forms c.replace.new.self.own
+pub returns-in_err-need-3-clause-shared : goal.returns-in_err-need-3-clause-shared
+returns-in_err-need-3-clause-shared g c = shared_made (g.P.Program.object c.args.program.now) c.replace.new.forms
+    c.queue_is_like.new.forms c.replace.new.self c.queue_is_like.new.made
+    (keeps_both _ _ _ c.registers_are_like.ensures.kept c.queue_is_like.ensures.kept) c.replace.ensures.shared
+    c.queue_is_like.ensures.made
+
+pub returns-in_err-memory-clause-shared : goal.returns-in_err-memory-clause-shared
+returns-in_err-memory-clause-shared g c = shared_made (g.P.Program.object c.args.program.now) c.replace.new.forms
+    c.memory_is_like.new.forms c.replace.new.self c.memory_is_like.new.made
     (keeps_both _ _ _ (keeps_both _ _ _ c.registers_are_like.ensures.kept c.queue_is_like.ensures.kept)
-    c.memory_is_like.ensures.kept) c.replace.ensures.own
+    c.memory_is_like.ensures.kept) c.replace.ensures.shared c.memory_is_like.ensures.made
 
-pub returns-clause-own : goal.returns-clause-own
-returns-clause-own g c = owned_kept (g.P.Program.object c.args.program.now) c.replace.new.forms
-    c.memory_is_like.new.forms c.replace.new.self.own
+pub returns-in_err-need-4-clause-shared : goal.returns-in_err-need-4-clause-shared
+returns-in_err-need-4-clause-shared g c = shared_made (g.P.Program.object c.args.program.now) c.replace.new.forms
+    c.memory_is_like.new.forms c.replace.new.self c.memory_is_like.new.made
     (keeps_both _ _ _ (keeps_both _ _ _ c.registers_are_like.ensures.kept c.queue_is_like.ensures.kept)
-    c.memory_is_like.ensures.kept) c.replace.ensures.own
+    c.memory_is_like.ensures.kept) c.replace.ensures.shared c.memory_is_like.ensures.made
+
+pub returns-clause-shared : goal.returns-clause-shared
+returns-clause-shared g c =
+    let o = g.P.Program.object c.args.program.now in
+    c.forget.ensures.shared o c.replace.new.forms (sym c.count-held.ensures)
+    (keeps_both _ _ _ (keeps_both _ _ _ c.registers_are_like.ensures.kept c.queue_is_like.ensures.kept)
+    c.memory_is_like.ensures.kept)
+    c.replace.ensures.shared.own c.replace.ensures.shared.put c.memory_is_like.ensures.made
+
+pub returns-clause-kept : goal.returns-clause-kept
+returns-clause-kept g c = keeps_both _ _ _ c.replace.ensures.kept
+    (c.forget.ensures.kept c.replace.new.forms (sym c.count-held.ensures)
+    (keeps_both _ _ _ (keeps_both _ _ _ c.registers_are_like.ensures.kept c.queue_is_like.ensures.kept)
+    c.memory_is_like.ensures.kept))

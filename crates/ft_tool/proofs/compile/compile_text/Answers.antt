@@ -7,7 +7,7 @@ use Rattle.ft_tool.proofs.compile.compile_text.Goals as goal
 pub returns-in-Ok : goal.returns-in-Ok
 returns-in-Ok g c =
     Ends-map c.put_object.result (UpgradesObject c.in-Ok.object) (OverText CompilesProgram c.args.text.now) _ _ ⊥ ⊥
-    (object_compiled c.args.text.now c.in-Ok.object c.in-Ok.ensures.ok) (λ x. x) c.put_object.ensures
+    (object_compiled c.args.text.now c.in-Ok.object c.in-Ok.ensures.object) (λ x. x) c.put_object.ensures
 
 pub returns-in-Err : goal.returns-in-Err
 returns-in-Err g c =

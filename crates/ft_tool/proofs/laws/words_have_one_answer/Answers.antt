@@ -15,6 +15,4 @@ returns c = one_answer (record {
   one_script = c.commands_are_one.ensures.one;
   one_map = c.lines_are_one.ensures.one;
   one_schedule = c.schedules_are_equal.ensures;
-  done = c.runs_and_meanings_write_the_same_lines.ensures.done;
-  running = c.runs_and_meanings_write_the_same_lines.ensures.running;
 })

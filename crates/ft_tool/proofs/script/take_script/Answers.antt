@@ -1,9 +1,11 @@
 use Rattle.std.proofs.Common.{rules, ◌≡◌, ℕ, ◌+◌, ◌≤◌, ◌++◌, length, take, drop, ap, sym, subst, ◌∙◌, arith}
 use Rattle.std.proofs.Common.{length-append, length-take}
 use Rattle.std.specs.Io.KnownBytes.{Consumes}
+use Rattle.ft_edge.specs.declared.failed.Failed.{Failed}
 use Rattle.std.proofs.KnownBytes.{Consumes-trans}
 use Rattle.std.proofs.lemmas.List.{take-append-le}
 use Rattle.ft_tool.proofs.Frugal.{takes_last, takes_failed, gave_more}
+use Rattle.ft_tool.proofs.Begun.{more_read, whole_begun, longer_begun}
 use Rattle.ft_tool.proofs.Taken.{whole_script, longer_script}
 use Rattle.ft_tool.proofs.script.take_script.Goals as goal
 
@@ -58,19 +60,29 @@ loop-piece-preserved g c =
           (g.I.Source.log c.take.new.self).takes (length c.loop-piece.text.items)
           (length c.extend_from_slice.new.self.items) c.in-Ok.count
           c.loop-piece.invariant.gave c.in-Ok.ensures.takes (omega (arith, c.if-count-eq0.false)) longer;
+      read = more_read (g.I.Source.heard c.args.script.now) (g.I.Source.heard c.loop-piece.script)
+          (g.I.Source.heard c.take.new.self) c.loop-piece.text.items more c.extend_from_slice.new.self.items
+          c.loop-piece.invariant.read c.in-Ok.ensures.heard added;
       count = c.in-Ok.ensures.same_count ∙ c.loop-piece.invariant.count;
     }
 
 pub returns-then-count-eq0-clause-takes : goal.returns-then-count-eq0-clause-takes
-returns-then-count-eq0-clause-takes g c = (
+returns-then-count-eq0-clause-takes g c = λ left may. (
   omega (arith, c.loop-piece-test.true),
-  whole_script (g.I.Source.log c.args.script.now).left (g.I.Source.log c.loop-piece.script).left
+  whole_begun Failed (g.I.Source.may_be_left c.loop-piece.script) (g.I.Source.heard c.args.script.now)
+      (g.I.Source.heard c.loop-piece.script)
+      (g.I.Source.heard c.take.new.self) c.loop-piece.text.items c.in-Ok.count c.take.new.buf
+      c.loop-piece.invariant.read
+      c.in-Ok.ensures.heard c.if-count-eq0.true (search rules) c.in-Ok.ensures.may_be_left
+      (whole_script (g.I.Source.log c.args.script.now).left (g.I.Source.log c.loop-piece.script).left
       (g.I.Source.log c.take.new.self).left c.loop-piece.text.items c.in-Ok.count c.take.new.buf
       c.loop-piece.invariant.taken c.if-count-eq0.true c.in-Ok.ensures.bytes.0
-      (c.in-Ok.ensures.bytes.1 c.if-count-eq0.true (search rules)),
+      (c.in-Ok.ensures.bytes.1 c.if-count-eq0.true (search rules))) may,
 )
 
 pub returns-clause-takes : goal.returns-clause-takes
-returns-clause-takes g c = longer_script (g.I.Source.log c.args.script.now).left
+returns-clause-takes g c = λ left may.
+    longer_begun c.loop-piece.text.items c.loop-piece.invariant.read (omega (arith, c.loop-piece-test.false))
+    (longer_script (g.I.Source.log c.args.script.now).left
     (g.I.Source.log c.loop-piece.script).left c.loop-piece.text.items c.loop-piece.invariant.taken
-    (omega (arith, c.loop-piece-test.false))
+    (omega (arith, c.loop-piece-test.false))) may

@@ -1,6 +1,7 @@
 use Rattle.std.proofs.Common.{◌≡◌, ◌-◌, ◌≤◌, length}
 use Rattle.std.specs.Io.KnownBytes.{Consumes}
 use Rattle.ft_tool.proofs.Frugal.{GaveSome}
+use Rattle.ft_tool.proofs.Begun.{HasRead}
 use Rattle.ft_tool.proofs.script.take_script.Given as goal
 
 abbrev pub invariant-loop-piece : goal.invariant-loop-piece
@@ -8,6 +9,7 @@ invariant-loop-piece g l = record {
   taken : Consumes (g.I.Source.log l.fn.script).left (g.I.Source.log l.script).left l.text.items;
   within : length l.text.items ≤ 1048577;
   gave : GaveSome (g.I.Source.log l.fn.script).takes (g.I.Source.log l.script).takes (length l.text.items);
+  read : HasRead (g.I.Source.heard l.fn.script) (g.I.Source.heard l.script) l.text.items;
   count : (g.I.Source.log l.script).failures ≡ (g.I.Source.log l.fn.script).failures;
 }
 

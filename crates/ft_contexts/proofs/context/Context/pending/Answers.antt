@@ -28,7 +28,7 @@ loop-j-preserved g c =
           let x = updates-norm_upd (updates_held c.loop-j.forms c.loop-j.memory)
           (polynomial c.loop-j.forms c.at.result.0) (polynomial c.loop-j.forms c.at.result.1) in
           omega (arith, w, x, c.loop-j.invariant.count);
-      steps = omega (arith, c.loop-j.invariant.steps, c.tick.ensures);
+      steps = omega (arith, c.loop-j.invariant.steps, c.take.ensures);
       memory = memory_from c.upd.new.self c.in_ok-memory.memory _ c.in_ok-memory.ensures.form;
       left = rw u (sym (pending_turn c.args.forms.now (updates_held c.loop-j.forms c.loop-j.memory)
           c.args.self.now.queue c.loop-j.j c.at.result c.at.ensures) ∙ c.loop-j.invariant.left);

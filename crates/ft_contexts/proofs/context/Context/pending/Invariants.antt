@@ -10,7 +10,7 @@ invariant-loop-j g l = record {
   kept : Keeps l.fn.forms l.forms;
   memory : IsMemory l.forms l.memory;
   count : updates (updates_held l.forms l.memory) ≤ updates (updates_held l.fn.forms l.self.memory) + l.j;
-  steps : l.steps ≤ l.fn.steps + l.j;
+  steps : (g.M.Meter.counted l.meter) ≤ (g.M.Meter.counted l.fn.meter) + l.j;
   left : pending_memory (updates_held l.forms l.memory) (drop l.j (map (pair_in l.fn.forms) l.self.queue))
       ≡ pending_memory (updates_held l.fn.forms l.self.memory) (map (pair_in l.fn.forms) l.self.queue);
 }

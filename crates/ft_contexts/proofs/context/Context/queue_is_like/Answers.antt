@@ -73,8 +73,10 @@ loop-j-preserved g c =
     (updates (updates_held c.args.forms.now c.args.put.now.memory)) in
     let sz = memory_stays c.args.forms.now c.loop-j.forms c.args.put.now.memory c.loop-j.invariant.kept
     c.requires.put.memory in
-    let sx : c.pair_is_like.new.steps ≤ c.loop-j.steps + 2 * cost = rw sz at c.pair_is_like.ensures.steps in
-    let sy = one_tree c.loop-j.steps c.pair_is_like.new.steps (c.loop-j.j + 1) c.args.steps.now c.loop-j.j (2 * cost)
+    let sx : (g.M.Meter.counted c.pair_is_like.new.meter) ≤ (g.M.Meter.counted c.loop-j.meter) + 2 * cost =
+    rw sz at c.pair_is_like.ensures.steps in
+    let sy = one_tree (g.M.Meter.counted c.loop-j.meter) (g.M.Meter.counted c.pair_is_like.new.meter) (c.loop-j.j + 1)
+    (g.M.Meter.counted c.args.meter.now) c.loop-j.j (2 * cost)
     c.loop-j.invariant.steps sx refl in
     record {
       steps = sy;
@@ -100,12 +102,15 @@ returns-in_err-like-clause-steps g c =
     (updates (updates_held c.args.forms.now c.args.put.now.memory)) in
     let z = memory_stays c.args.forms.now c.loop-j.forms c.args.put.now.memory c.loop-j.invariant.kept
     c.requires.put.memory in
-    let x : c.pair_is_like.new.steps ≤ c.loop-j.steps + 2 * cost = rw z at c.pair_is_like.ensures.steps in
-    let y = one_tree c.loop-j.steps c.pair_is_like.new.steps (c.loop-j.j + 1) c.args.steps.now c.loop-j.j (2 * cost)
+    let x : (g.M.Meter.counted c.pair_is_like.new.meter) ≤ (g.M.Meter.counted c.loop-j.meter) + 2 * cost =
+    rw z at c.pair_is_like.ensures.steps in
+    let y = one_tree (g.M.Meter.counted c.loop-j.meter) (g.M.Meter.counted c.pair_is_like.new.meter) (c.loop-j.j + 1)
+    (g.M.Meter.counted c.args.meter.now) c.loop-j.j (2 * cost)
     c.loop-j.invariant.steps x refl in
     let n = (head_says o c.args.t c.code_type-rows.result c.code_type-rows.ensures).2 in
     let f = few_queue_rows o c.args.t c.requires.spellable c.requires.there in
-    (let w = some_trees c.pair_is_like.new.steps c.args.steps.now (c.loop-j.j + 1) 8 (2 * cost) y
+    (let w = some_trees (g.M.Meter.counted c.pair_is_like.new.meter) (g.M.Meter.counted c.args.meter.now)
+    (c.loop-j.j + 1) 8 (2 * cost) y
     (omega (arith, n, f, c.loop-j-test.true)) in omega (arith, w))
 
 pub returns-then-not-like-clause-steps : goal.returns-then-not-like-clause-steps
@@ -115,12 +120,15 @@ returns-then-not-like-clause-steps g c =
     (updates (updates_held c.args.forms.now c.args.put.now.memory)) in
     let z = memory_stays c.args.forms.now c.loop-j.forms c.args.put.now.memory c.loop-j.invariant.kept
     c.requires.put.memory in
-    let x : c.pair_is_like.new.steps ≤ c.loop-j.steps + 2 * cost = rw z at c.pair_is_like.ensures.steps in
-    let y = one_tree c.loop-j.steps c.pair_is_like.new.steps (c.loop-j.j + 1) c.args.steps.now c.loop-j.j (2 * cost)
+    let x : (g.M.Meter.counted c.pair_is_like.new.meter) ≤ (g.M.Meter.counted c.loop-j.meter) + 2 * cost =
+    rw z at c.pair_is_like.ensures.steps in
+    let y = one_tree (g.M.Meter.counted c.loop-j.meter) (g.M.Meter.counted c.pair_is_like.new.meter) (c.loop-j.j + 1)
+    (g.M.Meter.counted c.args.meter.now) c.loop-j.j (2 * cost)
     c.loop-j.invariant.steps x refl in
     let n = (head_says o c.args.t c.code_type-rows.result c.code_type-rows.ensures).2 in
     let f = few_queue_rows o c.args.t c.requires.spellable c.requires.there in
-    (let w = some_trees c.pair_is_like.new.steps c.args.steps.now (c.loop-j.j + 1) 8 (2 * cost) y
+    (let w = some_trees (g.M.Meter.counted c.pair_is_like.new.meter) (g.M.Meter.counted c.args.meter.now)
+    (c.loop-j.j + 1) 8 (2 * cost) y
     (omega (arith, n, f, c.loop-j-test.true)) in omega (arith, w))
 
 pub returns-clause-steps : goal.returns-clause-steps
@@ -130,5 +138,6 @@ returns-clause-steps g c =
     (updates (updates_held c.args.forms.now c.args.put.now.memory)) in
     let n = (head_says o c.args.t c.code_type-rows.result c.code_type-rows.ensures).2 in
     let f = few_queue_rows o c.args.t c.requires.spellable c.requires.there in
-    (let w = some_trees c.loop-j.steps c.args.steps.now c.loop-j.j 8 (2 * cost) c.loop-j.invariant.steps
+    (let w = some_trees (g.M.Meter.counted c.loop-j.meter) (g.M.Meter.counted c.args.meter.now) c.loop-j.j 8 (2 * cost)
+    c.loop-j.invariant.steps
     (omega (arith, n, f, c.loop-j.auto.j-end)) in omega (arith, w))

@@ -11,7 +11,8 @@ abbrev pub invariant-loop-j : goal.invariant-loop-j
 invariant-loop-j g l = let o = g.P.Program.object l.program in record {
   kept : Keeps l.fn.forms l.forms;
   made : RemembersUnder o l.forms l.put l.made;
-  steps : l.steps ≤ l.fn.steps + l.j * (2 * tree_cost o (updates (updates_held l.fn.forms l.put.memory)));
+  steps : (g.M.Meter.counted l.meter) ≤ (g.M.Meter.counted l.fn.meter) + l.j *
+      (2 * tree_cost o (updates (updates_held l.fn.forms l.put.memory)));
   count : length l.self.queue ≡ l.rows;
   left : is_queue_like o (replacement_in l.fn.forms l.put) (drop l.j (context_in l.fn.forms l.self).queue)
       (drop l.j (queue_rows o l.t)) ≡ is_queue_like o (replacement_in l.fn.forms l.put)

@@ -61,9 +61,11 @@ loop-j-preserved g c =
     let so = g.P.Program.object c.args.program.now in
     let cost = tree_cost (g.P.Program.object c.args.program.now)
     (updates (updates_held c.args.forms.now c.args.put.now.memory)) in
-    let sx = put_steps so c.args.forms.now c.loop-j.forms c.args.put.now c.loop-j.steps c.register_is_like.new.steps
+    let sx = put_steps so c.args.forms.now c.loop-j.forms c.args.put.now (g.M.Meter.counted c.loop-j.meter)
+    (g.M.Meter.counted c.register_is_like.new.meter)
     c.loop-j.invariant.kept c.requires.put c.register_is_like.ensures.steps in
-    let sy = one_tree c.loop-j.steps c.register_is_like.new.steps (c.loop-j.j + 1) c.args.steps.now c.loop-j.j cost
+    let sy = one_tree (g.M.Meter.counted c.loop-j.meter) (g.M.Meter.counted c.register_is_like.new.meter)
+    (c.loop-j.j + 1) (g.M.Meter.counted c.args.meter.now) c.loop-j.j cost
     c.loop-j.invariant.steps sx refl in
     record {
       steps = sy;
@@ -91,13 +93,16 @@ returns-in_err-like-clause-steps g c =
     let o = g.P.Program.object c.args.program.now in
     let cost = tree_cost (g.P.Program.object c.args.program.now)
     (updates (updates_held c.args.forms.now c.args.put.now.memory)) in
-    let x = put_steps o c.args.forms.now c.loop-j.forms c.args.put.now c.loop-j.steps c.register_is_like.new.steps
+    let x = put_steps o c.args.forms.now c.loop-j.forms c.args.put.now (g.M.Meter.counted c.loop-j.meter)
+    (g.M.Meter.counted c.register_is_like.new.meter)
     c.loop-j.invariant.kept c.requires.put c.register_is_like.ensures.steps in
-    let y = one_tree c.loop-j.steps c.register_is_like.new.steps (c.loop-j.j + 1) c.args.steps.now c.loop-j.j cost
+    let y = one_tree (g.M.Meter.counted c.loop-j.meter) (g.M.Meter.counted c.register_is_like.new.meter)
+    (c.loop-j.j + 1) (g.M.Meter.counted c.args.meter.now) c.loop-j.j cost
     c.loop-j.invariant.steps x refl in
     let n = (head_says o c.args.t c.code_type-j-end.result c.code_type-j-end.ensures).1 in
     let f = few_reg_rows o c.args.t c.requires.spellable c.requires.there in
-    some_trees c.register_is_like.new.steps c.args.steps.now (c.loop-j.j + 1) 64 cost y
+    some_trees (g.M.Meter.counted c.register_is_like.new.meter) (g.M.Meter.counted c.args.meter.now) (c.loop-j.j + 1) 64
+    cost y
     (omega (arith, n, f, c.loop-j-test.true))
 
 pub returns-then-not-like-clause-steps : goal.returns-then-not-like-clause-steps
@@ -105,13 +110,16 @@ returns-then-not-like-clause-steps g c =
     let o = g.P.Program.object c.args.program.now in
     let cost = tree_cost (g.P.Program.object c.args.program.now)
     (updates (updates_held c.args.forms.now c.args.put.now.memory)) in
-    let x = put_steps o c.args.forms.now c.loop-j.forms c.args.put.now c.loop-j.steps c.register_is_like.new.steps
+    let x = put_steps o c.args.forms.now c.loop-j.forms c.args.put.now (g.M.Meter.counted c.loop-j.meter)
+    (g.M.Meter.counted c.register_is_like.new.meter)
     c.loop-j.invariant.kept c.requires.put c.register_is_like.ensures.steps in
-    let y = one_tree c.loop-j.steps c.register_is_like.new.steps (c.loop-j.j + 1) c.args.steps.now c.loop-j.j cost
+    let y = one_tree (g.M.Meter.counted c.loop-j.meter) (g.M.Meter.counted c.register_is_like.new.meter)
+    (c.loop-j.j + 1) (g.M.Meter.counted c.args.meter.now) c.loop-j.j cost
     c.loop-j.invariant.steps x refl in
     let n = (head_says o c.args.t c.code_type-j-end.result c.code_type-j-end.ensures).1 in
     let f = few_reg_rows o c.args.t c.requires.spellable c.requires.there in
-    some_trees c.register_is_like.new.steps c.args.steps.now (c.loop-j.j + 1) 64 cost y
+    some_trees (g.M.Meter.counted c.register_is_like.new.meter) (g.M.Meter.counted c.args.meter.now) (c.loop-j.j + 1) 64
+    cost y
     (omega (arith, n, f, c.loop-j-test.true))
 
 pub returns-clause-steps : goal.returns-clause-steps
@@ -121,5 +129,6 @@ returns-clause-steps g c =
     (updates (updates_held c.args.forms.now c.args.put.now.memory)) in
     let n = (head_says o c.args.t c.code_type-j-end.result c.code_type-j-end.ensures).1 in
     let f = few_reg_rows o c.args.t c.requires.spellable c.requires.there in
-    some_trees c.loop-j.steps c.args.steps.now c.loop-j.j 64 cost c.loop-j.invariant.steps
+    some_trees (g.M.Meter.counted c.loop-j.meter) (g.M.Meter.counted c.args.meter.now) c.loop-j.j 64 cost
+    c.loop-j.invariant.steps
     (omega (arith, n, f, c.loop-j.auto.j-end))

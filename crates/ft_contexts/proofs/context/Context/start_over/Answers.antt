@@ -72,7 +72,8 @@ returns-in_err-registers-clause-steps g c =
     let m = c.memory.ensures.steps in
     let a = few_reg_rows o c.args.t c.requires.spellable c.requires.there in
     let e = head.1 in
-    let x = some_trees c.start_registers.new.steps c.memory.new.steps c.code_type-head.result.regs 64 cost
+    let x = some_trees (g.M.Meter.counted c.start_registers.new.meter) (g.M.Meter.counted c.memory.new.meter)
+    c.code_type-head.result.regs 64 cost
     c.start_registers.ensures.steps (omega (arith, e, a)) in
     omega (arith, m, x)
 
@@ -84,11 +85,13 @@ returns-in_err-queue-clause-steps g c =
     let m = c.memory.ensures.steps in
     let a = few_reg_rows o c.args.t c.requires.spellable c.requires.there in
     let e = head.1 in
-    let x = some_trees c.start_registers.new.steps c.memory.new.steps c.code_type-head.result.regs 64 cost
+    let x = some_trees (g.M.Meter.counted c.start_registers.new.meter) (g.M.Meter.counted c.memory.new.meter)
+    c.code_type-head.result.regs 64 cost
     c.start_registers.ensures.steps (omega (arith, e, a)) in
     let b = few_queue_rows o c.args.t c.requires.spellable c.requires.there in
     let f = head.2 in
-    let y = some_trees c.start_queue.new.steps c.start_registers.new.steps c.code_type-head.result.queue 8 (2 * cost)
+    let y = some_trees (g.M.Meter.counted c.start_queue.new.meter) (g.M.Meter.counted c.start_registers.new.meter)
+    c.code_type-head.result.queue 8 (2 * cost)
     c.start_queue.ensures.steps (omega (arith, f, b)) in
     omega (arith, m, x, y)
 
@@ -100,11 +103,13 @@ returns-clause-steps g c =
     let m = c.memory.ensures.steps in
     let a = few_reg_rows o c.args.t c.requires.spellable c.requires.there in
     let e = head.1 in
-    let x = some_trees c.start_registers.new.steps c.memory.new.steps c.code_type-head.result.regs 64 cost
+    let x = some_trees (g.M.Meter.counted c.start_registers.new.meter) (g.M.Meter.counted c.memory.new.meter)
+    c.code_type-head.result.regs 64 cost
     c.start_registers.ensures.steps (omega (arith, e, a)) in
     let b = few_queue_rows o c.args.t c.requires.spellable c.requires.there in
     let f = head.2 in
-    let y = some_trees c.start_queue.new.steps c.start_registers.new.steps c.code_type-head.result.queue 8 (2 * cost)
+    let y = some_trees (g.M.Meter.counted c.start_queue.new.meter) (g.M.Meter.counted c.start_registers.new.meter)
+    c.code_type-head.result.queue 8 (2 * cost)
     c.start_queue.ensures.steps (omega (arith, f, b)) in
     omega (arith, m, x, y)
 

@@ -38,8 +38,10 @@ returns-clause-form g c =
 
 pub returns-in_err-form-clause-steps : goal.returns-in_err-form-clause-steps
 returns-in_err-form-clause-steps g c = own_steps (g.P.Program.object c.args.program.now) c.args.forms.now 128
-    c.args.self.now.variables c.args.steps.now c.integer.new.steps c.requires.own.own c.integer.ensures.steps
+    c.args.self.now.variables (g.M.Meter.counted c.args.meter.now) (g.M.Meter.counted c.integer.new.meter)
+    c.requires.own.own c.integer.ensures.steps
 
 pub returns-clause-steps : goal.returns-clause-steps
 returns-clause-steps g c = own_steps (g.P.Program.object c.args.program.now) c.args.forms.now 128
-    c.args.self.now.variables c.args.steps.now c.integer.new.steps c.requires.own.own c.integer.ensures.steps
+    c.args.self.now.variables (g.M.Meter.counted c.args.meter.now) (g.M.Meter.counted c.integer.new.meter)
+    c.requires.own.own c.integer.ensures.steps

@@ -38,11 +38,13 @@ returns-clause-form g c =
 
 pub returns-in_err-form-clause-steps : goal.returns-in_err-form-clause-steps
 returns-in_err-form-clause-steps g c = own_steps (g.P.Program.object c.args.program.now) c.args.forms.now 128
-    c.args.self.now.variables c.args.steps.now c.memory.new.steps c.requires.own.own c.memory.ensures.steps
+    c.args.self.now.variables (g.M.Meter.counted c.args.meter.now) (g.M.Meter.counted c.memory.new.meter)
+    c.requires.own.own c.memory.ensures.steps
 
 pub returns-clause-steps : goal.returns-clause-steps
 returns-clause-steps g c = own_steps (g.P.Program.object c.args.program.now) c.args.forms.now 128
-    c.args.self.now.variables c.args.steps.now c.memory.new.steps c.requires.own.own c.memory.ensures.steps
+    c.args.self.now.variables (g.M.Meter.counted c.args.meter.now) (g.M.Meter.counted c.memory.new.meter)
+    c.requires.own.own c.memory.ensures.steps
 
 pub returns-clause-count : goal.returns-clause-count
 returns-clause-count g c =

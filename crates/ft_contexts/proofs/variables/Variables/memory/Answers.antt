@@ -28,10 +28,12 @@ returns-clause-form g c =
 
 pub returns-in_err-form-clause-steps : goal.returns-in_err-form-clause-steps
 returns-in_err-form-clause-steps g c = tree_steps (g.P.Program.object c.args.program.now) c.args.n
-    (updates (updates_held c.args.forms.now c.args.self.now.memory)) c.args.steps.now c.form.new.steps
+    (updates (updates_held c.args.forms.now c.args.self.now.memory)) (g.M.Meter.counted c.args.meter.now)
+    (g.M.Meter.counted c.form.new.meter)
     c.requires.node.lower c.form.ensures.steps
 
 pub returns-clause-steps : goal.returns-clause-steps
 returns-clause-steps g c = tree_steps (g.P.Program.object c.args.program.now) c.args.n
-    (updates (updates_held c.args.forms.now c.args.self.now.memory)) c.args.steps.now c.form.new.steps
+    (updates (updates_held c.args.forms.now c.args.self.now.memory)) (g.M.Meter.counted c.args.meter.now)
+    (g.M.Meter.counted c.form.new.meter)
     c.requires.node.lower c.form.ensures.steps

@@ -7,4 +7,4 @@ use Rattle.ft_machine.proofs.machine.Machine.new.Goals as goal
 pub returns-clause-cells : goal.returns-clause-cells
 returns-clause-cells g c = λ a.
     let o = g.P.Program.object c.args.program.now in
-    ap (λ m. is_cell m a) c.in_ok-cells.ensures ∙ cells_there (init_of o) (length o.cells) a
+    ap (λ m. is_cell m a) c.in_ok-words.ensures ∙ cells_there (init_of o) (length o.cells) a

@@ -18,5 +18,5 @@ returns-clause-over c =
     let l = within c.self.inside.entries.keys c.as_slice.result.now c.args.self.now c.args.form.0 _ c.self.view_is
     c.as_slice.ensures.keys c.requires.found in
     over_seen c.self.inside.entries.keys c.as_slice.result.now c.args.self.now (terms_of c.terms_at.result)
-    c.args.form.0 c.self.invariant c.self.view_is c.as_slice.ensures.keys c.terms_at.ensures.terms
+    c.args.form.0 c.self.invariant.entries c.self.view_is c.as_slice.ensures.keys c.terms_at.ensures.terms
     c.terms_at.ensures.reach l

@@ -7,5 +7,5 @@ returns-then-place-entries c =
     let fs = c.args.self.now in
     word_seen c.word_of.result fs c.args.form.0 _
     (entry_seen c.self.inside.entries.keys c.as_slice-entries.result.now fs c.args.form.0
-    c.index-entries-place.result c.self.invariant c.self.view_is c.as_slice-entries.ensures.keys
+    c.index-entries-place.result c.self.invariant.entries c.self.view_is c.as_slice-entries.ensures.keys
     c.if-place-entries.true c.index-entries-place.is) (c.word_of.ensures fs)

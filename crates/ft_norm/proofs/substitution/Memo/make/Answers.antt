@@ -21,7 +21,8 @@ returns-in-Err-push-clause-steps g c =
     let u = updates_held s c.args.memory in
     let look = get nat_eq c.loop-part.self.made in
     let k = c.loop-part.k in
-    steps_all c.loop-part.steps c.args.steps.now (count look (c.args.n + 1)) c.args.n (1 + updates u + c.args.n)
+    steps_all (g.M.Meter.counted c.loop-part.meter) (g.M.Meter.counted c.args.meter.now) (count look (c.args.n + 1))
+    c.args.n (1 + updates u + c.args.n)
     c.loop-part.invariant.steps (count_bound look (c.args.n + 1))
 
 pub loop-part-smaller-in-Err : goal.loop-part-smaller-in-Err
@@ -85,11 +86,13 @@ returns-in_err-form-in-Ok-clause-steps g c =
     let r = parts_count ps u ns c.requires.nodes c.loop-part.self.made c.loop-part.forms
     (c.loop-part.invariant.made c.requires.nodes) k c.node.result.scope c.node.result.shape c.in-Ok.parts
     (c.requires.nodes.each k c.node.result c.node.ensures).shape c.in-Ok.ensures.made in
-    let x = steps_more c.loop-part.steps c.form_from.new.steps c.args.steps.now (count look (c.args.n + 1)) (updates u)
+    let x = steps_more (g.M.Meter.counted c.loop-part.meter) (g.M.Meter.counted c.form_from.new.meter)
+    (g.M.Meter.counted c.args.meter.now) (count look (c.args.n + 1)) (updates u)
     (updates_of_parts c.loop-part.forms c.in-Ok.parts) k c.args.n c.loop-part.invariant.steps
-    (omega (arith, c.form_from.ensures.steps, c.tick.ensures)) r (omega (arith, c.loop-part.invariant.path.near)) in
+    (omega (arith, c.form_from.ensures.steps, c.take.ensures)) r (omega (arith, c.loop-part.invariant.path.near)) in
     let l = count_less look c.args.memory c.args.n k c.loop-part.open.items c.loop-part.invariant.path in
-    steps_all c.form_from.new.steps c.args.steps.now (count look (c.args.n + 1) + 1) c.args.n (1 + updates u + c.args.n)
+    steps_all (g.M.Meter.counted c.form_from.new.meter) (g.M.Meter.counted c.args.meter.now)
+    (count look (c.args.n + 1) + 1) c.args.n (1 + updates u + c.args.n)
     x l
 
 pub returns-in-Err-insert-clause-steps : goal.returns-in-Err-insert-clause-steps
@@ -103,11 +106,13 @@ returns-in-Err-insert-clause-steps g c =
     let r = parts_count ps u ns c.requires.nodes c.loop-part.self.made c.loop-part.forms
     (c.loop-part.invariant.made c.requires.nodes) k c.node.result.scope c.node.result.shape c.in-Ok.parts
     (c.requires.nodes.each k c.node.result c.node.ensures).shape c.in-Ok.ensures.made in
-    let x = steps_more c.loop-part.steps c.form_from.new.steps c.args.steps.now (count look (c.args.n + 1)) (updates u)
+    let x = steps_more (g.M.Meter.counted c.loop-part.meter) (g.M.Meter.counted c.form_from.new.meter)
+    (g.M.Meter.counted c.args.meter.now) (count look (c.args.n + 1)) (updates u)
     (updates_of_parts c.loop-part.forms c.in-Ok.parts) k c.args.n c.loop-part.invariant.steps
-    (omega (arith, c.form_from.ensures.steps, c.tick.ensures)) r (omega (arith, c.loop-part.invariant.path.near)) in
+    (omega (arith, c.form_from.ensures.steps, c.take.ensures)) r (omega (arith, c.loop-part.invariant.path.near)) in
     let l = count_less look c.args.memory c.args.n k c.loop-part.open.items c.loop-part.invariant.path in
-    steps_all c.form_from.new.steps c.args.steps.now (count look (c.args.n + 1) + 1) c.args.n (1 + updates u + c.args.n)
+    steps_all (g.M.Meter.counted c.form_from.new.meter) (g.M.Meter.counted c.args.meter.now)
+    (count look (c.args.n + 1) + 1) c.args.n (1 + updates u + c.args.n)
     x l
 
 pub loop-part-smaller : goal.loop-part-smaller
@@ -146,9 +151,10 @@ loop-part-preserved g c =
     let r = parts_count ps u ns c.requires.nodes c.loop-part.self.made c.loop-part.forms
     (c.loop-part.invariant.made c.requires.nodes) k c.node.result.scope c.node.result.shape c.in-Ok.parts
     (c.requires.nodes.each k c.node.result c.node.ensures).shape c.in-Ok.ensures.made in
-    let x = steps_more c.loop-part.steps c.form_from.new.steps c.args.steps.now (count look (c.args.n + 1)) (updates u)
+    let x = steps_more (g.M.Meter.counted c.loop-part.meter) (g.M.Meter.counted c.form_from.new.meter)
+    (g.M.Meter.counted c.args.meter.now) (count look (c.args.n + 1)) (updates u)
     (updates_of_parts c.loop-part.forms c.in-Ok.parts) k c.args.n c.loop-part.invariant.steps
-    (omega (arith, c.form_from.ensures.steps, c.tick.ensures)) r (omega (arith, c.loop-part.invariant.path.near)) in
+    (omega (arith, c.form_from.ensures.steps, c.take.ensures)) r (omega (arith, c.loop-part.invariant.path.near)) in
     let l = count_less look c.args.memory c.args.n k c.loop-part.open.items c.loop-part.invariant.path in
     let m = count_more look (get nat_eq c.insert.new.self) c.in_ok-form-in-Ok.form k (c.args.n + 1)
     (omega (arith, c.loop-part.invariant.path.near)) c.loop-part.invariant.path.absent
@@ -197,11 +203,13 @@ returns-in-None-clause-steps g c =
     let r = parts_count ps u ns c.requires.nodes c.loop-part.self.made c.loop-part.forms
     (c.loop-part.invariant.made c.requires.nodes) k c.node.result.scope c.node.result.shape c.in-Ok.parts
     (c.requires.nodes.each k c.node.result c.node.ensures).shape c.in-Ok.ensures.made in
-    let x = steps_more c.loop-part.steps c.form_from.new.steps c.args.steps.now (count look (c.args.n + 1)) (updates u)
+    let x = steps_more (g.M.Meter.counted c.loop-part.meter) (g.M.Meter.counted c.form_from.new.meter)
+    (g.M.Meter.counted c.args.meter.now) (count look (c.args.n + 1)) (updates u)
     (updates_of_parts c.loop-part.forms c.in-Ok.parts) k c.args.n c.loop-part.invariant.steps
-    (omega (arith, c.form_from.ensures.steps, c.tick.ensures)) r (omega (arith, c.loop-part.invariant.path.near)) in
+    (omega (arith, c.form_from.ensures.steps, c.take.ensures)) r (omega (arith, c.loop-part.invariant.path.near)) in
     let l = count_less look c.args.memory c.args.n k c.loop-part.open.items c.loop-part.invariant.path in
-    steps_all c.form_from.new.steps c.args.steps.now (count look (c.args.n + 1) + 1) c.args.n (1 + updates u + c.args.n)
+    steps_all (g.M.Meter.counted c.form_from.new.meter) (g.M.Meter.counted c.args.meter.now)
+    (count look (c.args.n + 1) + 1) c.args.n (1 + updates u + c.args.n)
     x l
 
 pub loop-part-init : goal.loop-part-init
@@ -269,3 +277,23 @@ returns-in-None-clause-made g c =
     (stands_more ps u ns h c.form_from.new.forms look (get nat_eq c.insert.new.self) k c.in_ok-form-in-Ok.form
     (stands_kept ps u ns h c.loop-part.forms c.form_from.new.forms look c.form_from.ensures.kept st) f
     c.in-Ok-insert.ensures.updates.0)
+
+pub returns-in_err-take-in-Ok-clause-made : goal.returns-in_err-take-in-Ok-clause-made
+returns-in_err-take-in-Ok-clause-made g c =
+    let s = c.args.forms.now in
+    let ns = g.N.Nodes.nodes c.args.nodes.now in
+    remembered ns s c.loop-part.forms c.args.ints.now c.args.memory c.loop-part.self c.requires.nodes
+    c.loop-part.invariant.kept c.requires.ints c.requires.memory (c.loop-part.invariant.made c.requires.nodes)
+
+pub returns-in_err-take-in-Ok-clause-steps : goal.returns-in_err-take-in-Ok-clause-steps
+returns-in_err-take-in-Ok-clause-steps g c =
+    let s = c.args.forms.now in
+    let u = updates_held s c.args.memory in
+    let look = get nat_eq c.loop-part.self.made in
+    let x = steps_more (g.M.Meter.counted c.loop-part.meter) (g.M.Meter.counted c.take.new.self)
+    (g.M.Meter.counted c.args.meter.now) (count look (c.args.n + 1)) (updates u) 0 c.loop-part.k c.args.n
+    c.loop-part.invariant.steps (omega (arith, c.take.ensures)) (omega arith)
+    (omega (arith, c.loop-part.invariant.path.near)) in
+    let l = count_less look c.args.memory c.args.n c.loop-part.k c.loop-part.open.items c.loop-part.invariant.path in
+    steps_all (g.M.Meter.counted c.take.new.self) (g.M.Meter.counted c.args.meter.now) (count look (c.args.n + 1) + 1)
+    c.args.n (1 + updates u + c.args.n) x l

@@ -12,7 +12,7 @@ invariant-loop-part g l = record {
   made : (h : _) → Stands (polynomials l.fn.forms l.ints) (updates_held l.fn.forms l.memory) (g.N.Nodes.nodes l.nodes) h
       l.forms (get nat_eq l.self.made);
   path : Path (get nat_eq l.self.made) l.n l.k l.open.items;
-  steps : l.steps ≤ l.fn.steps + count (get nat_eq l.self.made) (l.n + 1) *
+  steps : (g.M.Meter.counted l.meter) ≤ (g.M.Meter.counted l.fn.meter) + count (get nat_eq l.self.made) (l.n + 1) *
       (1 + updates (updates_held l.fn.forms l.memory) + l.n);
 }
 

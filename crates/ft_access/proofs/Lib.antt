@@ -1,0 +1,12 @@
+pub mod Changes
+pub mod Doings
+pub mod Steps
+pub mod Waiting
+pub mod Fated
+pub mod Classes
+pub mod Changed
+pub mod Counters
+pub mod CounterVerdicts
+pub mod Whole
+pub mod Exact
+pub mod KeptFates

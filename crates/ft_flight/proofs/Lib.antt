@@ -1,0 +1,9 @@
+pub mod Fetched
+pub mod Turns
+pub mod Ringed
+pub mod NoAnswers
+pub mod Overlaps
+pub mod Started
+pub mod Flying
+pub mod OtherWords
+pub mod Exact

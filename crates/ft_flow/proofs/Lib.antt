@@ -1,0 +1,11 @@
+pub mod Turns
+pub mod SetPairs
+pub mod FineSteps
+pub mod FineBlocks
+pub mod WordLaws
+pub mod Numbers
+pub mod Arrays
+pub mod Lawfulness
+pub mod PlainRuns
+pub mod Unspared
+pub mod StandsForTexts

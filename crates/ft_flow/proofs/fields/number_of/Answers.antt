@@ -1,0 +1,5 @@
+use Rattle.ft_flow.proofs.Numbers.{number_is}
+use Rattle.ft_flow.proofs.fields.number_of.Goals as goal
+
+pub returns : goal.returns
+returns c = number_is c.args.word.now c.read_number.result c.read_number.ensures.some c.read_number.ensures.exact

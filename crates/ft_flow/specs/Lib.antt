@@ -1,0 +1,16 @@
+pub mod LineWords
+pub mod Fields
+pub mod Steps
+pub mod Heads
+pub mod Bodies
+pub mod Spares
+pub mod Faults
+pub mod Texts
+pub mod Runs
+pub mod Laws
+pub mod Chosen
+pub mod Named
+pub mod RowsAt
+pub mod DeclaredAt
+pub mod Lawful
+pub mod PartsAt

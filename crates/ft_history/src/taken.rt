@@ -1,0 +1,32 @@
+//! What a writer took.
+ghost use Rattle.std.specs.Prelude.{◌≡◌, ℕ, List, [], ◌++◌};
+ghost use Rattle.std.specs.Borrow.{ftrue};
+
+use std::marker::{Model, PhantomData};
+
+/// The bytes that writes accepted.
+#[derive(Drop)]
+pub struct Taken {
+    marker: PhantomData<u8>,
+    pub ghost bytes: { List ℕ },
+}
+
+impl Model for Taken {
+    ghost also_owns = { λ _. ftrue };
+}
+
+impl Taken {
+    /// Nothing was written.
+    pub fn new() -> Taken
+        ensures { result.bytes ≡ [] }
+    {
+        Taken {
+            marker: PhantomData,
+        }
+    }
+
+    /// A write accepted these bytes.
+    pub fn note(&mut self, _bytes: &[u8])
+        ensures { self.new.bytes ≡ self.old.bytes ++ _bytes.now }
+    {}
+}

@@ -1,0 +1,9 @@
+pub mod Rows
+pub mod Certified
+pub mod Together
+pub mod Prefixes
+pub mod Legs
+pub mod Right
+pub mod Faultless
+pub mod Completing
+pub mod Renewing

@@ -1,6 +1,0 @@
-use Rattle.std.proofs.Common.{◌≡◌, take}
-use Rattle.ft_isa.specs.Pending.{newest_at}
-use Rattle.ft_queue.proofs.queue.StoreQueue.newest_at.Given as goal
-
-abbrev pub invariant-loop-i : goal.invariant-loop-i
-invariant-loop-i l = l.newest ≡ newest_at (take l.i l.self) l.addr
