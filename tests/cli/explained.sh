@@ -68,6 +68,11 @@ explained 'a counter that was struck' 1 '' \
 "$top/talft" compile "$top/examples/endless.src" >turning.obj
 explained 'a run that goes on' 9 'out 1\nout 2\n' 'turning.obj: still running after 100 steps: raise `--steps`\n' run turning.obj --steps 100
 explained 'a run that is cut' 9 '' 'five.obj: still running after 11 steps: raise `--steps`\n' run five.obj --steps 11
+printf 'cell out = 0;\nout = 3;\nwhile (1) { }\n' >stays.src
+"$top/talft" compile stays.src >stays.obj
+explained 'a run that loops in place' 9 'out 3\n' \
+  'stays.obj: still running after 500 steps, and for ever: it loops in place, as after a trap; `talft-ending` says where\n' run stays.obj --steps 500
+explained 'a run that is cut before it loops in place' 9 '' 'stays.obj: still running after 5 steps: raise `--steps`\n' run stays.obj --steps 5
 explained 'a fault after the end' 0 'out 5\n' \
   'five.obj: the fault struck nothing: the run had ended after 14 steps, before step 4000\n' run five.obj --fault 4000:r1:6
 explained 'a fault at a missing queue entry' 0 'out 5\n' \
@@ -231,7 +236,7 @@ printf '4:r1:6\n' >said.list
 explained 'a fault list in place of an object' 7 'object 2 7\n' \
   'said.list: error: this is a fault list, not an object: pass it with `--faults`\n' check said.list
 explained 'an object in place of a fault list' 11 'list 1 1\n' \
-  'five.obj: error: this is an object, not a fault list: a fault list has one STEP:SITE:WORD on each line; `tools/faults` writes one\n' campaign five.obj --faults five.obj
+  'five.obj: error: this is an object, not a fault list: a fault list has one STEP:SITE:WORD on each line; `talft-faults` writes one\n' campaign five.obj --faults five.obj
 explained 'an object in place of a map' 13 'link 1 1\n' 'five.obj: error: this is an object, not a link map: a link map is a text with a line `module FILE` for each object\n' link five.obj
 : >nothing
 explained 'an empty file in place of an object' 7 'object 2 0\n' 'nothing: error: the file is empty\n' run nothing
@@ -373,8 +378,8 @@ campaign five.obj five.faults|talft: error: unexpected argument `five.faults` af
 debug five.obj step 4|talft: error: unexpected argument `step` after OBJECT: commands come from standard input: put `<` before the script's name
 run -- five.obj|talft: error: unexpected `--`: OBJECT comes right after the command
 version|talft: error: unknown command `version`; did you mean `--version`?
-compile program.c|program.c: error: this is a C program, not a source: `tools/cc FILE -o OBJECT` makes an object
-run program|program: error: this is a C program, not an object: `tools/cc FILE -o OBJECT` makes an object
+compile program.c|program.c: error: this is a C program, not a source: `talft-cc FILE -o OBJECT` makes an object
+run program|program: error: this is a C program, not an object: `talft-cc FILE -o OBJECT` makes an object
 campaign five.obj --faults verdicts.faults|verdicts.faults:1:7: error: this line has a verdict after the fault; a fault list has only STEP:SITE:WORD
 campaign five.obj --faults blanks.faults|blanks.faults:1:3: error: invalid fault: expected STEP:SITE:WORD; invalid site ` r1`: it contains whitespace
 link maps/two.map|maps/two.map:2:8: error: `nosuch.obj`: no such file; names are relative to the current folder, not to the map's
@@ -481,18 +486,18 @@ while IFS='|' read -r line message; do
   "$top/talft" debug five.obj >with 2>said <habit.script
   report "the message about the command \`$line\`" "standard input:1:$message/bad command" "$(head -n 1 said)/$(cat with)"
 done <<'END'
-print r1|1: error: unknown command `print`: `reg R` and `cell NAME` show a word; `tools/debugger` has `print`
-p r1|1: error: unknown command `p`: `reg R` and `cell NAME` show a word; `tools/debugger` has `print`
+print r1|1: error: unknown command `print`: `reg R` and `cell NAME` show a word; `talft-debugger` has `print`
+p r1|1: error: unknown command `p`: `reg R` and `cell NAME` show a word; `talft-debugger` has `print`
 quit|1: error: unknown command `quit`: a session ends when its input ends
 q|1: error: unknown command `q`: a session ends when its input ends
-info registers|1: error: unknown command `info`: `where`, `reg R`, `cell NAME` and `queue` show the state; `tools/debugger` has `info`
-list|1: error: unknown command `list`: `talft dis OBJECT` writes the instructions; `tools/debugger` has `disassemble`
-x/4 out|1: error: unknown command `x/4`: `cell NAME` shows the word of a cell; `tools/debugger` has `x`
+info registers|1: error: unknown command `info`: `where`, `reg R`, `cell NAME` and `queue` show the state; `talft-debugger` has `info`
+list|1: error: unknown command `list`: `talft dis OBJECT` writes the instructions; `talft-debugger` has `disassemble`
+x/4 out|1: error: unknown command `x/4`: `cell NAME` shows the word of a cell; `talft-debugger` has `x`
 backtrace|1: error: unknown command `backtrace`: `where` shows the place: there are no calls
 continue|1: error: unknown command `continue`: `go N` takes N steps, up to a breakpoint
 next|1: error: unknown command `next`: `step N` takes N steps, and an instruction takes two
 help|1: error: unknown command `help`: a script has `step`, `go`, `back`, `zap`, `reg`, `queue`, `cell`, `where` and `break`
-undo|1: error: unknown command `undo`: `tools/debugger` has this command
+undo|1: error: unknown command `undo`: `talft-debugger` has this command
 regs|1: error: unknown command `regs`; did you mean `reg`?
 step\t1|5: error: words are separated by one space, not by a tab
 zap  r1 6|5: error: words are separated by one space
@@ -593,7 +598,7 @@ END
   report 'what follows an object begins a new line' '' "$(tail -c 1 with | tr -d '\n')"
   script -qec "$top/talft debug five.obj 2>said" typescript </dev/null >/dev/null
   report 'the message about a session on a terminal' \
-    'talft: note: debugger commands are read from the terminal up to Ctrl-D; `tools/debugger OBJECT` has a prompt and help' "$(cat said)"
+    'talft: note: debugger commands are read from the terminal up to Ctrl-D; `talft-debugger OBJECT` has a prompt and help' "$(cat said)"
   script -qec "$top/talft debug five.obj step 4 2>said" typescript </dev/null >/dev/null
   report 'the message about an extra argument on a terminal' 1 "$(grep -c 'unexpected argument `step`' said)"
   report 'no note about commands from the terminal' 0 "$(grep -c 'are read from the terminal' said)"

@@ -166,7 +166,7 @@ done <<'END'
 6^compile got^```\ncell a = 0;\n```\n^got:1:1: error: this line is a Markdown code fence: remove both fences
 6^compile got^PK\x03\x04\x14^got: error: this is a zip archive, not a source: `unzip` unpacks it
 7^run got^\x1f\x8b\x08^got: error: this is a gzip file, not an object: `gunzip` unpacks it
-7^run got^\x7fELF\x02^got: error: this is an ELF file (code for a processor), not an object: `tools/cc` makes an object from C files
+7^run got^\x7fELF\x02^got: error: this is an ELF file (code for a processor), not an object: `talft-cc` makes an object from C files
 11^campaign five.obj --faults got^\x7fELF\x02^got: error: this is an ELF file (code for a processor), not a fault list
 7^check got^TALFT\x02\x01\x01\x01\x05^got: error: the object has no zero bytes, because a text tool removed or replaced them: copy it in binary mode
 2^run five.obj --fault 4:r1:6,10:r1:6^^talft: error: invalid fault `4:r1:6,10:r1:6`: expected STEP:SITE:WORD; a run takes one fault; `talft campaign OBJECT --faults FILE` tries each fault of a list
@@ -228,7 +228,7 @@ done <<'END'
 END
 for tool in build cc dap debugger ending explain faults lines plot report set wasm2asm; do
   report "the message about $tool as a command" \
-    "2: talft: error: unknown command \`$tool\`: that is a separate script, \`tools/$tool\`; see \`man talft-$tool\`" \
+    "2: talft: error: unknown command \`$tool\`: that is a separate script, \`talft-$tool\`; see \`man talft-$tool\`" \
     "$(first_said "$tool")"
   report "the script $tool" '' "$(ls "$top/tools/$tool" "$top/man/talft-$tool.1" 2>&1 >/dev/null)"
 done
@@ -264,7 +264,7 @@ report 'an object with a line feed at its end' \
   '  a line feed follows its end; an editor or a text tool may have added it: copy the object in binary mode' "$(sed -n 2p said)"
 yes 4:r1:6 | head -n 65537 >got
 report 'a list that is too long' \
-  '11: got: error: the fault list is too long: at most 65536 lines and 4194304 bytes are allowed; `tools/campaign` splits longer lists' \
+  '11: got: error: the fault list is too long: at most 65536 lines and 4194304 bytes are allowed; `talft-campaign` splits longer lists' \
   "$(first_said campaign five.obj --faults got)"
 
 # Scripts of the debugger: a file can be read again, and a pipe cannot.

@@ -6,7 +6,7 @@ use crate::declared::declared_in;
 use crate::detections::say_detection;
 use crate::endless::note_endless;
 use crate::indices::note_indices;
-use crate::reruns::{Met, rerun};
+use crate::reruns::{Met, comes_back, rerun};
 use crate::silent::note_silent;
 use ft_command::{Campaign, Command, Run};
 use ft_edge::Shelf;
@@ -15,6 +15,7 @@ use ft_machine::{Machine, Status};
 use ft_mistakes::{OBJECT_LIMIT, Page, SOURCE_LIMIT, load};
 use ft_types::Program;
 use ft_view::View;
+use std::alloc::Global;
 
 /// How many steps are repeated to see what happened in a run.
 const AGAIN: u64 = 1_000_000;
@@ -166,18 +167,69 @@ fn say_again<S: Shelf>(
     }
 }
 
-/// Explains a run of an object if something notable may have happened in it.
+/// Whether a run that was cut is in a loop that changes nothing: two machines repeat it, and one takes some steps more.
+fn loops_in_place<P: Program>(
+    alloc: Global,
+    program: &P,
+    strike: Option<Strike>,
+    steps: u64,
+) -> Result<bool, NoMemory>
+    requires { IsSpellable (P.object program.now) }
+{
+    let mut machine = Machine::new(alloc, program)?;
+    let mut state = Machine::new(alloc, program)?;
+    let plan = Plan { strike, wild: &[] };
+    rerun(&mut machine, program, plan, steps);
+    rerun(&mut state, program, plan, steps);
+    Ok(comes_back(&mut machine, program, &state))
+}
+
+/// Whether the run of an object that was cut is in a loop that changes nothing, if its file can be read again.
+fn is_in_place<S: Shelf>(
+    alloc: Global,
+    run: &Run,
+    strike: Option<Strike>,
+    shelf: &mut S,
+) -> Result<bool, NoMemory> {
+    let Some(bytes) = load(alloc, run.object, OBJECT_LIMIT, shelf)? else {
+        return Ok(false);
+    };
+    match View::over(bytes.as_slice()) {
+        Ok(view) => loops_in_place(alloc, &view, strike, run.steps.min(AGAIN)),
+        Err(_) => Ok(false),
+    }
+}
+
+/// Says that the run of an object under this strike was stopped at its limit of steps.
+fn say_cut_run<S: Shelf>(
+    page: &mut Page,
+    run: &Run,
+    strike: Option<Strike>,
+    shelf: &mut S,
+) -> Result<(), NoMemory> {
+    if !run.wild.is_empty() || !is_in_place(page.alloc(), run, strike, shelf)? {
+        return say_cut(page, run.object, run.steps, "steps");
+    }
+    begin(page, run.object)?;
+    let steps = run.steps;
+    page.say(format_args!(
+        "still running after {steps} steps, and for ever: it loops in place, as after a trap; `talft-ending` says where\n"
+    ))
+}
+
+/// Explains a run of an object if something notable may have happened in it. `last` is the strike of its last run.
 fn explain_run<S: Shelf>(
     page: &mut Page,
     run: &Run,
     status: u8,
+    last: Option<Strike>,
     shelf: &mut S,
 ) -> Result<(), NoMemory> {
     if status == 1 || run.strike.is_some() {
         say_again(page, run, status, shelf)?;
     }
     if status == 9 {
-        say_cut(page, run.object, run.steps, "steps")?;
+        say_cut_run(page, run, last, shelf)?;
     }
     Ok(())
 }
@@ -238,9 +290,11 @@ pub(crate) fn explain_outcome<S: Shelf>(
     shelf: &mut S,
 ) -> Result<(), NoMemory> {
     match command {
-        Command::Run(run) | Command::Trial(run) | Command::Recover(run) => {
-            explain_run(page, run, status, shelf)
+        Command::Run(run) | Command::Trial(run) => {
+            explain_run(page, run, status, run.strike, shelf)
         }
+        // A run that is detected is done again, without the fault.
+        Command::Recover(run) => explain_run(page, run, status, None, shelf),
         Command::Campaign(asked) | Command::Survey(asked) => note_cut(page, asked, shelf),
         Command::Exec(asked) if status == 9 => {
             say_cut_source(page, asked.source, asked.steps, "steps", shelf)

@@ -3,7 +3,7 @@ ghost use Rattle.std.specs.Prelude.{◌≡◌, ◌≤◌};
 ghost use Rattle.ft_types.specs.Spellable.{IsSpellable};
 
 use ft_isa::{Plan, Strike};
-use ft_machine::{Machine, Status, WildLeft};
+use ft_machine::{Machine, Status, Stepped, WildLeft};
 use ft_types::Program;
 
 /// Takes at most `most` steps of a machine, and returns how many it took; 0 if the machine has stopped.
@@ -35,6 +35,36 @@ pub(crate) fn go<P: Program>(
         left -= taken;
     }
     most.saturating_sub(left)
+}
+
+/// How many steps a loop in place has at most.
+const IN_PLACE: u64 = 32;
+
+/// Takes a step of a machine, and returns whether the step was quiet; false if the machine has stopped.
+fn takes_quiet_step<P: Program>(machine: &mut Machine, program: &P, wild: &mut WildLeft) -> bool
+    requires { IsSpellable (P.object program.now) }
+{
+    match machine.status() {
+        Status::Running => machine.step(program, wild) == Stepped::Quiet,
+        Status::Done | Status::Detected => false,
+    }
+}
+
+/// Whether a machine comes back to this state of its own within a few quiet steps. Without wild answers it then runs
+/// for ever, and puts nothing.
+pub(crate) fn comes_back<P: Program>(machine: &mut Machine, program: &P, state: &Machine) -> bool
+    requires { IsSpellable (P.object program.now) }
+{
+    let mut wild = WildLeft::new(&[]);
+    for _ in 0..IN_PLACE {
+        if !takes_quiet_step(machine, program, &mut wild) {
+            return false;
+        }
+        if machine.same_as(state) {
+            return true;
+        }
+    }
+    false
 }
 
 /// How a repeated run went.

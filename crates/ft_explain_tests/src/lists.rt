@@ -95,7 +95,7 @@ fn lines_that_are_no_fault_are_explained(rt: HostRuntime) -> Result<(), Fail> {
 fn lines_that_are_no_command_are_explained(rt: HostRuntime) -> Result<(), Fail> {
     let script: &[u8] = b"step 1\nstpe 2\nreg r64\n\nwhere\nback\t1\nP/x r1\nzap r1  6\n";
     let text =
-        "standard input:2:1: error: unknown command `stpe`; did you mean `step`?\n stpe 2\n ^\nstandard input:3:1: error: invalid command: expected `reg R`\n reg r64\n ^\nstandard input:4:1: error: empty lines are not allowed in this file\n \n ^\nstandard input:6:5: error: words are separated by one space, not by a tab\n back\t1\n     ^\nstandard input:7:1: error: unknown command `P/x`: `reg R` and `cell NAME` show a word; `tools/debugger` has `print`\n P/x r1\n ^\nstandard input:8:8: error: words are separated by one space\n zap r1  6\n        ^\n";
+        "standard input:2:1: error: unknown command `stpe`; did you mean `step`?\n stpe 2\n ^\nstandard input:3:1: error: invalid command: expected `reg R`\n reg r64\n ^\nstandard input:4:1: error: empty lines are not allowed in this file\n \n ^\nstandard input:6:5: error: words are separated by one space, not by a tab\n back\t1\n     ^\nstandard input:7:1: error: unknown command `P/x`: `reg R` and `cell NAME` show a word; `talft-debugger` has `print`\n P/x r1\n ^\nstandard input:8:8: error: words are separated by one space\n zap r1  6\n        ^\n";
     check_told(&rt, "debug file", 0, "", &[("script", script)], text)
 }
 
@@ -111,7 +111,7 @@ const TOLD: &[(&str, u8, &str, &str)] = &[
         "campaign file --faults list",
         11,
         "list 2 65536\n",
-        "list: error: the fault list is too long: at most 65536 lines and 4194304 bytes are allowed; `tools/campaign` splits longer lists\n",
+        "list: error: the fault list is too long: at most 65536 lines and 4194304 bytes are allowed; `talft-campaign` splits longer lists\n",
     ),
     (
         "debug file",

@@ -91,7 +91,7 @@ const OTHERS: &[(&[u8], &str)] = &[
     ),
     (
         b"\0asm\x01\0\0\0",
-        "file: error: this is a WebAssembly module, not an object: `tools/cc FILE -o OBJECT` makes an object\n",
+        "file: error: this is a WebAssembly module, not an object: `talft-cc FILE -o OBJECT` makes an object\n",
     ),
     (
         b"\xff\xfec\0e\0",
@@ -99,7 +99,7 @@ const OTHERS: &[(&[u8], &str)] = &[
     ),
     (
         b"hello\n",
-        "file: error: this is plain text, not an object: `talft compile`, `talft asm` and `tools/cc` make objects\n",
+        "file: error: this is plain text, not an object: `talft compile`, `talft asm` and `talft-cc` make objects\n",
     ),
     (b"", "file: error: the file is empty\n"),
 ];

@@ -79,23 +79,23 @@ impl Content {
             Content::Object if wanted == Content::Map =>
                 ": a link map is a text with a line `module FILE` for each object",
             Content::Object if wanted == Content::List =>
-                ": a fault list has one STEP:SITE:WORD on each line; `tools/faults` writes one",
+                ": a fault list has one STEP:SITE:WORD on each line; `talft-faults` writes one",
             Content::Unknown if wanted == Content::Object =>
-                ": `talft compile`, `talft asm` and `tools/cc` make objects",
+                ": `talft compile`, `talft asm` and `talft-cc` make objects",
             Content::Source => ": `talft compile FILE >OBJECT` makes an object",
             Content::Assembly => ": `talft asm FILE >OBJECT` makes an object",
             Content::List => ": pass it with `--faults`",
             Content::Map => ": `talft link FILE >OBJECT` makes an object",
             Content::Script => ": `talft debug OBJECT <FILE` runs it",
-            Content::C => ": `tools/cc FILE -o OBJECT` makes an object",
-            Content::Wasm => ": `tools/cc FILE -o OBJECT` makes an object",
+            Content::C => ": `talft-cc FILE -o OBJECT` makes an object",
+            Content::Wasm => ": `talft-cc FILE -o OBJECT` makes an object",
             Content::Wide => ": save it as ASCII text",
             Content::Gzip => ": `gunzip` unpacks it",
             Content::Zip => ": `unzip` unpacks it",
             Content::Answer if wanted == Content::Object =>
                 ": the call that wrote it was refused, or writes no object",
             Content::Elf if wanted == Content::Object =>
-                ": `tools/cc` makes an object from C files",
+                ": `talft-cc` makes an object from C files",
             _ => "",
         }
     }

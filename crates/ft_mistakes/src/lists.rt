@@ -49,7 +49,7 @@ fn say_whole(page: &mut Page, number: u64, told: u64) -> Result<(), NoMemory> {
     match number {
         1 => page.say(format_args!("line {told} is not a fault: expected STEP:SITE:WORD")),
         2 => page.say(
-            "the fault list is too long: at most 65536 lines and 4194304 bytes are allowed; `tools/campaign` splits longer lists",
+            "the fault list is too long: at most 65536 lines and 4194304 bytes are allowed; `talft-campaign` splits longer lists",
         ),
         3 => page.say(format_args!(
             "the campaign is too long: faults times steps is {told}, and at most 1000000000 is allowed; give fewer faults or a smaller `--steps`"

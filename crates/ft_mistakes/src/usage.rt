@@ -446,7 +446,7 @@ fn say_unknown(page: &mut Page, word: &str) -> Result<(), NoMemory> {
     page.quote(word.as_bytes())?;
     if is_tool(word) {
         return page.say(format_args!(
-            ": that is a separate script, `tools/{word}`; see `man talft-{word}`\n"
+            ": that is a separate script, `talft-{word}`; see `man talft-{word}`\n"
         ));
     }
     say_near_command(page, word)?;

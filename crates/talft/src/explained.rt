@@ -19,7 +19,7 @@ const NO_TEXT: &str = "talft: error: an argument is not UTF-8 text\n";
 
 /// The message before debugger commands are read from a terminal.
 const COMMANDS: &str =
-    "talft: note: debugger commands are read from the terminal up to Ctrl-D; `tools/debugger OBJECT` has a prompt and help\n";
+    "talft: note: debugger commands are read from the terminal up to Ctrl-D; `talft-debugger OBJECT` has a prompt and help\n";
 
 /// The maximum size of a link map in bytes.
 const MAP_LIMIT: usize = 65_536;

@@ -6,19 +6,19 @@ pub(super) const ROWS: &[Row] = &[
     ("quit exit q", "a session ends when its input ends"),
     (
         "print p output display examine inspect",
-        "`reg R` and `cell NAME` show a word; `tools/debugger` has `print`",
+        "`reg R` and `cell NAME` show a word; `talft-debugger` has `print`",
     ),
     (
         "x",
-        "`cell NAME` shows the word of a cell; `tools/debugger` has `x`",
+        "`cell NAME` shows the word of a cell; `talft-debugger` has `x`",
     ),
     (
         "info i",
-        "`where`, `reg R`, `cell NAME` and `queue` show the state; `tools/debugger` has `info`",
+        "`where`, `reg R`, `cell NAME` and `queue` show the state; `talft-debugger` has `info`",
     ),
     (
         "list l disassemble disas",
-        "`talft dis OBJECT` writes the instructions; `tools/debugger` has `disassemble`",
+        "`talft dis OBJECT` writes the instructions; `talft-debugger` has `disassemble`",
     ),
     (
         "backtrace bt frame",
@@ -44,6 +44,6 @@ pub(super) const ROWS: &[Row] = &[
     ),
     (
         "watch delete until finish end undo diff explain plan line goto tbreak source record",
-        "`tools/debugger` has this command",
+        "`talft-debugger` has this command",
     ),
 ];
