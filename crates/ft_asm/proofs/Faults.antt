@@ -14,7 +14,8 @@ use Rattle.ft_asm.specs.declared.line.Code.{Code}
 use Rattle.ft_text.specs.Lines.{with_byte, lines_of}
 use Rattle.ft_asm.specs.declared.line.Line.{Line}
 use Rattle.ft_asm.specs.declared.line.Line.TheVariants as lines
-use Rattle.ft_asm.specs.Words.{words_of, is_said, with_said, said_in}
+use Rattle.ft_text.specs.LineWords.{words_of}
+use Rattle.ft_asm.specs.Words.{is_said, with_said, said_in}
 use Rattle.ft_asm.specs.Lines.{IsForm, FitsLine}
 use Rattle.ft_asm.specs.Listings.{Part, Listing, pend_line, type_lines, part_lines, listing_lines, object_of}
 use Rattle.ft_asm.specs.Drafts.{Draft, Start, InType, InBlock, Done, fresh_type, with_reg, with_pend, fresh_part}

@@ -28,7 +28,9 @@ use Rattle.ft_isa.specs.declared.colour.Colour.TheVariants.{Green, Blue}
 use Rattle.ft_isa.specs.declared.reg.Reg.{Reg}
 use Rattle.ft_format.specs.Codes.{FitsBase, FitsBasic, Is32}
 use Rattle.ft_asm.specs.Operands.{reg_word, colour_word, base_word, refs_word, basic_word}
-use Rattle.ft_asm.specs.Forms.{number_of, if_below, below, reg_in, colour_in, plain_basic, base_in, one_more_ref}
+use Rattle.ft_text.proofs.NumberWords.{number_sound, number_complete}
+use Rattle.ft_text.specs.LineWords.{number_of}
+use Rattle.ft_asm.specs.Forms.{if_below, below, reg_in, colour_in, plain_basic, base_in, one_more_ref}
 use Rattle.ft_asm.specs.Forms.{basic_in, rows_in}
 
 -- a reader reads the word of each value that fits as that value, and reads no other word
@@ -37,19 +39,6 @@ pub record IsField {A : Type 0} (read : List ℕ → Option A) (word : A → Lis
   pub complete : (a : A) → Fits a → read (word a) ≡ Some a
 
 -- NUMBERS
-
--- a number that the reader told is the number of the whole word
-pub number_told_whole : (o : Option (Option ℕ)) (word : List ℕ) (n : ℕ) → state_after next_number None word ≡ o →
-    option_and_then (λ number. number) o ≡ Some n → IsNumberText word n
-number_told_whole None word n e f = absurd cc
-number_told_whole (Some s) word n e f = reads_ok next_number whole_number None number_told IsNumberRead IsNumberText
-    number_reader s n word e f
-
-pub number_sound : (word : List ℕ) (n : ℕ) → number_of word ≡ Some n → IsNumberText word n
-number_sound word n e = number_told_whole (state_after next_number None word) word n refl e
-
-pub number_complete : (n : ℕ) → IsWord n → number_of (decimal n) ≡ Some n
-number_complete n h = number_reader.complete (decimal n) n (h, refl)
 
 below_sound : (limit : ℕ) (w : List ℕ) (n : ℕ) → below limit w ≡ Some n → (n < limit) × (w ≡ decimal n)
 unfolding below

@@ -32,7 +32,8 @@ use Rattle.ft_asm.specs.InstrForms.{op_code_in, or_else, op_line_in, transfer_in
 use Rattle.ft_asm.specs.InstrForms.{code_in}
 use Rattle.ft_asm.specs.Lines.{line_form, code_words, placed, line_words, FitsRows, FitsCode, FitsLine, IsForm}
 use Rattle.ft_asm.specs.Words.{IsAnyWord}
-use Rattle.ft_asm.specs.Forms.{reg_in, ended, rows_in, FitsOperands, Row, row_in}
+use Rattle.ft_text.specs.LineWords.{ended}
+use Rattle.ft_asm.specs.Forms.{reg_in, rows_in, FitsOperands, Row, row_in}
 use Rattle.ft_asm.specs.LineForms.{all_in, type_row, line_rows, line_with, line_in}
 use Rattle.ft_asm.proofs.FieldLaws.{op_field, rows_sound, rows_complete}
 use Rattle.ft_asm.proofs.RowLaws.{made_sound, taken_again, made_again, row_at, IsRight, Begins, row_sound, among_sound}

@@ -7,7 +7,6 @@ pub mod LawfulLines
 pub mod Lawful
 pub mod Faults
 pub mod Single
-pub mod WordLaws
 pub mod HeldLaws
 pub mod ClosedLaws
 pub mod Turned

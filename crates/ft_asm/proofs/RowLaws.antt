@@ -10,7 +10,8 @@ use Rattle.ft_asm.specs.Operands.{Operand, AReg, AColour, AByte, AnIndex, AWord,
 use Rattle.ft_asm.specs.Operands.{form, form_words}
 use Rattle.ft_asm.specs.Words.{IsAnyWord}
 use Rattle.ft_asm.specs.Forms.{Kind, OneReg, OneColour, OneByte, OneIndex, OneWord, OneBasic, OneName, Value, value_in}
-use Rattle.ft_asm.specs.Forms.{taken, FitsOperand, FitsOperands, Taking, made_in, Row, row_in, among}
+use Rattle.ft_text.specs.LineWords.{taken}
+use Rattle.ft_asm.specs.Forms.{FitsOperand, FitsOperands, Taking, made_in, Row, row_in, among}
 use Rattle.ft_asm.proofs.FieldLaws.{number_field, colour_field, reg_field, basic_field}
 use Rattle.ft_asm.proofs.Texts.{AreWords}
 

@@ -6,7 +6,8 @@ use Rattle.std.specs.List.{AllZip}
 use Rattle.ft_types.specs.declared.object.Object.{Object}
 use Rattle.ft_text.specs.Lines.{lines_of}
 use Rattle.ft_asm.specs.declared.line.Line.{Line}
-use Rattle.ft_asm.specs.Words.{words_of, is_said, said_in}
+use Rattle.ft_text.specs.LineWords.{words_of}
+use Rattle.ft_asm.specs.Words.{is_said, said_in}
 use Rattle.ft_asm.specs.Lines.{IsForm}
 use Rattle.ft_asm.specs.Listings.{listing_lines}
 use Rattle.ft_format.specs.declared.object_error.ObjectError.{ObjectError}

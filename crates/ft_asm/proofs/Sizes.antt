@@ -23,7 +23,8 @@ use Rattle.ft_text.specs.Lines.{with_byte, lines_of}
 use Rattle.ft_asm.specs.declared.line.Code.{Code}
 use Rattle.ft_asm.specs.declared.line.Line.{Line}
 use Rattle.ft_asm.specs.declared.line.Line.TheVariants as lines
-use Rattle.ft_asm.specs.Words.{is_blank, pieces_of, with_bytes, words_of, is_said, said_in}
+use Rattle.ft_text.specs.LineWords.{is_blank, pieces_of, with_bytes, words_of}
+use Rattle.ft_asm.specs.Words.{is_said, said_in}
 use Rattle.ft_asm.specs.InstrForms.{instr_form}
 use Rattle.ft_asm.specs.Operands.{form_words}
 use Rattle.ft_asm.specs.Lines.{code_words, line_words, placed, FitsCode, FitsLine, IsForm}

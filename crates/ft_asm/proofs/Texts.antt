@@ -25,7 +25,9 @@ use Rattle.ft_text.specs.Lines.{with_byte, lines_of}
 use Rattle.ft_asm.specs.declared.line.Code.{Code}
 use Rattle.ft_asm.specs.declared.line.Line.{Line}
 use Rattle.ft_asm.specs.declared.line.Line.TheVariants as lines
-use Rattle.ft_asm.specs.Words.{is_blank, is_comment, pieces_of, with_word, with_bytes, words_of, is_said, with_said}
+use Rattle.ft_text.proofs.LineWordLaws.{kept_word}
+use Rattle.ft_text.specs.LineWords.{is_blank, is_comment, pieces_of, with_word, with_bytes, words_of}
+use Rattle.ft_asm.specs.Words.{is_said, with_said}
 use Rattle.ft_asm.specs.Words.{said_in, is_part, HasParts, IsAnyWord}
 use Rattle.ft_asm.specs.Operands.{reg_word, colour_word, base_word, refs_word, AReg, AColour, AByte, AnIndex, AWord}
 use Rattle.ft_asm.specs.Operands.{ABasic, AName, Operand, operand_word, Form, form_words}
@@ -205,10 +207,6 @@ first_piece [] rest h = refl
 first_piece (b ∷ bs) rest h =
     ap (λ t. if t then [] ∷ pieces_of (bs ++ 32 ∷ rest) else with_byte b (pieces_of (bs ++ 32 ∷ rest))) (no_blank b h.0)
     ∙ ap (with_byte b) (first_piece bs rest h.1)
-
-pub kept_word : (w : List ℕ) (ws : List (List ℕ)) → 0 < length w → with_word w ws ≡ w ∷ ws
-kept_word [] ws h = absurd (omega arith)
-kept_word (b ∷ bs) ws h = refl
 
 -- words joined by spaces make a line with those words
 pub words_again : (ws : List (List ℕ)) → AreWords ws → words_of (spaced ws) ≡ ws

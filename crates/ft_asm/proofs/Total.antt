@@ -5,7 +5,8 @@ use Rattle.std.proofs.lemmas.Bool.{leb-true, leb-false}
 use Rattle.ft_types.specs.declared.object.Object.{Object}
 use Rattle.ft_text.specs.Lines.{lines_of}
 use Rattle.ft_asm.specs.declared.line.Line.{Line}
-use Rattle.ft_asm.specs.Words.{words_of, is_said}
+use Rattle.ft_text.specs.LineWords.{words_of}
+use Rattle.ft_asm.specs.Words.{is_said}
 use Rattle.ft_asm.specs.Listings.{object_of}
 use Rattle.ft_asm.specs.LineForms.{line_in}
 use Rattle.ft_asm.specs.Drafts.{Draft, Start, InType, InBlock, Done, next}

@@ -7,7 +7,8 @@ use Rattle.std.proofs.lemmas.Bool.{and_from}
 use Rattle.ft_types.specs.declared.object.Object.{Object}
 use Rattle.ft_text.specs.Lines.{with_byte, lines_of}
 use Rattle.ft_asm.specs.declared.line.Line.{Line}
-use Rattle.ft_asm.specs.Words.{is_blank, pieces_of, with_bytes, words_of, is_said, is_part, HasParts, IsAnyWord}
+use Rattle.ft_text.specs.LineWords.{is_blank, pieces_of, with_bytes, words_of}
+use Rattle.ft_asm.specs.Words.{is_said, is_part, HasParts, IsAnyWord}
 use Rattle.ft_asm.specs.Listings.{Listing}
 use Rattle.ft_asm.specs.LineForms.{line_in}
 use Rattle.ft_asm.specs.Drafts.{Draft, Start, InType, InBlock, Done, next}

@@ -2,7 +2,6 @@
 use Rattle.std.specs.Prelude.{ℕ, zero, suc, ◌^◌, ◌<◌, List, [], ◌∷◌, take, drop, Option, Some, None, option_map, option_and_then, nat_lt, ◌==◌, if◌then◌else◌, codes}
 use Rattle.std.specs.List.{AllByRecursion}
 use Rattle.std.specs.Str.{bytes_eq}
-use Rattle.ft_isa.specs.Reading.{state_after, with_digit}
 use Rattle.ft_isa.specs.Registers.{reg_of}
 use Rattle.ft_isa.specs.declared.basic.Base.{Base}
 use Rattle.ft_isa.specs.declared.basic.Base.TheVariants.{Int}
@@ -11,16 +10,13 @@ use Rattle.ft_isa.specs.declared.basic.Basic.{Basic}
 use Rattle.ft_isa.specs.declared.colour.Colour.{Colour}
 use Rattle.ft_isa.specs.declared.colour.Colour.TheVariants.{Green, Blue}
 use Rattle.ft_isa.specs.declared.reg.Reg.{Reg}
+use Rattle.ft_text.specs.LineWords.{number_of, taken}
 use Rattle.ft_format.specs.Codes.{FitsBasic}
 use Rattle.ft_asm.specs.Words.{IsAnyWord}
 use Rattle.ft_asm.specs.Operands.{Operand, AByte, AnIndex, AWord, ABasic, AName, Form}
 use Rattle.ft_asm.specs.declared.line.Line.{Line}
 
 -- WORDS
-
--- the number that a number text spells
-abbrev pub number_of : List ℕ → Option ℕ
-number_of word = option_and_then (λ number. number) (state_after (λ number byte. option_map Some (with_digit number byte)) None word)
 
 -- the number, if it is below a limit
 abbrev pub if_below : ℕ → ℕ → Option ℕ
@@ -57,16 +53,6 @@ basic_in zero word = option_map plain_basic (base_in word)
 basic_in (suc n) word = if bytes_eq (take 4 word) (codes "ref:") then option_map one_more_ref (basic_in n (drop 4 word)) else option_map plain_basic (base_in word)
 
 -- LISTS OF WORDS
-
--- the value of the first word, and the words after it
-abbrev pub taken : {A : Type 0} → (List ℕ → Option A) → List (List ℕ) → Option (A × List (List ℕ))
-taken read [] = None
-taken read (word ∷ words) = option_map (λ a. (a, words)) (read word)
-
--- a line, if no word is left
-abbrev pub ended : Line → List (List ℕ) → Option Line
-ended line [] = Some line
-ended line (word ∷ words) = None
 
 -- the 32-bit numbers that these words spell
 abbrev pub rows_in : List (List ℕ) → Option (List ℕ)

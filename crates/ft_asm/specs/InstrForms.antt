@@ -9,7 +9,8 @@ use Rattle.ft_isa.specs.declared.instr.Subst.{Subst}
 use Rattle.ft_isa.specs.declared.op.Op.{Op}
 use Rattle.ft_types.specs.Spellable.{subst_of}
 use Rattle.ft_asm.specs.Operands.{AReg, AColour, AnIndex, AWord, ABasic, Form, form}
-use Rattle.ft_asm.specs.Forms.{OneReg, OneColour, OneIndex, OneWord, OneBasic, Row, row, row_in, among, ended, rows_in}
+use Rattle.ft_text.specs.LineWords.{ended}
+use Rattle.ft_asm.specs.Forms.{OneReg, OneColour, OneIndex, OneWord, OneBasic, Row, row, row_in, among, rows_in}
 use Rattle.ft_asm.specs.declared.line.Line.{Line}
 use Rattle.ft_asm.specs.declared.line.Line.TheVariants as lines
 

@@ -1,7 +1,8 @@
 -- The line that words spell, word by word: private to the reader of lines.
 use Rattle.std.specs.Prelude.{ℕ, List, [], ◌∷◌, codes, Option, None, option_and_then, if◌then◌else◌}
 use Rattle.std.specs.Str.{bytes_eq}
-use Rattle.ft_asm.specs.Forms.{OneReg, OneColour, OneByte, OneIndex, OneWord, OneBasic, OneName, Row, row, row_in, among, ended}
+use Rattle.ft_text.specs.LineWords.{ended}
+use Rattle.ft_asm.specs.Forms.{OneReg, OneColour, OneByte, OneIndex, OneWord, OneBasic, OneName, Row, row, row_in, among}
 use Rattle.ft_asm.specs.NodeForms.{node_in}
 use Rattle.ft_asm.specs.InstrForms.{code_in}
 use Rattle.ft_asm.specs.declared.line.Line.{Line}

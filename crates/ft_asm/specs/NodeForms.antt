@@ -5,7 +5,8 @@ use Rattle.ft_isa.specs.declared.op.Op.{Op}
 use Rattle.ft_static.specs.declared.node.Shape.{Shape}
 use Rattle.ft_static.specs.declared.node.Shape.TheVariants as shapes
 use Rattle.ft_asm.specs.Operands.{AByte, AnIndex, AWord, Form, form}
-use Rattle.ft_asm.specs.Forms.{OneByte, OneIndex, OneWord, OneName, Row, row, row_in, among, ended}
+use Rattle.ft_text.specs.LineWords.{ended}
+use Rattle.ft_asm.specs.Forms.{OneByte, OneIndex, OneWord, OneName, Row, row, row_in, among}
 use Rattle.ft_asm.specs.declared.line.Line.{Line}
 use Rattle.ft_asm.specs.declared.line.Line.TheVariants as lines
 

@@ -12,7 +12,8 @@ use Rattle.ft_isa.specs.declared.colour.Colour.{Colour}
 use Rattle.ft_isa.specs.declared.reg.Reg.{Reg}
 use Rattle.ft_asm.specs.declared.line.Line.{Line}
 use Rattle.ft_asm.specs.declared.line.Line.TheVariants as lines
-use Rattle.ft_asm.specs.Words.{words_of, is_said, said_in}
+use Rattle.ft_text.specs.LineWords.{words_of}
+use Rattle.ft_asm.specs.Words.{is_said, said_in}
 use Rattle.ft_asm.specs.Lines.{line_words, IsForm}
 use Rattle.ft_asm.specs.Operands.{reg_word, colour_word}
 use Rattle.ft_asm.specs.Listings.{Listing, listing_lines, object_of, listing_of}

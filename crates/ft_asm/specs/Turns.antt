@@ -4,7 +4,8 @@ use Rattle.ft_asm.specs.declared.assembly.Turn.{Turn}
 use Rattle.ft_asm.specs.declared.assembly.Turn.TheVariants.{On, Bad, Stuck}
 use Rattle.ft_asm.specs.declared.draft.Draft as tables
 use Rattle.ft_asm.specs.declared.line.Line.{Line}
-use Rattle.ft_asm.specs.Words.{words_of, is_said}
+use Rattle.ft_text.specs.LineWords.{words_of}
+use Rattle.ft_asm.specs.Words.{is_said}
 use Rattle.ft_asm.specs.LineForms.{line_in}
 use Rattle.ft_asm.specs.Drafts.{Draft, next}
 use Rattle.ft_asm.specs.Held.{Holds}

@@ -3,10 +3,6 @@ use Rattle.std.specs.Prelude.{◌≡◌, ℕ, ◌<◌, Bool, true, false, ◌==�
 use Rattle.std.specs.List.{AllByRecursion}
 use Rattle.ft_text.specs.Lines.{with_byte}
 
--- whether a byte is a space or a tab
-abbrev pub is_blank : ℕ → Bool
-is_blank byte = (byte == 32) || (byte == 9)
-
 -- whether a byte may be in a word: it is neither a blank nor a line feed. A word has at least one byte
 abbrev pub is_part : ℕ → Bool
 is_part byte = not (is_blank byte) && not (byte == 10)
@@ -16,30 +12,6 @@ HasParts word = AllByRecursion (λ byte. is_part byte ≡ true) word
 
 abbrev pub IsAnyWord : List ℕ → Type 0
 IsAnyWord word = (0 < length word) × HasParts word
-
--- the pieces of a line between blanks
-abbrev pub pieces_of : List ℕ → List (List ℕ)
-pieces_of [] = [] ∷ []
-pieces_of (byte ∷ bytes) = if is_blank byte then [] ∷ pieces_of bytes else with_byte byte (pieces_of bytes)
-
--- a word before others; it is left out if it is empty
-abbrev pub with_word : List ℕ → List (List ℕ) → List (List ℕ)
-with_word [] words = words
-with_word (byte ∷ bytes) words = (byte ∷ bytes) ∷ words
-
--- the pieces that are not empty
-abbrev pub with_bytes : List (List ℕ) → List (List ℕ)
-with_bytes [] = []
-with_bytes (piece ∷ pieces) = with_word piece (with_bytes pieces)
-
--- the words of a line, separated by blanks
-abbrev pub words_of : List ℕ → List (List ℕ)
-words_of line = with_bytes (pieces_of line)
-
--- whether a word begins a comment
-abbrev pub is_comment : List ℕ → Bool
-is_comment [] = false
-is_comment (byte ∷ bytes) = byte == 35
 
 -- whether the words of a line say something: there are some, and the first does not begin a comment
 abbrev pub is_said : List (List ℕ) → Bool

@@ -2,7 +2,7 @@
 ghost use Rattle.std.specs.Prelude.{◌≡◌, ◌≤◌, ◌++◌, length, slice_range, option_map, OnOk, IfOk};
 ghost use Rattle.std.specs.List.{flat_map};
 ghost use Rattle.ft_types.specs.Spellable.{subst_of};
-ghost use Rattle.ft_asm.specs.Words.{words_of};
+ghost use Rattle.ft_text.specs.LineWords.{words_of};
 ghost use Rattle.ft_asm.specs.Forms.{rows_in};
 ghost use Rattle.ft_asm.specs.InstrForms.{code_in};
 ghost use Rattle.ft_asm.specs.Lines.{code_words};
@@ -13,9 +13,9 @@ ghost use Rattle.ft_asm.specs.Pieces.{row_text, code_text, HasRows};
 use crate::fields::{end, index_of};
 use crate::instr_forms::{instr_of, put_instr};
 use crate::line::{Code, Line};
-use crate::words::next_word;
 use crate::writing::{put, put_number};
 use ft_isa::{Instr, NoMemory, Subst};
+use ft_text::next_word;
 use ft_types::{Program, Table};
 use std::alloc::Global;
 

@@ -1,12 +1,12 @@
 //! Fields: words, each read as a value.
 ghost use Rattle.std.specs.Prelude.{◌≡◌, ◌≤◌, ◌^◌, option_map, IfSome};
 ghost use Rattle.std.specs.Str.{bytes_eq};
-ghost use Rattle.ft_asm.specs.Words.{words_of};
-ghost use Rattle.ft_asm.specs.Forms.{number_of, below, reg_in, colour_in, basic_in, base_in, taken, ended};
+ghost use Rattle.ft_text.specs.LineWords.{words_of, number_of, taken, ended};
+ghost use Rattle.ft_asm.specs.Forms.{below, reg_in, colour_in, basic_in, base_in};
 
 use crate::line::Line;
-use crate::words::next_word;
 use ft_isa::{Base, Basic, Colour, Reg, read_number};
+use ft_text::next_word;
 
 /// The number that a number text spells.
 fn number_of(word: &[u8]) -> Option<u64>

@@ -1,6 +1,6 @@
 //! Reads lines by their first words.
 ghost use Rattle.std.specs.Prelude.{◌≡◌, IfOk};
-ghost use Rattle.ft_asm.specs.Words.{words_of};
+ghost use Rattle.ft_text.specs.LineWords.{words_of};
 ghost use Rattle.ft_asm.specs.LineForms.{all_in, cell_row, type_row, reg_row, pend_row, block_row, entry_row, line_with};
 ghost use Rattle.ft_asm.specs.Said.{Says};
 
@@ -10,8 +10,8 @@ use crate::fields::{
 };
 use crate::line::Line;
 use crate::node_forms::node_of;
-use crate::words::next_word;
 use ft_isa::NoMemory;
+use ft_text::next_word;
 use ft_types::{Cell, RegType, Table};
 use std::alloc::Global;
 

@@ -1,7 +1,7 @@
 //! Reads instructions after their first word, and writes them.
 ghost use Rattle.std.specs.Prelude.{◌≡◌, ◌++◌, ◌∷◌, [], decimal, option_map, OnOk};
 ghost use Rattle.ft_isa.specs.declared.instr.Instr.TheVariants as instrs;
-ghost use Rattle.ft_asm.specs.Words.{words_of};
+ghost use Rattle.ft_text.specs.LineWords.{words_of};
 ghost use Rattle.ft_asm.specs.Operands.{reg_word, colour_word, form_words};
 ghost use Rattle.ft_asm.specs.Forms.{row_in};
 ghost use Rattle.ft_asm.specs.InstrForms.{ld_word, st_word, instr_form, op_reg_row, op_word_row, mov_row, idx_row, ld_row, st_row, jmp_green_row, jmp_blue_row, bz_green_row, bz_blue_row, op_code_in, op_line_in, transfer_in, instr_in};

@@ -18,7 +18,6 @@ mod instr_forms;
 mod laws;
 mod line;
 mod node_forms;
-mod words;
 mod writing;
 
 pub use asm_error::AsmError;

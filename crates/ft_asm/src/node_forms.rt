@@ -1,6 +1,6 @@
 //! Reads the lines of nodes after their first word, and writes them.
 ghost use Rattle.std.specs.Prelude.{◌≡◌, [], ◌∷◌, ◌++◌, decimal, option_map, OnOk};
-ghost use Rattle.ft_asm.specs.Words.{words_of};
+ghost use Rattle.ft_text.specs.LineWords.{words_of};
 ghost use Rattle.ft_asm.specs.Operands.{form_words};
 ghost use Rattle.ft_asm.specs.Forms.{row_in};
 ghost use Rattle.ft_asm.specs.NodeForms.{shape_form, word_row, var_row, op_shape_row, sel_row, memory_row, upd_row, rem_row, op_shape_in, shape_in, node_in};
@@ -9,10 +9,10 @@ ghost use Rattle.ft_asm.specs.declared.line.Line.TheVariants as lines;
 
 use crate::fields::{end, is_same, take_byte, take_index, take_word};
 use crate::line::Line;
-use crate::words::next_word;
 use crate::writing::{put, put_number, put_op};
 use ft_isa::{NoMemory, Op};
 use ft_static::{Node, Shape};
+use ft_text::next_word;
 
 /// Reads a word node; returns it and the text after its words.
 fn word_shape(text: &[u8]) -> Option<(Shape, &[u8])>

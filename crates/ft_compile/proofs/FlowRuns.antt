@@ -17,7 +17,7 @@ use Rattle.ft_lower.specs.Well.{IsWell}
 use Rattle.ft_dup.specs.Doubles.{words_of, cost, cost_if, Doubles, Carries, RunsAs}
 use Rattle.ft_compile.specs.Cells.{AreCells}
 use Rattle.ft_compile.specs.Emitted.{emitted}
-use Rattle.ft_compile.specs.InitialWords.{object_with_words}
+use Rattle.ft_types.specs.InitialWords.{object_with_words}
 use Rattle.ft_compile.specs.FlowObjects.{RunsAsFlow, AreWordsFor, StandsForFlow}
 use Rattle.ft_compile.proofs.Objects.{emission}
 use Rattle.ft_compile.proofs.OtherWords.{words_with, carries_with}

@@ -10,7 +10,7 @@ use Rattle.ft_scope.specs.Resolved.{Program}
 use Rattle.ft_scope.specs.InitialWords.{AreInitialWords}
 use Rattle.ft_lower.specs.Flow.{Blocks}
 use Rattle.ft_dup.specs.Doubles.{init_of_cell, words_of, IsIntCell, Carries}
-use Rattle.ft_compile.specs.InitialWords.{begun_with, cells_with_words, object_with_words}
+use Rattle.ft_types.specs.InitialWords.{begun_with, cells_with_words, object_with_words}
 use Rattle.ft_compile.specs.StandsFor.{RunsAsMeant, StandsFor}
 
 -- CELLS

@@ -15,7 +15,7 @@ use Rattle.ft_typing.proofs.SameTables.{start_same, applies_same}
 use Rattle.ft_scope.specs.Resolved.{Program}
 use Rattle.ft_scope.specs.InitialWords.{program_with_words}
 use Rattle.ft_dup.specs.Doubles.{init_of_cell, IsIntCell}
-use Rattle.ft_compile.specs.InitialWords.{object_with_words}
+use Rattle.ft_types.specs.InitialWords.{object_with_words}
 use Rattle.ft_compile.specs.StandsFor.{RunsAsMeant, StandsFor}
 use Rattle.ft_compile.specs.Laws.{AllWordsStand}
 use Rattle.ft_compile.proofs.OtherWords.{many_with, names_with, types_with, words_with, words_again, all_with}

@@ -10,7 +10,7 @@ use Rattle.ft_lower.specs.Well.{IsWell}
 use Rattle.ft_dup.specs.Doubles.{words_of, RunsAs, Carries}
 use Rattle.ft_compile.specs.Cells.{AreCells}
 use Rattle.ft_compile.specs.Emitted.{emitted, IsEmitted}
-use Rattle.ft_compile.specs.InitialWords.{object_with_words}
+use Rattle.ft_types.specs.InitialWords.{object_with_words}
 use Rattle.ft_compile.specs.StandsFor.{RunsAsMeant, StandsFor}
 use Rattle.ft_compile.proofs.Meant.{runs_as_meant}
 use Rattle.ft_compile.proofs.Objects.{emission}

@@ -11,7 +11,7 @@ use Rattle.ft_meaning.specs.Begins.{Begins}
 use Rattle.ft_lower.specs.Flow.{Blocks, flow_run}
 use Rattle.ft_lower.specs.Size.{blocks_size}
 use Rattle.ft_dup.specs.Doubles.{IsIntCell, words_of}
-use Rattle.ft_compile.specs.InitialWords.{object_with_words}
+use Rattle.ft_types.specs.InitialWords.{object_with_words}
 
 -- the object's run, without a strike and without answers to wild loads, does what the blocks' run over cells with these
 -- words does

@@ -18,7 +18,7 @@ use Rattle.ft_lower.specs.Lowers.{Lowers}
 use Rattle.ft_lower.specs.Size.{blocks_size}
 use Rattle.ft_lower.specs.Well.{IsWell}
 use Rattle.ft_dup.specs.Doubles.{IsIntCell, words_of, Carries, RunsAs}
-use Rattle.ft_compile.specs.InitialWords.{object_with_words}
+use Rattle.ft_types.specs.InitialWords.{object_with_words}
 use Rattle.ft_compile.specs.StandsFor.{RunsAsMeant, StandsFor}
 use Rattle.ft_compile.specs.Cells.{AreCells}
 use Rattle.ft_compile.specs.Emitted.{emitted, compiled_object, IsEmitted}

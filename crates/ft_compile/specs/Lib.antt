@@ -1,4 +1,3 @@
-pub mod InitialWords
 pub mod StandsFor
 pub mod FlowObjects
 pub mod Cells

@@ -12,7 +12,7 @@ use Rattle.ft_scope.specs.InitialWords.{program_with_words, AreInitialWords}
 use Rattle.ft_dup.specs.Doubles.{IsIntCell}
 use Rattle.ft_meaning.specs.Meaning.{State, Ended, Cut, outputs, meaning}
 use Rattle.ft_meaning.specs.Begins.{Begins}
-use Rattle.ft_compile.specs.InitialWords.{object_with_words}
+use Rattle.ft_types.specs.InitialWords.{object_with_words}
 
 -- the object's run, without a strike and without answers to wild loads, does what the program means
 pub record RunsAsMeant (p : Program) (o : Object) : Type 0 where

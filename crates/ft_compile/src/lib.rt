@@ -4,8 +4,7 @@
 //! out, returns the object of the text's program. It stands for the program: it is spellable and accepted, and whatever
 //! its initial words, its run commits the outputs of the meaning of the program with these words and ends when that
 //! meaning ends. It is the object of a flow of the program, and the linker accepts it as a module. Its definitions:
-//! `specs/InitialWords.antt` (an object with other initial words), `specs/StandsFor.antt` (what stands for a program),
-//! `specs/Emitted.antt` (the object of a flow).
+//! `specs/StandsFor.antt` (what stands for a program), `specs/Emitted.antt` (the object of a flow).
 #![tactic(auto)]
 
 mod cells;

@@ -23,7 +23,7 @@ use Rattle.ft_format.specs.Codes.{base_code, base_type}
 use Rattle.ft_format.specs.Rows.{cell_row, cell_rows, type_rows, reg_row, queue_row, block_row, subst_row, all_regs}
 use Rattle.ft_format.specs.Rows.{all_queue, all_names, spelling}
 use Rattle.ft_format.specs.InstrRecords.{instr_row}
-use Rattle.ft_compile.specs.InitialWords.{begun_with}
+use Rattle.ft_types.specs.InitialWords.{begun_with}
 use Rattle.ft_embed.specs.Cells.{with_word, object_with_word}
 
 -- LISTS

@@ -9,7 +9,7 @@ use Rattle.ft_typing.specs.TypedWord.{HasType}
 use Rattle.ft_typing.specs.Context.{Context}
 use Rattle.ft_typing.specs.Accepted.{Applies, IsAccepted}
 use Rattle.ft_typing.proofs.SameTables.{has_over, start_same, applies_same}
-use Rattle.ft_compile.specs.InitialWords.{begun_with}
+use Rattle.ft_types.specs.InitialWords.{begun_with}
 use Rattle.ft_embed.specs.Cells.{with_word, object_with_word}
 
 -- CELLS

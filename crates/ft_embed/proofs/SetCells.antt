@@ -10,7 +10,7 @@ use Rattle.ft_types.specs.declared.object.Cell.{Cell}
 use Rattle.ft_typing.specs.Accepted.{IsAccepted}
 use Rattle.ft_scope.specs.Resolved.{Program}
 use Rattle.ft_scope.specs.InitialWords.{program_with_words, AreInitialWords}
-use Rattle.ft_compile.specs.InitialWords.{begun_with, cells_with_words, object_with_words}
+use Rattle.ft_types.specs.InitialWords.{begun_with, cells_with_words, object_with_words}
 use Rattle.ft_compile.specs.StandsFor.{initial_word, StandsFor}
 use Rattle.ft_compile.proofs.OtherWords.{own_words, own_initial}
 use Rattle.ft_compile.proofs.Standing.{stands_with}

@@ -8,7 +8,7 @@ use Rattle.ft_format.specs.Format.{Spells}
 use Rattle.ft_format.specs.Broken.{object_of, version_at}
 use Rattle.ft_scope.specs.Resolved.{Program}
 use Rattle.ft_scope.specs.InitialWords.{program_with_words}
-use Rattle.ft_compile.specs.InitialWords.{begun_with}
+use Rattle.ft_types.specs.InitialWords.{begun_with}
 use Rattle.ft_compile.specs.StandsFor.{StandsFor}
 
 -- the cells, with another initial word in cell k

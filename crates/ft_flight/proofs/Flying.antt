@@ -30,7 +30,7 @@ use Rattle.ft_flight.specs.declared.flown.CellOutput.{CellOutput}
 use Rattle.ft_flight.specs.declared.flown.FlightEnd.{FlightEnd}
 use Rattle.ft_flight.specs.States.{state_in}
 use Rattle.ft_flight.specs.Steps.{Took, Ends, done, detected, cut, full, cell_output, outputs_from, status_from}
-use Rattle.ft_flight.specs.Flights.{started, IsBy, IsFlight, HandedOut, HandsOn, IsWhole}
+use Rattle.ft_flight.specs.Flights.{object_with_words, IsBy, IsFlight, HandedOut, HandsOn, IsWhole}
 use Rattle.ft_recover.proofs.Restarts.{begins}
 use Rattle.ft_flight.proofs.NoAnswers.{no_words, none_after}
 use Rattle.ft_flight.proofs.Overlaps.{past, past_long}
@@ -104,7 +104,7 @@ module _ (o : Object) (saved : List ℕ) (strike : Option Strike) (s s' : Flight
     (e : FlightEnd) (new : List CellOutput) (h : IsFlight o strike s cells saved)
     (t : Took o s cells s' cells' steps n count e new) where
   abbrev O : Object
-  O = started o saved
+  O = object_with_words o saved
 
   abbrev S : State
   S = state_in o s cells
@@ -215,11 +215,11 @@ module _ (o : Object) (saved : List ℕ) (strike : Option Strike) (s s' : Flight
       }
 
 -- the words of the start hold an attempt that has not taken a step
-pub flight_first : (o : Object) (s : FlightState) (cells saved : List ℕ) → IsSpellable (started o saved) →
-    IsAccepted (started o saved) →
-    state_in o s cells ≡ start (started o saved) → s.steps ≡ 0 → s.seen ≡ 0 → IsFlight o None s cells saved
+pub flight_first : (o : Object) (s : FlightState) (cells saved : List ℕ) → IsSpellable (object_with_words o saved) →
+    IsAccepted (object_with_words o saved) →
+    state_in o s cells ≡ start (object_with_words o saved) → s.steps ≡ 0 → s.seen ≡ 0 → IsFlight o None s cells saved
 flight_first o s cells saved spellable accepted begun steps seen =
-    let O : Object = started o saved in
+    let O : Object = object_with_words o saved in
     record {
       spellable = spellable;
       accepted = accepted;
@@ -238,7 +238,7 @@ pub flight_struck : (o : Object) (s s' : FlightState) (cells saved : List ℕ) (
     s'.handed ≡ s.handed →
     IsFlight o (Some (record { step = s.steps; site = site; value = value })) s' cells saved
 flight_struck o s s' cells saved site value h struck steps seen handed =
-    let O : Object = started o saved in
+    let O : Object = object_with_words o saved in
     let x : Strike = record { step = s.steps; site = site; value = value } in
     let now : s.steps ≤ s.steps = omega arith in
     let same = before O x no_words s.steps now in
@@ -260,5 +260,5 @@ pub undetected : (o : Object) (saved : List ℕ) (s s' : FlightState) (cells cel
     (e : FlightEnd) (new : List CellOutput) → IsFlight o None s cells saved →
     Took o s cells s' cells' steps n count e new → e ≡ end.Detected → ⊥
 undetected o saved s s' cells cells' steps n count e new h t is =
-    never_detected (started o saved) no_words h.spellable h.accepted (s.steps + n)
+    never_detected (object_with_words o saved) no_words h.spellable h.accepted (s.steps + n)
     (sym (status_on o saved None s s' cells cells' steps n count e new h t) ∙ detected_at e _ _ _ _ _ t.ends is)

@@ -13,30 +13,30 @@ use Rattle.ft_typing.specs.TypedWord.{HasType}
 use Rattle.ft_typing.specs.Context.{Context}
 use Rattle.ft_typing.specs.Accepted.{Applies, IsAccepted}
 use Rattle.ft_typing.proofs.SameTables.{has_over, start_same, applies_same}
-use Rattle.ft_flight.specs.Flights.{started, with_words, MayHold, HasIntCells}
+use Rattle.ft_flight.specs.Flights.{object_with_words, cells_with_words, MayHold, HasIntCells}
 use Rattle.ft_flight.proofs.Started.{as_long}
 
-names_with : (cs : List Cell) (ws : List ℕ) → map name_of (with_words cs ws) ≡ map name_of cs
+names_with : (cs : List Cell) (ws : List ℕ) → map name_of (cells_with_words cs ws) ≡ map name_of cs
 names_with [] ws = refl
 names_with (c ∷ cs) [] = refl
 names_with (c ∷ cs) (w ∷ ws) = ap (λ l. c.name ∷ l) (names_with cs ws)
 
-types_with : (cs : List Cell) (ws : List ℕ) → map basic_of (with_words cs ws) ≡ map basic_of cs
+types_with : (cs : List Cell) (ws : List ℕ) → map basic_of (cells_with_words cs ws) ≡ map basic_of cs
 types_with [] ws = refl
 types_with (c ∷ cs) [] = refl
 types_with (c ∷ cs) (w ∷ ws) = ap (λ l. c.basic ∷ l) (types_with cs ws)
 
 cells_with : (n : ℕ) (cs : List Cell) (ws : List ℕ) → All IsWord ws → All (IsCell n) cs →
-    All (IsCell n) (with_words cs ws)
+    All (IsCell n) (cells_with_words cs ws)
 cells_with n [] ws fit h = h
 cells_with n (c ∷ cs) [] fit h = h
 cells_with n (c ∷ cs) (w ∷ ws) fit h =
     let x = All-head (IsCell n) c cs h in
-    All-cons (IsCell n) (record c { init = w }) (with_words cs ws)
+    All-cons (IsCell n) (record c { init = w }) (cells_with_words cs ws)
     (record { name = x.name; name_length = x.name_length; basic = x.basic; init = All-head IsWord w ws fit })
     (cells_with n cs ws (All-tail IsWord w ws fit) (All-tail (IsCell n) c cs h))
 
-pub spellable_with : (o : Object) (ws : List ℕ) → MayHold o ws → IsSpellable o → IsSpellable (started o ws)
+pub spellable_with : (o : Object) (ws : List ℕ) → MayHold o ws → IsSpellable o → IsSpellable (object_with_words o ws)
 spellable_with o ws m h =
     let long = as_long o.cells ws in
     record {
@@ -62,9 +62,9 @@ spellable_with o ws m h =
       entry = h.entry;
     }
 
-pub accepted_with : (o : Object) (ws : List ℕ) → MayHold o ws → IsAccepted o → IsAccepted (started o ws)
+pub accepted_with : (o : Object) (ws : List ℕ) → MayHold o ws → IsAccepted o → IsAccepted (object_with_words o ws)
 accepted_with o ws m acc =
-    let cs = with_words o.cells ws in
+    let cs = cells_with_words o.cells ws in
     let same = types_with o.cells ws in
     record {
       entry = record {
@@ -80,7 +80,7 @@ accepted_with o ws m acc =
 
 ints_with : (cs : List Cell) (ws : List ℕ) → ((k : ℕ) (x : Cell) → slice_get cs k ≡ Some x → x.basic ≡ int) →
     (k : ℕ) (x : Cell) →
-    slice_get (with_words cs ws) k ≡ Some x → x.basic ≡ int
+    slice_get (cells_with_words cs ws) k ≡ Some x → x.basic ≡ int
 ints_with [] ws h k x f = h k x f
 ints_with (c ∷ cs) [] h k x f = h k x f
 ints_with (c ∷ cs) (w ∷ ws) h zero x f =

@@ -25,39 +25,39 @@ use Rattle.ft_isa.specs.declared.plan.Site.{Site}
 use Rattle.ft_isa.specs.declared.plan.Site.TheVariants.{R, D, PcG, PcB, QAddr, QVal}
 use Rattle.ft_semantics.specs.Strike.{is_there, struck_state, with_word}
 use Rattle.ft_flight.specs.declared.state.FlightState.{FlightState}
-use Rattle.ft_flight.specs.Flights.{started, with_words}
+use Rattle.ft_flight.specs.Flights.{object_with_words, cells_with_words}
 
 module _ (o : Object) (ws : List ℕ) where
-  same_instr : (pc : ℕ) → instr_at (started o ws) pc ≡ instr_at o pc
+  same_instr : (pc : ℕ) → instr_at (object_with_words o ws) pc ≡ instr_at o pc
   same_instr zero = refl
   same_instr (suc i) = refl
 
-  same_advance : (f : Option Instr) (s : State) (w : List Wild) → advance (started o ws) f s w ≡ advance o f s w
+  same_advance : (f : Option Instr) (s : State) (w : List Wild) → advance (object_with_words o ws) f s w ≡ advance o f s w
   same_advance None s w = ap (λ i. if s.pc_green == s.pc_blue then fetch i s w
       else detected s w) (same_instr s.pc_green)
   same_advance (Some i) s w = refl
 
-  same_step : (v : Status) (s : State) (w : List Wild) → step_at (started o ws) v s w ≡ step_at o v s w
+  same_step : (v : Status) (s : State) (w : List Wild) → step_at (object_with_words o ws) v s w ≡ step_at o v s w
   same_step status.Running s w = same_advance s.fetched s w
   same_step status.Done s w = refl
   same_step status.Detected s w = refl
 
   -- the same steps
-  pub same_span : (n : ℕ) (s : State) (w : List Wild) → span (started o ws) n s w ≡ span o n s w
+  pub same_span : (n : ℕ) (s : State) (w : List Wild) → span (object_with_words o ws) n s w ≡ span o n s w
   unfolding span
   same_span zero s w = refl
   same_span (suc n) s w =
-      ap (λ (r : Ran). extended r.outputs (step (started o ws) r.state r.wild)) (same_span n s w)
+      ap (λ (r : Ran). extended r.outputs (step (object_with_words o ws) r.state r.wild)) (same_span n s w)
       ∙ ap (extended (span o n s w).outputs) (same_step (span o n s w).state.status (span o n s w).state
       (span o n s w).wild)
 
-pub as_long : (cs : List Cell) (ws : List ℕ) → length (with_words cs ws) ≡ length cs
+pub as_long : (cs : List Cell) (ws : List ℕ) → length (cells_with_words cs ws) ≡ length cs
 as_long [] ws = refl
 as_long (c ∷ cs) [] = refl
 as_long (c ∷ cs) (w ∷ ws) = ap suc (as_long cs ws)
 
 word_at : (cs : List Cell) (ws : List ℕ) (i : ℕ) → length ws ≡ length cs → i < length ws
-    → get_or ws i 0 ≡ init_or_zero (option_map cell_head_of (slice_get (with_words cs ws) i))
+    → get_or ws i 0 ≡ init_or_zero (option_map cell_head_of (slice_get (cells_with_words cs ws) i))
 word_at [] [] i e below = absurd (omega (arith, below))
 word_at [] (w ∷ ws) i e below = absurd (omega (arith, e))
 word_at (c ∷ cs) [] i e below = absurd (omega (arith, e))
@@ -66,8 +66,8 @@ word_at (c ∷ cs) (w ∷ ws) (suc i) e below = word_at cs ws i (omega (arith, e
 
 -- these words are the cells at the start
 pub cells_start : (o : Object) (ws : List ℕ) → length ws ≡ length o.cells
-    → cells_of ws ≡ tabulate (length (with_words o.cells ws)) cell_address (init_of (started o ws))
-cells_start o ws e = filled ws (length ws) (length (with_words o.cells ws)) (init_of (started o ws)) refl
+    → cells_of ws ≡ tabulate (length (cells_with_words o.cells ws)) cell_address (init_of (object_with_words o ws))
+cells_start o ws e = filled ws (length ws) (length (cells_with_words o.cells ws)) (init_of (object_with_words o ws)) refl
     (e ∙ sym (as_long o.cells ws)) (λ i below. word_at o.cells ws i e below)
 
 -- words 0 and colours 0 are green 0 in each register
@@ -91,7 +91,7 @@ begun m g q cs = record {
 -- words before the first step of a cycle stand for the start
 pub first_is : (o : Object) (g : ℕ) (q : Pending) (ws : List ℕ) → g ≡ entry_address o → q ≡ [] → length ws
     ≡ length o.cells
-    → begun (registers_in (replicate 64 0) (replicate 64 0)) g q (cells_of ws) ≡ start (started o ws)
+    → begun (registers_in (replicate 64 0) (replicate 64 0)) g q (cells_of ws) ≡ start (object_with_words o ws)
 first_is o g q ws here none e =
     ap (λ p. begun (registers_in (replicate 64 0) (replicate 64 0)) g p (cells_of ws)) none
     ∙ ap (λ m. begun m g [] (cells_of ws)) registers_start

@@ -8,6 +8,7 @@ use Rattle.ft_isa.specs.declared.output.Output.{Output}
 use Rattle.ft_isa.specs.declared.plan.Strike.{Strike}
 use Rattle.ft_types.specs.declared.object.Object.{Object}
 use Rattle.ft_types.specs.declared.object.Cell.{Cell}
+use Rattle.ft_types.specs.InitialWords.{cells_with_words, object_with_words}
 use Rattle.ft_types.specs.Spellable.{IsSpellable}
 use Rattle.ft_typing.specs.Accepted.{IsAccepted}
 use Rattle.ft_semantics.specs.Agrees.{IsPrefix}
@@ -18,20 +19,10 @@ use Rattle.ft_flight.specs.declared.flown.CellOutput.{CellOutput}
 use Rattle.ft_flight.specs.States.{state_in}
 use Rattle.ft_flight.specs.Steps.{cell_output}
 
--- the cells with these initial words
-abbrev pub with_words : List Cell → List ℕ → List Cell
-with_words [] ws = []
-with_words (c ∷ cs) [] = c ∷ cs
-with_words (c ∷ cs) (w ∷ ws) = record c { init = w } ∷ with_words cs ws
-
--- the object that begins with these words
-abbrev pub started : Object → List ℕ → Object
-started o words = record o { cells = with_words o.cells words }
-
 -- words that the cells of an object may hold: words of 64 bits, each of its cell's basic type
 pub record MayHold (o : Object) (words : List ℕ) : Type 0 where
   pub fit : All IsWord words
-  pub types : (k : ℕ) (x : Cell) → slice_get (with_words o.cells words) k ≡ Some x → HasType o x.init x.basic
+  pub types : (k : ℕ) (x : Cell) → slice_get (cells_with_words o.cells words) k ≡ Some x → HasType o x.init x.basic
 
 -- each cell is of type `int`
 abbrev pub HasIntCells : Object → Type 0
@@ -44,11 +35,11 @@ IsBy taken x = x.step ≤ taken
 -- The words of a caller hold an attempt at a cycle: the run of the accepted object that begins with the saved words, under at most one
 -- strike, after the steps that the words count.
 pub record IsFlight (o : Object) (strike : Option Strike) (s : FlightState) (cells saved : List ℕ) : Type 0 where
-  pub spellable : IsSpellable (started o saved)
-  pub accepted : IsAccepted (started o saved)
+  pub spellable : IsSpellable (object_with_words o saved)
+  pub accepted : IsAccepted (object_with_words o saved)
   pub by : IfSome strike (IsBy s.steps)
-  pub state : state_in o s cells ≡ struck_before strike s.steps (state_after (started o saved) strike [] s.steps)
-  pub seen : s.seen ≡ length (outputs_after (started o saved) strike [] s.steps)
+  pub state : state_in o s cells ≡ struck_before strike s.steps (state_after (object_with_words o saved) strike [] s.steps)
+  pub seen : s.seen ≡ length (outputs_after (object_with_words o saved) strike [] s.steps)
   pub handed : s.seen ≤ s.handed
 
 -- what was handed out in a cycle: the first outputs of the cycle without a strike, this many, in order and each once

@@ -5,7 +5,7 @@ ghost use Rattle.ft_isa.specs.declared.plan.Strike.{Strike};
 ghost use Rattle.ft_format.specs.Broken.{broken, object_of};
 ghost use Rattle.ft_typing.specs.Accepted.{IsAccepted};
 ghost use Rattle.ft_semantics.specs.State.{start};
-ghost use Rattle.ft_flight.specs.Flights.{HandedOut, HandsOn, IsFlight, IsWhole, MayHold, started};
+ghost use Rattle.ft_flight.specs.Flights.{HandedOut, HandsOn, IsFlight, IsWhole, MayHold, object_with_words};
 ghost use Rattle.ft_flight.specs.States.{state_in};
 ghost use Rattle.ft_flight.specs.Steps.{Took};
 
@@ -30,12 +30,12 @@ pub fn go_on(
         IsFlight (object_of bytes.now) strike state.new cells.new saved }
     ensures hands { (strike : Option Strike) (saved : List ℕ) (given : List Output) →
         IsFlight (object_of bytes.now) strike state.old cells.old saved →
-        HandedOut (started (object_of bytes.now) saved) state.old.handed given →
-        HandsOn (started (object_of bytes.now) saved) state.new.handed result.count given out.new }
+        HandedOut (object_with_words (object_of bytes.now) saved) state.old.handed given →
+        HandsOn (object_with_words (object_of bytes.now) saved) state.new.handed result.count given out.new }
     ensures whole { (strike : Option Strike) (saved : List ℕ) (given : List Output) →
         IsFlight (object_of bytes.now) strike state.old cells.old saved →
-        HandedOut (started (object_of bytes.now) saved) state.old.handed given → result.end ≡ FlightEnd.Done →
-        IsWhole (started (object_of bytes.now) saved) state.new }
+        HandedOut (object_with_words (object_of bytes.now) saved) state.old.handed given → result.end ≡ FlightEnd.Done →
+        IsWhole (object_with_words (object_of bytes.now) saved) state.new }
     ensures struck { (saved : List ℕ) → IsFlight (object_of bytes.now) None state.old cells.old saved → result.end ≢ FlightEnd.Detected }
 {
     let view = View::again(bytes);
@@ -48,11 +48,11 @@ pub fn cycle_on(bytes: &[u8], state: &mut FlightState, cells: &[u64], saved: &mu
     requires as_many { length cells.now ≡ length (object_of bytes.now).cells }
     requires room { length saved.old ≡ length cells.now }
     ensures saved { saved.new ≡ cells.now }
-    ensures start { state_in (object_of bytes.now) state.new cells.now ≡ start (started (object_of bytes.now) cells.now) }
+    ensures start { state_in (object_of bytes.now) state.new cells.now ≡ start (object_with_words (object_of bytes.now) cells.now) }
     ensures none { state.new.handed ≡ 0 }
     ensures flight { IsAccepted (object_of bytes.now) → MayHold (object_of bytes.now) cells.now →
         IsFlight (object_of bytes.now) None state.new cells.now saved.new }
-    ensures handed { HandedOut (started (object_of bytes.now) cells.now) state.new.handed [] }
+    ensures handed { HandedOut (object_with_words (object_of bytes.now) cells.now) state.new.handed [] }
 {
     let view = View::again(bytes);
     cycle(&view, state, cells, saved);
@@ -64,7 +64,7 @@ pub fn again_on(bytes: &[u8], state: &mut FlightState, cells: &mut [u64], saved:
     requires as_many { length saved.now ≡ length (object_of bytes.now).cells }
     requires room { length cells.old ≡ length saved.now }
     ensures cells { cells.new ≡ saved.now }
-    ensures start { state_in (object_of bytes.now) state.new cells.new ≡ start (started (object_of bytes.now) saved.now) }
+    ensures start { state_in (object_of bytes.now) state.new cells.new ≡ start (object_with_words (object_of bytes.now) saved.now) }
     ensures handed { state.new.handed ≡ state.old.handed }
     ensures flight { (strike : Option Strike) → IsFlight (object_of bytes.now) strike state.old cells.old saved.now →
         IsFlight (object_of bytes.now) None state.new cells.new saved.now }

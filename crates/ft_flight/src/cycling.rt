@@ -7,7 +7,7 @@ ghost use Rattle.ft_typing.specs.Accepted.{IsAccepted};
 ghost use Rattle.ft_semantics.specs.State.{start};
 ghost use Rattle.ft_semantics.specs.Strike.{is_there, struck_state};
 ghost use Rattle.ft_machine.specs.Arrays.{cells_of};
-ghost use Rattle.ft_flight.specs.Flights.{HandedOut, IsFlight, MayHold, started};
+ghost use Rattle.ft_flight.specs.Flights.{HandedOut, IsFlight, MayHold, object_with_words};
 ghost use Rattle.ft_flight.specs.States.{state_in};
 
 use crate::plain_queue::PlainQueue;
@@ -20,7 +20,7 @@ use ft_types::Program;
 fn first_state<P: Program>(program: &P, handed: u64) -> FlightState
     requires { IsSpellable (P.object program.now) }
     ensures start { (words : List ℕ) → length words ≡ length (P.object program.now).cells →
-        state_in (P.object program.now) result words ≡ start (started (P.object program.now) words) }
+        state_in (P.object program.now) result words ≡ start (object_with_words (P.object program.now) words) }
     ensures steps { result.steps ≡ 0 }
     ensures seen { result.seen ≡ 0 }
     ensures handed { result.handed ≡ handed }
@@ -60,11 +60,11 @@ pub fn cycle<P: Program>(program: &P, state: &mut FlightState, cells: &[u64], sa
     requires as_many { length cells.now ≡ length (P.object program.now).cells }
     requires room { length saved.old ≡ length cells.now }
     ensures saved { saved.new ≡ cells.now }
-    ensures start { state_in (P.object program.now) state.new cells.now ≡ start (started (P.object program.now) cells.now) }
+    ensures start { state_in (P.object program.now) state.new cells.now ≡ start (object_with_words (P.object program.now) cells.now) }
     ensures none { state.new.handed ≡ 0 }
     ensures flight { IsAccepted (P.object program.now) → MayHold (P.object program.now) cells.now →
         IsFlight (P.object program.now) None state.new cells.now saved.new }
-    ensures handed { HandedOut (started (P.object program.now) cells.now) state.new.handed [] }
+    ensures handed { HandedOut (object_with_words (P.object program.now) cells.now) state.new.handed [] }
 {
     saved.copy_from_slice(cells);
     *state = first_state(program, 0);
@@ -76,7 +76,7 @@ pub fn again<P: Program>(program: &P, state: &mut FlightState, cells: &mut [u64]
     requires as_many { length saved.now ≡ length (P.object program.now).cells }
     requires room { length cells.old ≡ length saved.now }
     ensures cells { cells.new ≡ saved.now }
-    ensures start { state_in (P.object program.now) state.new cells.new ≡ start (started (P.object program.now) saved.now) }
+    ensures start { state_in (P.object program.now) state.new cells.new ≡ start (object_with_words (P.object program.now) saved.now) }
     ensures handed { state.new.handed ≡ state.old.handed }
     ensures flight { (strike : Option Strike) → IsFlight (P.object program.now) strike state.old cells.old saved.now →
         IsFlight (P.object program.now) None state.new cells.new saved.now }

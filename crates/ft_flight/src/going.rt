@@ -3,7 +3,7 @@ ghost use Rattle.std.specs.Prelude.{◌≡◌, ◌≢◌, ◌≤◌, ◌<◌, �
 ghost use Rattle.ft_isa.specs.declared.output.Output.{Output};
 ghost use Rattle.ft_isa.specs.declared.plan.Strike.{Strike};
 ghost use Rattle.ft_types.specs.Spellable.{IsSpellable};
-ghost use Rattle.ft_flight.specs.Flights.{HandedOut, HandsOn, IsFlight, IsWhole, started};
+ghost use Rattle.ft_flight.specs.Flights.{HandedOut, HandsOn, IsFlight, IsWhole, object_with_words};
 ghost use Rattle.ft_flight.specs.Steps.{Ends, IsLimit, Took};
 
 use crate::flown::{CellOutput, FlightEnd, Flown};
@@ -76,12 +76,12 @@ pub fn go<P: Program>(
         IsFlight (P.object program.now) strike state.new cells.new saved }
     ensures hands { (strike : Option Strike) (saved : List ℕ) (given : List Output) →
         IsFlight (P.object program.now) strike state.old cells.old saved →
-        HandedOut (started (P.object program.now) saved) state.old.handed given →
-        HandsOn (started (P.object program.now) saved) state.new.handed result.count given out.new }
+        HandedOut (object_with_words (P.object program.now) saved) state.old.handed given →
+        HandsOn (object_with_words (P.object program.now) saved) state.new.handed result.count given out.new }
     ensures whole { (strike : Option Strike) (saved : List ℕ) (given : List Output) →
         IsFlight (P.object program.now) strike state.old cells.old saved →
-        HandedOut (started (P.object program.now) saved) state.old.handed given → result.end ≡ FlightEnd.Done →
-        IsWhole (started (P.object program.now) saved) state.new }
+        HandedOut (object_with_words (P.object program.now) saved) state.old.handed given → result.end ≡ FlightEnd.Done →
+        IsWhole (object_with_words (P.object program.now) saved) state.new }
     ensures struck { (saved : List ℕ) → IsFlight (P.object program.now) None state.old cells.old saved → result.end ≢ FlightEnd.Detected }
 {
     let most = limit(steps, state.steps, state.seen);

@@ -2,7 +2,6 @@ pub mod Turns
 pub mod SetPairs
 pub mod FineSteps
 pub mod FineBlocks
-pub mod WordLaws
 pub mod Numbers
 pub mod Arrays
 pub mod Lawfulness

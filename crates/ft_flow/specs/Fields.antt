@@ -3,13 +3,12 @@ use Rattle.std.specs.Prelude.{ℕ, suc, ◌-◌, Bool, false, ◌==◌, ◌&&◌
 use Rattle.std.specs.Prelude.{None, option_map, option_and_then, if◌then◌else◌, slice_index_or}
 use Rattle.std.specs.List.{list_all}
 use Rattle.std.specs.Str.{bytes_eq}
-use Rattle.ft_isa.specs.Reading.{state_after, with_digit}
+use Rattle.ft_text.specs.LineWords.{number_of}
 use Rattle.ft_lexer.specs.Bytes.{is_letter, is_name_byte}
 
 -- the number that a word spells: decimal digits without leading zeros, below 2^64
 unfoldable pub number_in : List ℕ → Option ℕ
-number_in word = option_and_then (λ number. number)
-    (state_after (λ number byte. option_map Some (with_digit number byte)) None word)
+number_in word = number_of word
 
 -- a number below 32
 abbrev pub below_32 : ℕ → Option ℕ
@@ -20,20 +19,10 @@ unfoldable pub pair_in : List ℕ → Option ℕ
 pair_in [] = None
 pair_in (byte ∷ bytes) = if byte == 112 then option_and_then below_32 (number_in bytes) else None
 
--- the value of the first word, and the words after it
-abbrev pub taken : {A : Type 0} → (List ℕ → Option A) → List (List ℕ) → Option (A × List (List ℕ))
-taken read [] = None
-taken read (word ∷ words) = option_map (λ a. (a, words)) (read word)
-
 -- the words after this one
 abbrev pub past : List ℕ → List (List ℕ) → Option (List (List ℕ))
 past expected [] = None
 past expected (word ∷ words) = if bytes_eq word expected then Some words else None
-
--- a value, if no word is left
-abbrev pub ended : {A : Type 0} → A → List (List ℕ) → Option A
-ended a [] = Some a
-ended a (word ∷ words) = None
 
 -- whether a word may name a cell: a letter or an underscore, and then letters, digits and underscores, at most 32 in
 -- all

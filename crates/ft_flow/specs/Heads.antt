@@ -5,7 +5,8 @@ use Rattle.std.specs.Option.{is_some}
 use Rattle.std.specs.Str.{bytes_eq}
 use Rattle.ft_scope.specs.CellNames.{array_names}
 use Rattle.ft_flow.specs.LineWords.{line_words}
-use Rattle.ft_flow.specs.Fields.{number_in, taken, past, ended, is_plain_name, index_of, below_32}
+use Rattle.ft_text.specs.LineWords.{taken, ended}
+use Rattle.ft_flow.specs.Fields.{number_in, past, is_plain_name, index_of, below_32}
 use Rattle.ft_flow.specs.Steps.{any_word}
 use Rattle.ft_flow.specs.declared.flow_error.FlowError.{FlowError}
 use Rattle.ft_flow.specs.declared.flow_error.FlowError.TheVariants as errors

@@ -15,7 +15,7 @@ use Rattle.ft_lower.specs.Cutting.{blocks_onto}
 use Rattle.ft_lower.specs.Flow.{Blocks, FlowState, act, goes_on, goes_to, with_cell, step_at, flow_start}
 use Rattle.ft_dup.specs.Doubles.{IsIntCell, words_of}
 use Rattle.ft_compile.specs.FlowObjects.{AreWordsFor}
-use Rattle.ft_compile.specs.InitialWords.{object_with_words}
+use Rattle.ft_types.specs.InitialWords.{object_with_words}
 use Rattle.ft_flow.specs.Texts.{FlowText}
 
 -- what a step does; a spare is left alone

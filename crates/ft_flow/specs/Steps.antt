@@ -6,7 +6,8 @@ use Rattle.ft_isa.specs.Operations.{op_in}
 use Rattle.ft_isa.specs.declared.op.Op.{Op}
 use Rattle.ft_lower.specs.declared.step3.Step3.{Step3}
 use Rattle.ft_lower.specs.declared.step3.Step3.TheVariants as steps
-use Rattle.ft_flow.specs.Fields.{number_in, pair_in, taken, past, ended, index_of}
+use Rattle.ft_text.specs.LineWords.{taken, ended}
+use Rattle.ft_flow.specs.Fields.{number_in, pair_in, past, index_of}
 
 -- the names that steps may use: of cells and arrays, each with its first cell and its length, which is 0 for a cell;
 -- the

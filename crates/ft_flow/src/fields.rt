@@ -2,7 +2,8 @@
 ghost use Rattle.std.specs.Prelude.{◌≡◌, ◌<◌, option_map, map, IfSome};
 ghost use Rattle.std.specs.Str.{bytes_eq};
 ghost use Rattle.ft_flow.specs.LineWords.{line_words};
-ghost use Rattle.ft_flow.specs.Fields.{ended, index_of, label_in, label_name, number_in, pair_in, past, taken};
+ghost use Rattle.ft_text.specs.LineWords.{ended, taken};
+ghost use Rattle.ft_flow.specs.Fields.{index_of, label_in, label_name, number_in, pair_in, past};
 ghost use Rattle.ft_flow.specs.Steps.{any_word};
 
 use crate::limits::PAIRS;

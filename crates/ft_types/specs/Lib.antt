@@ -2,3 +2,4 @@ pub mod Objects
 pub mod NodeRows
 pub mod Spellable
 pub mod Texts
+pub mod InitialWords

@@ -2,8 +2,9 @@
 //!
 //! The crate promises that an object returns its parts exactly as its tables hold them. It defines the parts of an
 //! object (`specs/Objects.antt`), the numbers that encode a node (`specs/NodeRows.antt`), which objects can be spelled
-//! in bytes (`specs/Spellable.antt`) and the line of an output (`specs/Texts.antt`). A copy of a program is the object
-//! that the program represents, or that object with other instructions.
+//! in bytes (`specs/Spellable.antt`), the line of an output (`specs/Texts.antt`) and an object with other initial words
+//! (`specs/InitialWords.antt`). A copy of a program is the object that the program represents, or that object with other
+//! instructions.
 #![tactic(auto)]
 
 mod copying;

@@ -1,5 +1,5 @@
 use Rattle.std.proofs.Common.{◌≡◌, option_map, ◌++◌, length}
-use Rattle.ft_asm.specs.Words.{words_of}
+use Rattle.ft_text.specs.LineWords.{words_of}
 use Rattle.ft_asm.specs.Forms.{rows_in}
 use Rattle.ft_asm.proofs.code_lines.rows_of.Given as goal
 

@@ -1,4 +1,4 @@
-use Rattle.ft_asm.proofs.WordLaws.{number_is}
+use Rattle.ft_text.proofs.NumberWords.{number_is}
 use Rattle.ft_asm.proofs.fields.number_of.Goals as goal
 
 pub returns : goal.returns

@@ -3,7 +3,7 @@ use Rattle.ft_types.specs.Spellable.{IsSpellable}
 use Rattle.ft_format.specs.Broken.{object_of}
 use Rattle.ft_format.proofs.ReadWhole.{read_spells}
 use Rattle.ft_flight.specs.declared.flown.FlightEnd.TheVariants as end
-use Rattle.ft_flight.specs.Flights.{HandedOut, IsFlight, IsWhole, started}
+use Rattle.ft_flight.specs.Flights.{HandedOut, IsFlight, IsWhole, object_with_words}
 use Rattle.ft_flight.proofs.calls.go_on.Goals as goal
 
 pub go-requires : goal.go-requires
@@ -13,6 +13,6 @@ go-requires c = subst (λ (ws : List ℕ). IsSpellable (object_of ws)) (sym c.ag
 pub returns-clause-whole : goal.returns-clause-whole
 returns-clause-whole c = λ strike saved given.
     subst (λ (ws : List ℕ). IsFlight (object_of ws) strike c.args.state.now c.args.cells.now saved →
-    HandedOut (started (object_of ws) saved) c.args.state.now.handed given → c.go.result.end ≡ end.Done →
-    IsWhole (started (object_of ws) saved) c.go.new.state) c.again-view.ensures.seen
+    HandedOut (object_with_words (object_of ws) saved) c.args.state.now.handed given → c.go.result.end ≡ end.Done →
+    IsWhole (object_with_words (object_of ws) saved) c.go.new.state) c.again-view.ensures.seen
     (c.go.ensures.whole strike saved given)

@@ -1,8 +1,8 @@
 use Rattle.std.proofs.Common.{◌-◌, length, take, drop, sym, ◌∙◌, ap}
 use Rattle.std.proofs.lemmas.List.{take_rest}
-use Rattle.ft_flow.specs.LineWords.{words_of}
-use Rattle.ft_flow.proofs.WordLaws.{no_word, from_word, begins_word, word_ends, word_only}
-use Rattle.ft_flow.proofs.words.first_word.Goals as goal
+use Rattle.ft_text.specs.LineWords.{words_of}
+use Rattle.ft_text.proofs.LineWordLaws.{no_word, from_word, begins_word, word_ends, word_only}
+use Rattle.ft_text.proofs.line_words.next_word.Goals as goal
 
 pub returns-in_default-clause-words : goal.returns-in_default-clause-words
 returns-in_default-clause-words c = no_word c.args.text.now (sym c.first_part.ensures ∙ c.in_default.is)

@@ -1,6 +1,6 @@
-//! The words of a line, one by one.
+//! The words of a line that spaces and tabs separate, one by one.
 ghost use Rattle.std.specs.Prelude.{◌≡◌, ◌∷◌, [], position, not, length, ◌<◌, IfSome, MatchOption};
-ghost use Rattle.ft_asm.specs.Words.{is_blank, words_of};
+ghost use Rattle.ft_text.specs.LineWords.{is_blank, words_of};
 
 /// Whether a byte is a space or a tab.
 fn is_blank(byte: u8) -> bool
@@ -23,8 +23,8 @@ fn first_part(text: &[u8]) -> Option<usize>
     text.iter().position(|byte| !is_blank(*byte))
 }
 
-/// The first word of a text, and the text after it; `None` if it has no word.
-pub(crate) fn next_word(text: &[u8]) -> Option<(&[u8], &[u8])>
+/// The first word of a text, and the text after it; `None` if it has no word. Words are separated by spaces and tabs.
+pub fn next_word(text: &[u8]) -> Option<(&[u8], &[u8])>
     ensures words { MatchOption result (words_of text.now ≡ []) (λ p. words_of text.now ≡ p.0.now ∷ words_of p.1.now) }
     ensures shorter { IfSome result (λ p. length p.1.now < length text.now) }
 {

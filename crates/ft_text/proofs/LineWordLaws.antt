@@ -10,10 +10,10 @@ use Rattle.std.proofs.lemmas.List.Quantifiers.{position-Some}
 use Rattle.std.proofs.lemmas.Option.{cond_some}
 use Rattle.ft_text.specs.Lines.{with_byte}
 use Rattle.ft_text.proofs.Texts.{missing}
-use Rattle.ft_asm.proofs.WordLaws.{some_step}
-use Rattle.ft_flow.specs.LineWords.{is_blank, pieces_of, with_word, with_bytes, words_of}
+use Rattle.ft_text.specs.LineWords.{is_blank, pieces_of, with_word, with_bytes, words_of}
 
-kept_word : (w : List ℕ) (ws : List (List ℕ)) → 0 < length w → with_word w ws ≡ w ∷ ws
+-- a word that is not empty is kept
+pub kept_word : (w : List ℕ) (ws : List (List ℕ)) → 0 < length w → with_word w ws ≡ w ∷ ws
 kept_word [] ws h = absurd (omega arith)
 kept_word (b ∷ bs) ws h = refl
 
@@ -83,6 +83,11 @@ begins_word text start e =
       drop-cons text start 0 h.0,
       not-true (is_blank (get_or text start 0)) h.1,
     )
+
+-- a byte that is no blank belongs to the word
+pub some_step : (t : Bool) (p : ℕ) → t ≡ false → 0 < cond (not t) (1 + p) 0
+some_step true p e = absurd cc
+some_step false p e = omega arith
 
 -- if the first word ends at a blank, the words of the text are this word and those after the blank
 pub word_ends : (text : List ℕ) (x : ℕ) (xs : List ℕ) (at : ℕ) → text ≡ x ∷ xs → is_blank x ≡ false →
