@@ -1,5 +1,6 @@
 //! A sink that buffers pieces and passes them to a writer in larger ones.
 ghost use Rattle.std.specs.Prelude.{◌≡◌, ◌≢◌, ◌≤◌, ◌+◌, ◌++◌, [], length, take, drop, None, Some, IsTrue, IfOk, IfErr, OnOk, OnErr};
+ghost use Rattle.std.specs.Io.KnownBytes.{Appends};
 ghost use Rattle.ft_edge.specs.Calls.{next_count};
 ghost use Rattle.ft_edge.specs.Prefixes.{AddsFront};
 ghost use Rattle.ft_edge.specs.Recording.{accepted, recorded_writer, Follows};
@@ -62,6 +63,9 @@ impl<W: Write + Drop> GatheringSink<W> {
         ensures err { OnErr result.0 (self.gathered.items ≢ []) }
         ensures front { IsFront (accepted result.1) (written_to self) }
         ensures told { Follows W.contents (sink_writer self) result.1 }
+
+        // If the writer reveals its contents, they grew by what was gathered.
+        ensures rest { OnOk result.0 (Appends (W.contents (recorded_writer (sink_writer self))) (W.contents (recorded_writer result.1)) self.gathered.items) }
     {
         let mut sink = self;
         if sink.gathered.is_empty() {
