@@ -65,7 +65,8 @@ impl<W: Write + Drop> GatheringSink<W> {
         ensures told { Follows W.contents (sink_writer self) result.1 }
 
         // If the writer reveals its contents, they grew by what was gathered.
-        ensures rest { OnOk result.0 (Appends (W.contents (recorded_writer (sink_writer self))) (W.contents (recorded_writer result.1)) self.gathered.items) }
+        ensures rest { OnOk result.0 (Appends (W.contents (recorded_writer (sink_writer self))) (W.contents (recorded_writer result.1))
+            self.gathered.items) }
     {
         let mut sink = self;
         if sink.gathered.is_empty() {

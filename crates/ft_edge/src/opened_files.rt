@@ -165,7 +165,8 @@ impl<S: Opens> OpenedFiles<S> {
         requires { into.old.items ≡ [] }
         ensures system { self.new.system ≡ self.old.system }
         ensures loads { LoadsStream (S.content self.old.system name.now) limit into.new.items result }
-        ensures heard { LoadsHeard (S.content self.old.system name.now) self.old.heard.files self.new.heard.files name.now limit into.new.items result }
+        ensures heard { LoadsHeard (S.content self.old.system name.now) self.old.heard.files self.new.heard.files name.now limit
+            into.new.items result }
     {
         match self.system.open_to_read(name) {
             Ok(mut file) => {
