@@ -1,5 +1,6 @@
 -- What is heard of a file in several reads, and the files that agree with it.
-use Rattle.std.proofs.Common.{◌≡◌, ℕ, ◌<◌, arith, Bool, true, false, ◌||◌, List, [], ◌∷◌, ◌++◌, length, Some, refl, ap}
+use Rattle.std.proofs.Common.{◌≡◌, ℕ, ◌<◌, arith, Bool, true, false, ◌||◌, List, [], ◌∷◌, ◌++◌, length, Option, Some}
+use Rattle.std.proofs.Common.{refl, ap}
 use Rattle.std.proofs.Common.{subst, ◌∙◌, append_assoc, append-nil, length-append, Result, Ok, Err, inl, inr}
 use Rattle.ft_history.specs.Files.{HeardFile, gives, gave}
 use Rattle.ft_edge.specs.Loads.{Files}
@@ -37,14 +38,17 @@ gave_some files [] h = absurd (omega arith)
 gave_some files (b ∷ bs) h = refl
 
 -- what a load returns is what the files have that agree with all that was heard
-pub heard_loads : (r : Result Load LoadFault) (old new : List HeardFile) (name : List ℕ) (limit : ℕ) (into : List ℕ)
+pub heard_loads : (known : Option (List ℕ)) (r : Result Load LoadFault) (old new : List HeardFile) (name : List ℕ)
+    (limit : ℕ) (into : List ℕ)
     (files : Files)
-    → LoadsHeard old new name limit into r → Agree new files → Agree old files × LoadsFrom files name limit into r
-heard_loads (Ok Whole) old new name limit into files h agree =
-    let a = subst (λ heard. Agree heard files) h agree in
+    → LoadsHeard known old new name limit into r → Agree new files → Agree old files × LoadsFrom files name limit into r
+heard_loads known (Ok Whole) old new name limit into files h agree =
+    let a = subst (λ heard. Agree heard files) h.1.heard agree in
     (a.1, a.0.found ∙ ap (λ rest. Some (into ++ rest)) (a.0.whole refl) ∙ ap Some (append-nil into))
-heard_loads (Ok TooLong) old new name limit into files (bytes, (h, longer)) agree =
-    let a = subst (λ heard. Agree heard files) h agree in (
+heard_loads known (Ok TooLong) old new name limit into files h agree =
+    let bytes = h.1.0 in
+    let longer = h.1.2 in
+    let a = subst (λ heard. Agree heard files) h.1.1.heard agree in (
       a.1,
       record {
         bytes = bytes ++ a.0.rest;
@@ -52,7 +56,7 @@ heard_loads (Ok TooLong) old new name limit into files (bytes, (h, longer)) agre
         longer = omega (arith, longer, length-append bytes a.0.rest);
       },
     )
-heard_loads (Err e) old new name limit into files (inl h) agree = (subst (λ heard. Agree heard files) h agree, tt)
-heard_loads (Err e) old new name limit into files (inr (bytes, h)) agree =
-    let a = subst (λ heard. Agree heard files) h agree in
+heard_loads known (Err e) old new name limit into files (inl h) agree = (subst (λ heard. Agree heard files) h agree, tt)
+heard_loads known (Err e) old new name limit into files (inr h) agree =
+    let a = subst (λ heard. Agree heard files) h.1.1.heard agree in
     (a.1, tt)

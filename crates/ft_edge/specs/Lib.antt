@@ -8,6 +8,7 @@ pub mod Prefixes
 pub mod Takes
 pub mod StdinTakes
 pub mod Streams
+pub mod Recording
 pub mod Gathered
 pub mod FolderFailures
 pub mod Calls

@@ -1,16 +1,12 @@
--- What reading from and writing to a stream does, if the stream reveals its bytes.
+-- What reading from a stream does, if the stream reveals its bytes.
 use Rattle.std.specs.Prelude.{◌≡◌, ℕ, ◌-◌, ◌<◌, ◌≤◌, List, length, take, sum, All, Option, Result, Ok, Err}
-use Rattle.std.specs.Io.KnownBytes.{Consumes, Appends}
+use Rattle.std.specs.Io.KnownBytes.{Consumes}
 use Rattle.ft_edge.specs.Told.{append_told}
 use Rattle.ft_edge.specs.Logs.{SourceLog}
 
 -- at most this many bytes were read
 abbrev pub ConsumesAtMost : Option (List ℕ) → Option (List ℕ) → ℕ → Type 0
 ConsumesAtMost old new most = (bytes : List ℕ) × Consumes old new bytes × (length bytes ≤ most)
-
--- a prefix of the bytes was written
-abbrev pub AppendsFront : Option (List ℕ) → Option (List ℕ) → List ℕ → Type 0
-AppendsFront old new bytes = (count : ℕ) × Appends old new (take count bytes)
 
 -- how many bytes a take returned: none if it failed
 abbrev pub given : {E : Type 0} → Result ℕ E → ℕ

@@ -1,32 +1,22 @@
 //! Files of the system, by path.
-ghost use Rattle.std.specs.Prelude.{◌≡◌, ◌≤◌, ◌<◌, ◌+◌, [], true, false, length, take, drop, None, Ok, IfOk, IfSome, OnOk, OnErr};
-ghost use Rattle.ft_history.specs.Files.{gave, gives};
-ghost use Rattle.ft_edge.specs.Heard.{HeardMore, HeardLonger, LoadsHeard};
-ghost use Rattle.std.specs.Io.KnownBytes.{Consumes, Keeps, IsAtEnd};
-ghost use Rattle.ft_edge.specs.Loads.{LoadsStream};
-ghost use Rattle.ft_edge.specs.Streams.{ConsumesAtMost};
+ghost use Rattle.std.specs.Prelude.{◌≡◌, ◌≤◌, [], None};
+ghost use Rattle.ft_edge.specs.Heard.{LoadsHeard};
 
-use crate::opens::{Opens, SystemFiles};
-use crate::system::read_past;
+use crate::opened_files::OpenedFiles;
+use crate::opens::SystemFiles;
 use crate::{Load, LoadFault, Shelf};
-use ft_history::Heard;
 use std::alloc::Global;
-use std::io::Read;
 use std::marker::Model;
 use std::rt::Files;
-
-/// The maximum size of one read in bytes.
-const PIECE: usize = 131_072;
 
 /// A shelf with the files of the system, by path. It does not reveal them. A file that is missing or cannot be read is
 /// a failure, and the count of failures saturates at 2^64 - 1.
 #[derive(Drop)]
 pub struct FolderShelf<R: Files> {
-    system: SystemFiles<R>,
+    files: OpenedFiles<SystemFiles<R>>,
     alloc: Global,
     failures: u64,
     failed: Option<String>,
-    heard: Heard,
 }
 
 impl<R: Files> Model for FolderShelf<R> {
@@ -35,147 +25,7 @@ impl<R: Files> Model for FolderShelf<R> {
 
     ghost Value = { FolderFailures };
 
-    ghost view = { λ s. record { count = s.failures; failed_name = known_text s.failed; heard = s.heard.files } };
-}
-
-/// Allocates memory for `size` bytes, or for `limit` if that is less, plus one byte, so that a read can find the end.
-fn reserve_whole(into: &mut Vec<u8>, limit: usize, size: usize) -> Result<(), LoadFault>
-    ensures { into.new.items ≡ into.old.items }
-{
-    match size.min(limit).checked_add(1) {
-        Some(room) => into.reserve_exact(room).map_err(|_| LoadFault::NoMemory),
-        None => Err(LoadFault::NoMemory),
-    }
-}
-
-/// If the vector has no room past its filled part, adds some: at most one piece, never beyond `limit` + 1 bytes, and
-/// not beyond `size` + 1 while fewer than `size` are filled.
-fn make_room(into: &mut Vec<u8>, filled: usize, limit: usize, size: usize) -> Result<(), LoadFault>
-    requires few { filled ≤ limit }
-    requires part { filled ≤ length into.old.items }
-    requires short { length into.old.items ≤ limit + 1 }
-    ensures front { take filled into.new.items ≡ take filled into.old.items }
-    ensures room { OnOk result (filled < length into.new.items) }
-    ensures part { filled ≤ length into.new.items }
-    ensures within { length into.new.items ≤ limit + 1 }
-{
-    if filled < into.len() {
-        return Ok(());
-    }
-    let left = if filled < size { size - filled } else { PIECE };
-    let last = (limit - filled).min(left).min(PIECE - 1) + filled;
-    match last.checked_add(1) {
-        Some(end) => into.resize(end, 0).map_err(|_| LoadFault::NoMemory),
-        None => Err(LoadFault::NoMemory),
-    }
-}
-
-/// Reads once, into the vector's room past its filled part.
-fn read_more<F: Read>(
-    file: &mut F,
-    heard: &mut Heard,
-    filled: usize,
-    limit: usize,
-    size: usize,
-    into: &mut Vec<u8>,
-) -> Result<usize, LoadFault>
-    requires few { filled ≤ limit }
-    requires part { filled ≤ length into.old.items }
-    requires short { length into.old.items ≤ limit + 1 }
-    ensures front { take filled into.new.items ≡ take filled into.old.items }
-    ensures fits { IfOk result (λ count. filled + count ≤ length into.new.items) }
-    ensures within { length into.new.items ≤ limit + 1 }
-    ensures bytes { IfOk result (λ count. Consumes (F.remaining file.old) (F.remaining file.new) (take count (drop filled into.new.items))) }
-    ensures end { IfOk result (λ count. count ≡ 0 → IsAtEnd (F.remaining file.new)) }
-    ensures err { OnErr result (Keeps (F.remaining file.old) (F.remaining file.new)) }
-    ensures heard { IfOk result (λ count. heard.new.files ≡ gave heard.old.files (take count (drop filled into.new.items))) }
-    ensures silent { OnErr result (heard.new.files ≡ heard.old.files) }
-{
-    make_room(into, filled, limit, size)?;
-    match read_past(file, heard, into.as_mut_slice(), filled) {
-        Ok(count) => Ok(count),
-        Err(_) => Err(LoadFault::Failed),
-    }
-}
-
-/// Reads a file to its end, or to one byte past the limit, into the vector. `size` is what the system reports: memory
-/// for that many bytes, or up to the limit, is allocated at once, and the vector grows piece by piece. If the file is
-/// too long or a read fails, the vector holds what was read, followed by unused room.
-fn fill<F: Read>(
-    file: &mut F,
-    heard: &mut Heard,
-    limit: usize,
-    size: usize,
-    into: &mut Vec<u8>,
-) -> Result<Load, LoadFault>
-    requires { into.old.items ≡ [] }
-    ensures within { result ≡ Ok Load.Whole → length into.new.items ≤ limit }
-    ensures whole { result ≡ Ok Load.Whole →
-        IfSome (F.remaining file.old) (λ bytes. into.new.items ≡ bytes) }
-    ensures longer { result ≡ Ok Load.TooLong →
-        IfSome (F.remaining file.old) (λ bytes. limit < length bytes) }
-    ensures read { ConsumesAtMost (F.remaining file.old) (F.remaining file.new) (limit + 1) }
-    ensures heard_whole { result ≡ Ok Load.Whole → heard.new.files ≡ gives heard.old.files into.new.items true }
-    ensures heard_longer { result ≡ Ok Load.TooLong → HeardLonger heard.old.files heard.new.files limit }
-    ensures heard_part { OnErr result (HeardMore heard.old.files heard.new.files) }
-{
-    reserve_whole(into, limit, size)?;
-    let mut filled = 0;
-    while filled <= limit {
-        let count = read_more(file, heard, filled, limit, size, into)?;
-        if count == 0 {
-            into.truncate(filled);
-            return Ok(Load::Whole);
-        }
-        filled += count;
-    }
-    Ok(Load::TooLong)
-}
-
-/// Loads an open file.
-fn load_from<F: Read>(
-    file: &mut F,
-    heard: &mut Heard,
-    limit: usize,
-    size: usize,
-    into: &mut Vec<u8>,
-) -> Result<Load, LoadFault>
-    requires { into.old.items ≡ [] }
-    ensures loads { LoadsStream (F.remaining file.old) limit into.new.items result }
-    ensures read { ConsumesAtMost (F.remaining file.old) (F.remaining file.new) (limit + 1) }
-    ensures heard_whole { result ≡ Ok Load.Whole → heard.new.files ≡ gives heard.old.files into.new.items true }
-    ensures heard_longer { result ≡ Ok Load.TooLong → HeardLonger heard.old.files heard.new.files limit }
-    ensures heard_part { OnErr result (HeardMore heard.old.files heard.new.files) }
-{
-    match fill(file, heard, limit, size, into) {
-        Ok(Load::Whole) => Ok(Load::Whole),
-        answer => {
-            into.clear();
-            answer
-        }
-    }
-}
-
-/// Opens the file with this name, and loads it.
-fn load_at<S: Opens>(
-    system: &S,
-    name: &str,
-    heard: &mut Heard,
-    limit: usize,
-    into: &mut Vec<u8>,
-) -> Result<Load, LoadFault>
-    requires { into.old.items ≡ [] }
-    ensures loads { LoadsStream (S.content system.now name.now) limit into.new.items result }
-    ensures heard { LoadsHeard heard.old.files heard.new.files name.now limit into.new.items result }
-{
-    match system.open_to_read(name) {
-        Ok(mut file) => {
-            heard.opened(name.as_bytes());
-            let size = system.reported_size(&file);
-            load_from(&mut file, heard, limit, size, into)
-        }
-        Err(_) => Err(LoadFault::Failed),
-    }
+    ghost view = { λ s. record { count = s.failures; failed_name = known_text s.failed; heard = s.files.heard.files } };
 }
 
 impl<R: Files> FolderShelf<R> {
@@ -186,11 +36,10 @@ impl<R: Files> FolderShelf<R> {
         ensures { result ≡ no_failures }
     {
         FolderShelf {
-            system: SystemFiles { rt },
+            files: OpenedFiles::new(SystemFiles { rt }),
             alloc,
             failures: 0,
             failed: None,
-            heard: Heard::new(),
         }
     }
 }
@@ -213,13 +62,13 @@ impl<R: Files> Shelf for FolderShelf<R> {
         ensures cause { LoadCause (folder_log self.old) (folder_log self.new) name.now result }
 
         // What was heard: the file's bytes and its end, or more bytes than the limit.
-        ensures heard { LoadsHeard self.old.heard self.new.heard name.now limit into.new.items result }
+        ensures heard { LoadsHeard None self.old.heard self.new.heard name.now limit into.new.items result }
     {
         let copy = match String::from_str(self.alloc, name) {
             Ok(copy) => copy,
             Err(_) => return Err(LoadFault::NoMemory),
         };
-        let answer = load_at(&self.system, name, &mut self.heard, limit, into);
+        let answer = self.files.load(name, limit, into);
         if let Err(LoadFault::Failed) = answer {
             self.failures = self.failures.saturating_add(1);
             self.failed = Some(copy);

@@ -1,7 +1,9 @@
 //! A sink that buffers pieces and passes them to a writer in larger ones.
 ghost use Rattle.std.specs.Prelude.{◌≡◌, ◌≢◌, ◌≤◌, ◌+◌, ◌++◌, [], length, take, drop, None, Some, IsTrue, IfOk, IfErr, OnOk, OnErr};
+ghost use Rattle.std.specs.Io.KnownBytes.{Appends};
 ghost use Rattle.ft_edge.specs.Calls.{next_count};
 ghost use Rattle.ft_edge.specs.Prefixes.{AddsFront};
+ghost use Rattle.ft_edge.specs.Recording.{accepted, recorded_writer, Follows};
 
 use crate::writing::{put_to, write_front};
 use crate::{Failed, Recorded, Sink};
@@ -28,6 +30,7 @@ impl<W: Write + Drop> GatheringSink<W> {
     /// A sink over this writer. The room is reserved here, so that no put allocates.
     pub fn new(alloc: Global, writer: W) -> Result<GatheringSink<W>, NoMemory>
         ensures empty { IfOk result (λ sink. written_to sink ≡ []) }
+        ensures told { IfOk result (λ sink. recorded_writer (sink_writer sink) ≡ writer) }
         ensures count { IfOk result (λ sink. sink.failures ≡ 0) }
     {
         match Vec::with_capacity(alloc, ROOM) {
@@ -43,6 +46,7 @@ impl<W: Write + Drop> GatheringSink<W> {
     /// Flushes the buffer, and returns whether the writer accepted all of it. The rest stays in the buffer.
     fn hand_on(&mut self) -> bool
         ensures kept { written_to self.new ≡ written_to self.old }
+        ensures told { Follows W.contents (sink_writer self.old) (sink_writer self.new) }
         ensures all { IsTrue result → self.new.gathered.items ≡ [] }
         ensures some { self.new.gathered.items ≡ [] → IsTrue result }
         ensures count { self.new.failures ≡ self.old.failures }
@@ -55,9 +59,14 @@ impl<W: Write + Drop> GatheringSink<W> {
     /// Flushes the buffer, and returns the writer, which accepted a prefix of the written bytes if the flush failed. It
     /// does not fail if the buffer is empty.
     pub fn finish(self) -> (Result<(), Failed>, Recorded<W>)
-        ensures ok { OnOk result.0 (result.1.taken.bytes ≡ written_to self) }
+        ensures ok { OnOk result.0 (accepted result.1 ≡ written_to self) }
         ensures err { OnErr result.0 (self.gathered.items ≢ []) }
-        ensures front { IsFront result.1.taken.bytes (written_to self) }
+        ensures front { IsFront (accepted result.1) (written_to self) }
+        ensures told { Follows W.contents (sink_writer self) result.1 }
+
+        // If the writer reveals its contents, they grew by what was gathered.
+        ensures rest { OnOk result.0 (Appends (W.contents (recorded_writer (sink_writer self))) (W.contents (recorded_writer result.1))
+            self.gathered.items) }
     {
         let mut sink = self;
         if sink.gathered.is_empty() {
@@ -72,7 +81,7 @@ impl<W: Write + Drop> GatheringSink<W> {
     /// Returns the writer and discards the buffer: nothing more is written.
     pub fn discard(self) -> Recorded<W>
         ensures writer { sink_writer self ≡ result }
-        ensures front { IsFront result.taken.bytes (written_to self) }
+        ensures front { IsFront (accepted result) (written_to self) }
     {
         let GatheringSink {
             out,
@@ -98,6 +107,7 @@ impl<W: Write + Drop> GatheringSink<W> {
     fn put_apart(&mut self, bytes: &[u8]) -> Result<(), Failed>
         ensures gathers { OnOk result (written_to self.new ≡ written_to self.old ++ bytes.now) }
         ensures front { OnErr result (AddsFront (written_to self.old) (written_to self.new) bytes.now) }
+        ensures told { Follows W.contents (sink_writer self.old) (sink_writer self.new) }
         ensures count { self.old.failures ≤ self.new.failures }
         ensures same_count { OnOk result (self.new.failures ≡ self.old.failures) }
         ensures counted { OnErr result (self.new.failures ≡ next_count self.old.failures) }
@@ -117,6 +127,7 @@ impl<W: Write + Drop> GatheringSink<W> {
     fn gather(&mut self, bytes: &[u8]) -> Result<(), Failed>
         ensures gathers { OnOk result (written_to self.new ≡ written_to self.old ++ bytes.now) }
         ensures front { OnErr result (AddsFront (written_to self.old) (written_to self.new) bytes.now) }
+        ensures told { Follows W.contents (sink_writer self.old) (sink_writer self.new) }
         ensures count { self.old.failures ≤ self.new.failures }
         ensures same_count { OnOk result (self.new.failures ≡ self.old.failures) }
         ensures counted { OnErr result (self.new.failures ≡ next_count self.old.failures) }
@@ -148,6 +159,7 @@ impl<W: Write + Drop> Sink for GatheringSink<W> {
     fn put(&mut self, bytes: &[u8]) -> Result<(), Failed>
         ensures gathers { OnOk result (written_to self.new ≡ written_to self.old ++ bytes.now) }
         ensures front { OnErr result (AddsFront (written_to self.old) (written_to self.new) bytes.now) }
+        ensures told { Follows W.contents (sink_writer self.old) (sink_writer self.new) }
         ensures count { self.old.failures ≤ self.new.failures }
         ensures same_count { OnOk result (self.new.failures ≡ self.old.failures) }
         ensures counted { OnErr result (self.new.failures ≡ next_count self.old.failures) }

@@ -3,7 +3,8 @@
 //! The crate promises how each call changes known content; that a load, a put or a take fails only if its count of
 //! failures rises or memory runs out; and exactly what each in-memory implementation returns. Its definitions:
 //! `specs/Causes.antt` and `specs/Loads.antt` for the traits, `specs/Calls.antt` and the `Memory` files for the
-//! in-memory implementations, and `specs/Streams.antt` for those over the system.
+//! in-memory implementations, and `specs/Streams.antt`, `specs/Heard.antt` and `specs/Recording.antt` for those over the
+//! system.
 #![tactic(auto)]
 
 mod counter;
@@ -15,6 +16,7 @@ mod mem_shelf;
 mod mem_sink;
 mod mem_source;
 mod null_sink;
+mod opened_files;
 mod opens;
 mod putting;
 mod recorded;

@@ -2,6 +2,7 @@
 ghost use Rattle.std.specs.Prelude.{◌≡◌, [], Some};
 ghost use Rattle.std.specs.Io.{WritesAtMost};
 ghost use Rattle.std.specs.Io.KnownBytes.{Keeps, WriteAppends};
+ghost use Rattle.ft_edge.specs.Recording.{accepted, recorded_writer};
 
 use ft_history::Taken;
 use std::io;
@@ -11,13 +12,14 @@ use std::io::Write;
 #[derive(Drop)]
 pub struct Recorded<W: Write + Drop> {
     out: W,
-    pub taken: Taken,
+    taken: Taken,
 }
 
 impl<W: Write + Drop> Recorded<W> {
     /// Nothing was written so far.
     pub fn new(out: W) -> Recorded<W>
-        ensures { result.taken.bytes ≡ [] }
+        ensures empty { accepted result ≡ [] }
+        ensures writer { recorded_writer result ≡ out }
     {
         Recorded {
             out,
@@ -27,13 +29,13 @@ impl<W: Write + Drop> Recorded<W> {
 }
 
 impl<W: Write + Drop> Write for Recorded<W> {
-    ghost contents = { λ writer. Some writer.taken.bytes };
+    ghost contents = { λ writer. Some (accepted writer) };
 
     // What is noted is what the write accepted.
     fn write(&mut self, buf: &[u8]) -> io::Result<usize>
         ensures bound { WritesAtMost result buf.now }
-        ensures bytes { WriteAppends (Some self.old.taken.bytes) (Some self.new.taken.bytes) result buf.now }
-        ensures told { WriteAppends (W.contents self.old.out) (W.contents self.new.out) result buf.now }
+        ensures bytes { WriteAppends (Some (accepted self.old)) (Some (accepted self.new)) result buf.now }
+        ensures told { WriteAppends (W.contents (recorded_writer self.old)) (W.contents (recorded_writer self.new)) result buf.now }
     {
         match self.out.write(buf) {
             Ok(count) => {
@@ -45,8 +47,8 @@ impl<W: Write + Drop> Write for Recorded<W> {
     }
 
     fn flush(&mut self) -> io::Result<()>
-        ensures bytes { Keeps (Some self.old.taken.bytes) (Some self.new.taken.bytes) }
-        ensures told { Keeps (W.contents self.old.out) (W.contents self.new.out) }
+        ensures bytes { Keeps (Some (accepted self.old)) (Some (accepted self.new)) }
+        ensures told { Keeps (W.contents (recorded_writer self.old)) (W.contents (recorded_writer self.new)) }
     {
         self.out.flush()
     }

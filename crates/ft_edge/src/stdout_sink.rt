@@ -2,7 +2,7 @@
 ghost use Rattle.std.specs.Prelude.{◌≡◌, None};
 
 use crate::writing::put_to;
-use crate::{Failed, Sink};
+use crate::{Failed, Recorded, Sink};
 use std::io;
 use std::marker::Model;
 
@@ -34,6 +34,10 @@ impl<R: Print> Sink for StdoutSink<R> {
     ghost log = { λ failures. record { written = None; pieces = None; failures = failures } };
 
     fn put(&mut self, bytes: &[u8]) -> Result<(), Failed> {
-        put_to(&mut io::writer(&self.rt), bytes, &mut self.failures)
+        put_to(
+            &mut Recorded::new(io::writer(&self.rt)),
+            bytes,
+            &mut self.failures,
+        )
     }
 }

@@ -1,10 +1,11 @@
 //! Single reads and writes, repeated if a signal interrupts them.
-ghost use Rattle.std.specs.Prelude.{◌≡◌, ◌<◌, length, take, drop, IfOk, OnErr};
+ghost use Rattle.std.specs.Prelude.{◌≡◌, ◌<◌, length, take, drop, Some, IfOk, OnErr};
 ghost use Rattle.std.specs.Io.{ReadsAtMost, WritesAtMost};
 ghost use Rattle.std.specs.Io.KnownBytes.{ReadConsumes, WriteAppends};
 ghost use Rattle.ft_history.specs.Files.{gave};
+ghost use Rattle.ft_edge.specs.Recording.{accepted, recorded_writer};
 
-use crate::Failed;
+use crate::{Failed, Recorded};
 use ft_history::Heard;
 use std::io::{ErrorKind, Read, Write};
 
@@ -51,9 +52,13 @@ pub(crate) fn read_past<F: Read>(
 }
 
 /// Writes a prefix of the bytes with a single write.
-pub(crate) fn write_once<W: Write>(out: &mut W, bytes: &[u8]) -> Result<usize, Failed>
+pub(crate) fn write_once<W: Write + Drop>(
+    out: &mut Recorded<W>,
+    bytes: &[u8],
+) -> Result<usize, Failed>
     ensures bound { WritesAtMost result bytes.now }
-    ensures bytes { WriteAppends (W.contents out.old) (W.contents out.new) result bytes.now }
+    ensures bytes { WriteAppends (Some (accepted out.old)) (Some (accepted out.new)) result bytes.now }
+    ensures told { WriteAppends (W.contents (recorded_writer out.old)) (W.contents (recorded_writer out.new)) result bytes.now }
 {
     for _ in 0..u64::MAX {
         match out.write(bytes) {

@@ -2,6 +2,7 @@
 ghost use Rattle.std.specs.Prelude.{◌≡◌, ◌≢◌, ℕ, List, [], ◌++◌, map, string_bytes, Some};
 ghost use Rattle.ft_edge.specs.Loads.{Files as Contents};
 ghost use Rattle.ft_edge.specs.Heard.{Agree};
+ghost use Rattle.ft_edge.specs.Recording.{accepted};
 ghost use Rattle.ft_edge.specs.Takes.{MayBeLeft};
 ghost use Rattle.ft_tool.specs.Answers.{IsAnswer, Concludes, BreaksOff};
 ghost use Rattle.ft_tool.specs.Known.{joined};
@@ -57,17 +58,17 @@ pub fn whole<R: Files, S: Input, W: Write + Drop, K: Gathers<W>>(
     ensures headline { result.0 ≢ 3 → result.0 ≢ 4 → result.0 ≢ 5 →
         (files : Contents) → Agree shelf.new.heard files → (rest : List ℕ) → MayBeLeft script.new.reads rest →
         Writes (IsAnswer (map string_bytes words.now) (Some files) (Some (joined script.new.reads ++ rest))) result.0
-        result.1.taken.bytes }
+        (accepted result.1) }
 
     // A write failed, and none followed: the write calls accepted a prefix of the answer's text.
     ensures write_failure { result.0 ≡ 4 →
         (files : Contents) → Agree shelf.new.heard files → (rest : List ℕ) → MayBeLeft script.new.reads rest →
         WritesFront (IsAnswer (map string_bytes words.now) (Some files) (Some (joined script.new.reads ++ rest)))
-        result.1.taken.bytes }
+        (accepted result.1) }
 
     // A file or the script could not be read, or memory ran out: no byte was written.
-    ensures load_failure_writes_nothing { result.0 ≡ 3 → result.1.taken.bytes ≡ [] }
-    ensures no_memory_writes_nothing { result.0 ≡ 5 → result.1.taken.bytes ≡ [] }
+    ensures load_failure_writes_nothing { result.0 ≡ 3 → accepted result.1 ≡ [] }
+    ensures no_memory_writes_nothing { result.0 ≡ 5 → accepted result.1 ≡ [] }
 {
     let mut sink = out;
     let status = program(alloc, words, shelf, script, &mut sink);

@@ -1,4 +1,4 @@
-use Rattle.std.proofs.Common.{refl}
+use Rattle.std.proofs.Common.{refl, None}
 use Rattle.ft_edge.proofs.HeardFiles.{heard_loads}
 use Rattle.ft_edge.proofs.folder_shelf.FolderShelfShelf.TheImpl.Goals as goal
 
@@ -10,6 +10,6 @@ load-tells g c = record {
   count = c.ensures.count;
   cause = c.ensures.cause;
   heard =
-      λ files agree. heard_loads c.result c.args.self.now.heard c.new.self.now.heard c.args.name.now c.args.limit
+      λ files agree. heard_loads None c.result c.args.self.now.heard c.new.self.now.heard c.args.name.now c.args.limit
       c.new.into.now.items files c.ensures.heard agree;
 }

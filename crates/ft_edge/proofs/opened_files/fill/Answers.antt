@@ -5,7 +5,7 @@ use Rattle.std.specs.Io.KnownBytes.{Consumes}
 use Rattle.std.proofs.KnownBytes.{Consumes-trans}
 use Rattle.ft_history.specs.Files.{gives}
 use Rattle.ft_edge.proofs.HeardFiles.{gives_twice, gave_some}
-use Rattle.ft_edge.proofs.folder_shelf.fill.Goals as goal
+use Rattle.ft_edge.proofs.opened_files.fill.Goals as goal
 
 pub loop-filled-preserved : goal.loop-filled-preserved
 loop-filled-preserved g c =
