@@ -78,9 +78,10 @@ impl<R: Input> StdinSource<R> {
 }
 
 impl<R: Input> Source for StdinSource<R> {
+    ghost use Rattle.ft_edge.specs.StdinTakes.{stdin_log};
     ghost use Rattle.ft_edge.specs.Takes.{MayBeLeft};
 
-    ghost log = { λ takes. record { left = None; takes = None; failures = takes.failures } };
+    ghost log = { stdin_log };
 
     ghost heard = { λ takes. Some takes.reads };
 

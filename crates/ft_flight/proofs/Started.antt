@@ -32,7 +32,8 @@ module _ (o : Object) (ws : List ℕ) where
   same_instr zero = refl
   same_instr (suc i) = refl
 
-  same_advance : (f : Option Instr) (s : State) (w : List Wild) → advance (object_with_words o ws) f s w ≡ advance o f s w
+  same_advance : (f : Option Instr) (s : State) (w : List Wild) → advance (object_with_words o ws) f s w
+      ≡ advance o f s w
   same_advance None s w = ap (λ i. if s.pc_green == s.pc_blue then fetch i s w
       else detected s w) (same_instr s.pc_green)
   same_advance (Some i) s w = refl
@@ -67,7 +68,8 @@ word_at (c ∷ cs) (w ∷ ws) (suc i) e below = word_at cs ws i (omega (arith, e
 -- these words are the cells at the start
 pub cells_start : (o : Object) (ws : List ℕ) → length ws ≡ length o.cells
     → cells_of ws ≡ tabulate (length (cells_with_words o.cells ws)) cell_address (init_of (object_with_words o ws))
-cells_start o ws e = filled ws (length ws) (length (cells_with_words o.cells ws)) (init_of (object_with_words o ws)) refl
+cells_start o ws e = filled ws (length ws) (length (cells_with_words o.cells ws)) (init_of (object_with_words o ws))
+    refl
     (e ∙ sym (as_long o.cells ws)) (λ i below. word_at o.cells ws i e below)
 
 -- words 0 and colours 0 are green 0 in each register

@@ -1,11 +1,14 @@
 //! The tool with the system's files, standard input and a buffered writer.
-ghost use Rattle.std.specs.Prelude.{◌≡◌, ◌≢◌, ℕ, List, [], ◌++◌, map, string_bytes, Some};
+ghost use Rattle.std.specs.Prelude.{◌≡◌, ◌≢◌, ◌⊎◌, ℕ, List, [], ◌++◌, map, string_bytes, Some};
+ghost use Rattle.ft_command.specs.Commands.{Asks, Usage};
+ghost use Rattle.ft_edge.specs.FolderFailures.{folder_log};
 ghost use Rattle.ft_edge.specs.Loads.{Files as Contents};
 ghost use Rattle.ft_edge.specs.Heard.{Agree};
 ghost use Rattle.ft_edge.specs.Recording.{accepted};
+ghost use Rattle.ft_edge.specs.StdinTakes.{stdin_log};
 ghost use Rattle.ft_edge.specs.Takes.{MayBeLeft};
-ghost use Rattle.ft_tool.specs.Answers.{IsAnswer, Concludes, BreaksOff};
-ghost use Rattle.ft_tool.specs.Known.{joined};
+ghost use Rattle.ft_tool.specs.Answers.{IsAnswer, Concludes, BreaksOff, FailedToLoad, FailedToTake};
+ghost use Rattle.ft_tool.specs.Known.{joined, revealing};
 ghost use Rattle.ft_tool.specs.Programs.{Writes, WritesFront};
 
 use crate::tool;
@@ -32,6 +35,11 @@ fn program<R: Files, S: Input, K: Sink>(
         (files : Contents) → Agree shelf.new.heard files → (rest : List ℕ) → MayBeLeft script.new.reads rest →
         Concludes (IsAnswer (map string_bytes words.now) (Some files) (Some (joined script.new.reads ++ rest))) result
         (K.log out.old) (K.log out.new) }
+    ensures usage { result ≡ 2 → Asks (map string_bytes words.now) Usage }
+    ensures load_failure { result ≡ 3 → (files : Contents) → Agree shelf.new.heard files →
+        FailedToLoad (map string_bytes words.now) (revealing (Some files) (folder_log shelf.old))
+        (revealing (Some files) (folder_log shelf.new))
+        ⊎ FailedToTake (map string_bytes words.now) (Some files) (stdin_log script.old) (stdin_log script.new) }
     ensures write_failure { result ≡ 4 →
         (files : Contents) → Agree shelf.new.heard files → (rest : List ℕ) → MayBeLeft script.new.reads rest →
         BreaksOff (IsAnswer (map string_bytes words.now) (Some files) (Some (joined script.new.reads ++ rest)))
@@ -59,6 +67,13 @@ pub fn whole<R: Files, S: Input, W: Write + Drop, K: Gathers<W>>(
         (files : Contents) → Agree shelf.new.heard files → (rest : List ℕ) → MayBeLeft script.new.reads rest →
         Writes (IsAnswer (map string_bytes words.now) (Some files) (Some (joined script.new.reads ++ rest))) result.0
         (accepted result.1) }
+    ensures usage { result.0 ≡ 2 → Asks (map string_bytes words.now) Usage }
+
+    // A load of one of the command's files or a take of its script failed.
+    ensures load_failure { result.0 ≡ 3 → (files : Contents) → Agree shelf.new.heard files →
+        FailedToLoad (map string_bytes words.now) (revealing (Some files) (folder_log shelf.old))
+        (revealing (Some files) (folder_log shelf.new))
+        ⊎ FailedToTake (map string_bytes words.now) (Some files) (stdin_log script.old) (stdin_log script.new) }
 
     // A write failed, and none followed: the write calls accepted a prefix of the answer's text.
     ensures write_failure { result.0 ≡ 4 →
