@@ -126,7 +126,7 @@ if [ "$way" != --quick ] && has pkg-config 'the installed library'; then
   report 'the installed library' accepted "$(LD_LIBRARY_PATH=$usr/lib "$work/loader" examples/five.obj 2>&1)"
   report 'the installed version' "$(cat "$usr/share/doc/talft/BUILD")" "$("$usr/bin/talft" --version 2>&1 >/dev/null)"
 fi
-report 'a tool that is installed' 'usage: talft-faults' "$("$usr/share/talft/tools/faults" --help | head -n 1 | cut -c1-19)"
+report 'a tool that is installed' 'usage: talft-faults' "$("$usr/bin/talft-faults" --help | head -n 1 | cut -c1-19)"
 report 'the installed examples' '' "$(diff -r examples "$usr/share/talft/examples")"
 make -s uninstall DESTDIR="$here" PREFIX=/usr >"$work/said" 2>&1
 report 'make uninstall' '' "$(find "$here" ! -type d)"

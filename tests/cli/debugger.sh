@@ -227,7 +227,7 @@ says 'the meaning of d' 'help d' \
 program=endless.obj
 says 'a run without an end' end 'the run has not ended after 1,000,000 more steps: `end` continues'
 says 'no lines of an object alone' line \
-  'no source lines are known: `next` executes an instruction; `debugger OBJECT --source SOURCE` names the source of an '\
+  'no source lines are known: `next` executes an instruction; `talft-debugger OBJECT --source SOURCE` names the source of an '\
 'object'
 program=$top/examples/sieve.src
 # The command that a recording prints replays it.
