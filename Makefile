@@ -10,6 +10,8 @@ to_bash = $(share)/bash-completion/completions
 to_vim = $(share)/vim/vimfiles
 scripts = tools/faults tools/campaign tools/plot tools/report tools/cc tools/wasm2asm tools/set tools/ending \
   tools/debugger tools/dap tools/explain tools/lines tools/build tools/show
+# What users call them.
+commands = $(patsubst tools/%,talft-%,$(scripts))
 
 # The program to install, if it is not the one that `make` builds here.
 PROGRAM =
@@ -76,6 +78,7 @@ install-program: $(if $(PROGRAM),,all)
 	install -m 644 man/*.5 $(share)/man/man5
 	install -m 644 man/*.7 $(share)/man/man7
 	install -m 644 editors/talft.bash $(to_bash)/talft
+	for name in $(commands); do ln -sf talft $(to_bash)/$$name; done
 	install -m 644 editors/vim/syntax/*.vim $(to_vim)/syntax
 	install -m 644 editors/vim/ftdetect/talft.vim $(to_vim)/ftdetect
 	install -m 644 editors/*.sublime-syntax $(share)/talft/editors
@@ -87,6 +90,7 @@ install-program: $(if $(PROGRAM),,all)
 	install -m 755 examples/c/ten_cycles $(share)/talft/examples/c
 	install -m 644 $(wildcard examples/rust/*.*) $(share)/talft/examples/rust
 	install -m 755 $(scripts) $(share)/talft/tools
+	for name in $(commands); do ln -sf ../share/talft/tools/$${name#talft-} $(bin)/$$name; done
 	install -m 644 $(filter-out $(scripts),$(wildcard tools/*.*)) $(share)/talft/tools
 	install -m 644 tools/wasm/*.* $(share)/talft/tools/wasm
 	install -m 644 tools/debugging/*.py $(share)/talft/tools/debugging
@@ -107,7 +111,8 @@ install-library: library
 uninstall:
 	rm -f $(lib)/libtalft.a $(lib)/libtalft.so $(lib)/libtalft.so.0 $(lib)/pkgconfig/talft.pc $(include)/talft.h
 	rm -f $(patsubst man/%,$(share)/man/man3/%,$(wildcard man/*.3))
-	rm -f $(bin)/talft $(to_bash)/talft $(to_vim)/syntax/talft.vim $(to_vim)/syntax/talftasm.vim $(to_vim)/ftdetect/talft.vim
+	rm -f $(addprefix $(bin)/,talft $(commands)) $(addprefix $(to_bash)/,talft $(commands))
+	rm -f $(to_vim)/syntax/talft.vim $(to_vim)/syntax/talftasm.vim $(to_vim)/ftdetect/talft.vim
 	rm -f $(patsubst man/%,$(share)/man/man1/%,$(wildcard man/*.1)) $(patsubst man/%,$(share)/man/man5/%,$(wildcard man/*.5))
 	rm -f $(patsubst man/%,$(share)/man/man7/%,$(wildcard man/*.7))
 	rm -rf $(share)/talft

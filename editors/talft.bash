@@ -84,19 +84,11 @@ _talft_site() {
   compopt -o nospace 2>/dev/null
 }
 
-# The tools: their options, from --help, and files. There are other programs called `cc` and `build`, and `set` is a
-# shell builtin: only those next to the tool `campaign` are tools. The others keep their own completion.
+# The tools: their options, from --help, and files.
 _talft_tool() {
-  local word=${COMP_WORDS[COMP_CWORD]} at
+  local word=${COMP_WORDS[COMP_CWORD]}
   COMPREPLY=()
-  at=$(type -P -- "$1")
-  if [[ ${1##*/} == set && $1 != */* ]]; then
-    COMPREPLY=($(compgen -A setopt -- "$word"))
-  elif [[ ! -x ${at%/*}/campaign ]]; then
-    complete -r -- "${1##*/}" 2>/dev/null
-    declare -F _completion_loader >/dev/null && _completion_loader "$1"
-    return 124
-  elif [[ $word == -* ]]; then
+  if [[ $word == -* ]]; then
     COMPREPLY=($(compgen -W "$("$1" --help 2>/dev/null </dev/null | grep -o -- '--[a-z][a-z-]*' | sort -u)" -- "$word"))
   else
     compopt -o default 2>/dev/null
@@ -104,4 +96,5 @@ _talft_tool() {
 }
 
 complete -F _talft talft
-complete -F _talft_tool build campaign cc dap debugger ending explain faults lines plot report set show wasm2asm
+complete -F _talft_tool talft-build talft-campaign talft-cc talft-dap talft-debugger talft-ending talft-explain talft-faults \
+  talft-lines talft-plot talft-report talft-set talft-show talft-wasm2asm

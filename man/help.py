@@ -72,7 +72,7 @@ def main(name):
         else:
             sections["DESCRIPTION"] += block_of(block)
     named, short = plain(name), plain(short[0].lower() + short[1:].replace("`", ""))
-    print(f".SH NAME\ntalft\\-{named} \\- {short}")
+    print(f".SH NAME\n{named} \\- {short}")
     print(".SH SYNOPSIS\n" + plain(synopsis).replace(named, f"\\fB{named}\\fR", 1))
     for title, lines in sections.items():
         print(f".SH {title}")

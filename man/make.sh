@@ -21,7 +21,7 @@ talft-c 7 C programs in C for talft
 talft-debugging 7 DEBUGGING debugging objects, assembly texts and sources of talft, forward and back
 PAGES
 }
-# The scripts in tools/: each has its own page.
+# The tools: the page of each has the name that users call it by.
 tools() { grep -lE '^#!' tools/* 2>/dev/null | sed 's|tools/||'; }
 
 # A document, or the chapters of it that belong on a page. Chapters about the proof, or only about a clone, are not for
@@ -69,7 +69,7 @@ lines_of_library() {
 # Likewise for a tool's page.
 lines_of_tool() {
   head_of "talft-$1" 1
-  COLUMNS=100 "tools/$1" --help | python3 man/help.py "$1" || return
+  COLUMNS=100 "tools/$1" --help | python3 man/help.py "talft-$1" || return
   printf '.SH SEE ALSO\n.BR talft (1) ,\n.BR talft-tools (7)\n'
 }
 

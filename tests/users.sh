@@ -120,16 +120,16 @@ fi
 if command -v bat >/dev/null || has batcat 'the syntax file of bat'; then
   report 'the syntax file of bat' '0 wrong' "$(python3 tests/editors.py bat $sources 2>&1 | sed 's/.* bytes, //')"
 fi
-report 'the installed tools' "Only in $usr/share/talft/tools: talft.py" "$(diff -r tools "$usr/share/talft/tools")"
+report 'the installed tools' "Only in $usr/share/talft/tools: talft.py" "$(diff -r -x bin tools "$usr/share/talft/tools")"
 if [ "$way" != --quick ] && has pkg-config 'the installed library'; then
   cc examples/c/loader.c $(PKG_CONFIG_PATH=$usr/lib/pkgconfig pkg-config --cflags --libs talft) -o "$work/loader"
   report 'the installed library' accepted "$(LD_LIBRARY_PATH=$usr/lib "$work/loader" examples/five.obj 2>&1)"
   report 'the installed version' "$(cat "$usr/share/doc/talft/BUILD")" "$("$usr/bin/talft" --version 2>&1 >/dev/null)"
 fi
-report 'a tool that is installed' 'usage: faults' "$("$usr/share/talft/tools/faults" --help | head -n 1 | cut -c1-13)"
+report 'a tool that is installed' 'usage: talft-faults' "$("$usr/bin/talft-faults" --help | head -n 1 | cut -c1-19)"
 report 'the installed examples' '' "$(diff -r examples "$usr/share/talft/examples")"
 make -s uninstall DESTDIR="$here" PREFIX=/usr >"$work/said" 2>&1
-report 'make uninstall' '' "$(find "$here" -type f)"
+report 'make uninstall' '' "$(find "$here" ! -type d)"
 make -s clean
 report 'make clean' '' "$(find . -name out)"
 report 'the clone at the end' '' "$(git status --short --ignored)"

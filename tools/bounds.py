@@ -66,7 +66,7 @@ def read_about(path):
         of = {name: int(told["of"][name]) for name in CLASSES}
         return of, int(told["drawn"]), str(told["words"])
     except (ValueError, KeyError, TypeError) as error:
-        raise Refused(f"{path}: is not a file that `faults --about` wrote") from error
+        raise Refused(f"{path}: is not a file that `talft-faults --about` wrote") from error
 
 
 def share(value):

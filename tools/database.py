@@ -15,7 +15,7 @@ CREATE TABLE IF NOT EXISTS campaign (
   object TEXT NOT NULL,    -- the SHA-256 of the object
   faults TEXT NOT NULL,    -- the SHA-256 of the list
   words TEXT NOT NULL,     -- campaign or survey, with its options
-  about TEXT,              -- the arguments of `faults`, if they are known
+  about TEXT,              -- the arguments of `talft-faults`, if they are known
   sampled INTEGER,         -- 1 if the list is a sample, 0 if it has all faults of these arguments
   version TEXT, began TEXT,
   UNIQUE (object, faults, words)

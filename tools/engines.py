@@ -9,6 +9,7 @@ import sys
 import time
 from concurrent.futures import ThreadPoolExecutor
 
+from messages import NAME
 from parts import remove, write
 
 MOST_TASKS = 1_000
@@ -34,7 +35,7 @@ class Progress:
         self.last, done = now, self.done()
         new = done - self.before
         rest = f", {now / new * (self.all - done):.0f} s left" if new and done < self.all else ""
-        line = f"campaign: {done} of {self.all} faults{rest}"
+        line = f"{NAME}: {done} of {self.all} faults{rest}"
         end = "\n" if over or not terminal else ""
         print(f"\r\033[K{line}" if terminal else line, end=end, file=sys.stderr, flush=True)
 

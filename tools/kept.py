@@ -18,14 +18,14 @@ Kept = collections.namedtuple("Kept", "object words wild command faults version 
 
 
 def kept_in(folder):
-    """What the tool `campaign` keeps in a folder."""
+    """What `talft-campaign` keeps in a folder."""
     file = os.path.join(folder, "campaign.json")
     if not os.path.isdir(folder):
         raise Refused(f"--dir: {named(folder)}: {'is not a folder' if os.path.exists(folder) else 'no such folder'}; "
-                      "give the folder that `tools/campaign` made")
+                      "give the folder that `talft-campaign` made")
     if not os.path.exists(file):
         raise Refused(f"--dir: {named(folder)}: holds no campaign (no campaign.json); give the folder that "
-                      "`tools/campaign` made, or the object with --object")
+                      "`talft-campaign` made, or the object with --object")
     with open(file, encoding="utf-8") as text:
         try:
             told = json.load(text)
@@ -33,7 +33,7 @@ def kept_in(folder):
             return Kept(os.path.join(folder, "object"), words, told["wild"], told["asked"], told["faults"],
                         told.get("version"), told.get("began"), told.get("cut"), int(words[words.index("--steps") + 1]))
         except (ValueError, KeyError, IndexError, TypeError, AttributeError) as error:
-            raise Refused(f"{named(file)}: is damaged, or was not written by `tools/campaign`") from error
+            raise Refused(f"{named(file)}: is damaged, or was not written by `talft-campaign`") from error
 
 
 def some_of(path):

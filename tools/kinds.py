@@ -21,7 +21,7 @@ ENDS = {".src": "a source", ".asm": "an assembly text", ".map": "a link map", ".
         ".wasm": "a WebAssembly module", ".obj": "an object", ".faults": "a fault list"}
 # What makes an object of a file.
 MAKES = {"a source": "`talft compile`", "an assembly text": "`talft asm`", "a link map": "`talft link`",
-         "a C program": "`cc`", "a WebAssembly module": "`cc`"}
+         "a C program": "`talft-cc`", "a WebAssembly module": "`talft-cc`"}
 # The options that take what a user may give without one.
 OPTIONS = {"a fault": "--fault", "a site": "--sites", "a folder": "--dir", "a fault list": "--faults", "an object": "--object",
            "a source": "--source", "an assembly text": "--text", "the output of a run": "--from"}
@@ -76,4 +76,4 @@ def instead_of_object(path, data):
         return f"{kind}; {MAKES[kind]} turns it into an object"
     if kind and kind != "an object":
         return f"{kind}; expected an object"
-    return "not an object; `talft compile`, `talft asm` and `cc` make objects"
+    return "not an object; `talft compile`, `talft asm` and `talft-cc` make objects"

@@ -2,7 +2,10 @@
 import errno
 import os
 import re
+import sys
 
+# What users call the running tool: `talft-` and the name of its file, whatever link it is called by.
+NAME = "talft-" + os.path.basename(os.path.realpath(sys.argv[0]))
 MOST_QUOTED, MOST_NAMED = 60, 200
 REASONS = {errno.ENOENT: "no such file", errno.EISDIR: "is a folder", errno.EACCES: "permission denied",
            errno.EPERM: "permission denied", errno.ENOTDIR: "is not a folder",

@@ -5,7 +5,7 @@ import sys
 
 from common import is_word, see_help
 from kinds import OPTIONS, kind_of_operand
-from messages import listed, near, quoted
+from messages import NAME, listed, near, quoted
 
 MOST_ANSWERS = 4_096
 
@@ -39,8 +39,8 @@ class Parser(argparse.ArgumentParser):
     `others` are prefixes of options for another program. `instead` says what to do about a surplus argument;
     `elsewhere` says what to use here instead of options that other programs have; `-l*` is any that begins with `-l`."""
 
-    def __init__(self, name, about, more, others=(), instead=None, elsewhere=None, **rest):
-        super().__init__(prog=name, description=about, epilog=more,
+    def __init__(self, about, more, others=(), instead=None, elsewhere=None, **rest):
+        super().__init__(prog=NAME, description=about, epilog=more,
                          formatter_class=argparse.RawDescriptionHelpFormatter, **rest)
         self.others, self.given, self.spare, self.instead = tuple(others), set(), set(), instead
         self.elsewhere, self.words = elsewhere or {}, []
@@ -183,7 +183,7 @@ class Parser(argparse.ArgumentParser):
 
     def error(self, message):
         """Ends the tool with a message about its arguments."""
-        self.exit(2, f"{self.prog}: {self.told(message)}\n{see_help(self.prog)}\n")
+        self.exit(2, f"{self.prog}: {self.told(message)}\n{see_help()}\n")
 
 
 def wild_answers(text):

@@ -1,4 +1,4 @@
-"""One campaign as the tool `plot` draws it: the faults of each row and column by verdict, and their latencies."""
+"""One campaign as `talft-plot` draws it: the faults of each row and column by verdict, and their latencies."""
 import array
 import collections
 

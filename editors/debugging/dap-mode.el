@@ -1,7 +1,7 @@
 ;;; dap-mode.el --- debugs talft programs in Emacs, with dap-mode -*- lexical-binding: t -*-
-;; Load it in init.el: docs/DEBUGGING.md says how. The adapter is in $TALFT_TOOLS, or where `make install` puts it.
+;; Load it in init.el: docs/DEBUGGING.md says how. The adapter is `dap' in $TALFT_TOOLS, or `talft-dap' on PATH.
 (require 'dap-mode)
-(defvar talft-dap (expand-file-name "dap" (or (getenv "TALFT_TOOLS") "/usr/local/share/talft/tools")))
+(defvar talft-dap (let ((tools (getenv "TALFT_TOOLS"))) (if tools (expand-file-name "dap" tools) "talft-dap")))
 (defun talft-dap-populate (conf)
   "Fills in the missing properties of CONF."
   (dap--put-if-absent conf :dap-server-path (list talft-dap))

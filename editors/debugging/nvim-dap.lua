@@ -1,8 +1,8 @@
 -- Debugs talft programs in Neovim, with the plugin nvim-dap: `dofile` it in init.lua. docs/DEBUGGING.md says how.
--- The adapter is found in $TALFT_TOOLS, or where `make install` puts it.
+-- The adapter is `dap` in $TALFT_TOOLS, or `talft-dap` on PATH.
 local dap = require('dap')
-local tools = os.getenv('TALFT_TOOLS') or '/usr/local/share/talft/tools'
-dap.adapters.talft = { type = 'executable', command = tools .. '/dap' }
+local tools = os.getenv('TALFT_TOOLS')
+dap.adapters.talft = { type = 'executable', command = tools and tools .. '/dap' or 'talft-dap' }
 
 local this = { type = 'talft', request = 'launch', name = 'talft: this file', program = '${file}' }
 local struck = vim.tbl_extend('force', this, {

@@ -2,7 +2,7 @@
 //
 //     rustc --target wasm32-unknown-unknown --crate-type cdylib -O -C panic=abort -C linker=wasm-ld \
 //       -C link-arg=--emit-relocs -C link-arg=-zstack-size=512 examples/rust/crc32.rs -o crc32.wasm
-//     tools/cc crc32.wasm -o crc32.obj
+//     talft-cc crc32.wasm -o crc32.obj
 #![no_std]
 
 use core::{arch::wasm32, panic::PanicInfo, ptr};

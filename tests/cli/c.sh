@@ -7,7 +7,7 @@ answers() { python3 "$top/tests/c/answers.py" "$1"; }
 made() {
   tool "the object of $1.wasm" 0 '' cc "$top/tests/c/$1.wasm" -o "$1.obj" --text "$1.asm"
   report "the message about $1.wasm" "$1.obj: accepted verified" \
-    "$(sed -n 's/^cc: \(.*: accepted\): .*; \(verified\): .*/\1 \2/p' said)"
+    "$(sed -n 's/^talft-cc: \(.*: accepted\): .*; \(verified\): .*/\1 \2/p' said)"
   expect "the check of $1.wasm" 0 'accepted\n' check "$1.obj"
   TALFT=$top/talft python3 -B "$top/tests/c/places.py" "$top/tests/c/$1.wasm" --no-verify -o again.obj 2>said
   report "where the values of $1.wasm are" 'the same object' "$(cmp "$1.obj" again.obj && echo the same object)"
@@ -46,23 +46,24 @@ tool 'the last words in the lines' 0 '' set control.obj --from lines goal=1 -o e
 report 'the cells set from lines' "$(sed 's/^goal 0$/goal 1/; s/^force 0$/force 8/' before)" \
   "$("$top/tools/set" eight.obj --list)"
 "$top/talft" compile <(echo 'cell low_high = 0; low_high = 1;') >shared.obj 2>said
-refuses 'a part of a shared word' 'set: shared.obj: unknown cell `low`; in an object made from C, `low_high` may be one word that several '\
+refuses 'a part of a shared word' \
+  'talft-set: shared.obj: unknown cell `low`; in an object made from C, `low_high` may be one word that several '\
 'variables share: set the whole word, or give each variable 8 bytes (long long) in the C text; --list lists the cells' set shared.obj low=1
-refuses 'an unknown cell' 'set: control.obj: unknown cell `gaol`; did you mean `goal`?; --list lists the cells' \
+refuses 'an unknown cell' 'talft-set: control.obj: unknown cell `gaol`; did you mean `goal`?; --list lists the cells' \
   set control.obj gaol=1
-misused 'an invalid word' 'set: `goal`: invalid number `1x`: expected decimal digits, or hex after 0x' \
+misused 'an invalid word' 'talft-set: `goal`: invalid number `1x`: expected decimal digits, or hex after 0x' \
   set control.obj goal=1x
-misused 'a word that is too large' 'set: `goal`: `18446744073709551616` does not fit in 64 bits: expected -2^63 to 2^64 - 1' \
+misused 'a word that is too large' 'talft-set: `goal`: `18446744073709551616` does not fit in 64 bits: expected -2^63 to 2^64 - 1' \
   set control.obj goal=18446744073709551616
-misused 'a cell that is set twice' 'set: the cell `goal` is given twice' set control.obj goal=1 goal=2
+misused 'a cell that is set twice' 'talft-set: the cell `goal` is given twice' set control.obj goal=1 goal=2
 echo x >>lines
-refuses 'an invalid line' 'set: lines:4: unexpected `x`: expected NAME VALUE, as `talft run` writes it' \
+refuses 'an invalid line' 'talft-set: lines:4: unexpected `x`: expected NAME VALUE, as `talft run` writes it' \
   set control.obj --from lines
-refuses 'a text instead of an object' 'set: control.asm: is an assembly text; `talft asm` turns it into an object' \
+refuses 'a text instead of an object' 'talft-set: control.asm: is an assembly text; `talft asm` turns it into an object' \
   set control.asm goal=1
 cp "$top/examples/mixed.obj" .
 refuses 'an object that is not accepted' \
-  'set: mixed.obj: not accepted with these words: check block 0 index 3 premise 2' \
+  'talft-set: mixed.obj: not accepted with these words: check block 0 index 3 premise 2' \
   set mixed.obj out=1
 
 # How runs end.
@@ -70,10 +71,10 @@ five=$top/examples/five.obj
 tool 'a run that is done' 0 'done after 14 steps\n' ending "$five"
 tool 'a run that continues' 1 'running after 11 steps\n' ending "$five" --steps 11
 tool 'a run that is struck' 1 'detected after 12 steps\n' ending "$five" --fault 4:r1:6
-refuses 'a fault that strikes nothing' 'ending: nothing was struck: the run had ended, or the queue has no such entry at that step' \
+refuses 'a fault that strikes nothing' 'talft-ending: nothing was struck: the run had ended, or the queue has no such entry at that step' \
   ending "$five" --fault 4:qv0:6
 misused 'an invalid fault' \
-  'ending: --fault: invalid fault `4:r64:6`: expected STEP:SITE:WORD; the site `r64` is not one of '\
+  'talft-ending: --fault: invalid fault `4:r64:6`: expected STEP:SITE:WORD; the site `r64` is not one of '\
 'r0 to r63, d, pcg, pcb, qa0 to qa7 and qv0 to qv7' \
   ending "$five" --fault 4:r64:6
 cat >trap.asm <<'END'
@@ -107,7 +108,7 @@ tool 'a trap' 1 'trapped within 1000 steps: function run: offset 0x4b: division 
 
 # The lines of a run by the C types of its variables, which clang put into the debug information of tests/c/types.wasm.
 tool 'the object of types.wasm' 0 '' cc "$top/tests/c/types.wasm" -o types.obj
-report 'a note about words that variables share' 1 "$(grep -c '^cc: note: types.obj: the word of inside, second and 5 more ' said)"
+report 'a note about words that variables share' 1 "$(grep -c '^talft-cc: note: types.obj: the word of inside, second and 5 more ' said)"
 "$top/talft" run types.obj >types.lines
 tool 'lines by type' 0 'inside = 0, second = 4
 first = -1, ok = false, small = 0, middle = 0
@@ -134,10 +135,12 @@ tool 'another initial word' 0 '' set types.obj whole=5 -o types.set.obj
 tool 'its lines by type' 0 "$("$top/tools/show" types.obj types.lines)\n" show types.set.obj types.lines
 "$top/talft" schedule types.obj >types.later.obj
 cp types.about types.later.about
-refuses 'types of another object' 'show: types.later.about: is about another object than types.later.obj: make it again with `cc`, or use '\
+refuses 'types of another object' \
+  'talft-show: types.later.about: is about another object than types.later.obj: make it again with `talft-cc`, or use '\
 '--fits if the cells are the same, as after `talft schedule`' show types.later.obj types.lines
 tool 'types of an object with the same cells' 0 "$("$top/tools/show" types.obj types.lines)\n" show types.later.obj types.lines --fits
-refuses 'an object without types' 'show: control.about: no such file: `cc` writes it beside the object; the lines of other objects have '\
+refuses 'an object without types' \
+  'talft-show: control.about: no such file: `talft-cc` writes it beside the object; the lines of other objects have '\
 'no types' show control.obj lines
 
 # Each kind of trap, in objects that trap as their modules do, and in objects that do not.
@@ -163,10 +166,10 @@ mkdir refused
 (cd "$top/tests/c" && python3 -B refusals.py "$work/refused")
 cd refused || exit 2
 said_of() {
-  refuses "the module $1" "wasm2asm: $1.wasm: $2" wasm2asm "$1.wasm"
+  refuses "the module $1" "talft-wasm2asm: $1.wasm: $2" wasm2asm "$1.wasm"
 }
-said_of empty 'offset 0x0: is not a WebAssembly module of version 1; give the output of wasm-ld; `cc` takes C'
-said_of text 'offset 0x0: is not a WebAssembly module of version 1; give the output of wasm-ld; `cc` takes C'
+said_of empty 'offset 0x0: is not a WebAssembly module of version 1; give the output of wasm-ld; `talft-cc` takes C'
+said_of text 'offset 0x0: is not a WebAssembly module of version 1; give the output of wasm-ld; `talft-cc` takes C'
 said_of cut 'offset 0x38: a part is longer than the section that it is in; link it again: the file is damaged'
 said_of section \
   'offset 0x8: section 77 is unknown, repeated or out of order; link it again: the file is damaged'
@@ -198,8 +201,8 @@ for module in places nested; do
     "$top/tools/cc" "refused/$module.wasm" -o "$module.obj" 2>said >&2; echo $?)"
 done
 refuses 'a module without the requested entry' \
-  'cc: refused/two.wasm: exports no function `walk`; use --entry with `run` or `step`' \
+  'talft-cc: refused/two.wasm: exports no function `walk`; use --entry with `run` or `step`' \
   cc refused/two.wasm --entry walk -o two.obj
-CLANG=nowhere refuses 'C without clang' 'cc: nowhere: not found; install clang and lld, or set $CLANG to the path of clang' \
+CLANG=nowhere refuses 'C without clang' 'talft-cc: nowhere: not found; install clang and lld, or set $CLANG to the path of clang' \
   cc "$top/examples/c/pid.c" -o none.obj
 report 'nothing is made' '' "$(ls two.obj none.obj 2>errors)"

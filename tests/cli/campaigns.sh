@@ -19,7 +19,7 @@ report 'the same campaign again' "$(cat wanted)" \
   "$("$top/tools/campaign" fibonacci.obj --faults <(cat list) --steps "$most" --dir piped 2>said)"
 printf '4:r1:6\n4:r1:x\n' >bad
 report 'a piped list with an invalid line' \
-  'campaign: /dev/stdin:2: invalid fault `4:r1:x`: expected STEP:SITE:WORD; the word `x` is not a decimal number below 2^64' \
+  'talft-campaign: /dev/stdin:2: invalid fault `4:r1:x`: expected STEP:SITE:WORD; the word `x` is not a decimal number below 2^64' \
   "$("$top/tools/campaign" fibonacci.obj --faults /dev/stdin --dir bad-pipe < <(cat bad) 2>&1 | tail -n 1)"
 
 # `campaign STATUS NAME WORDS..` runs the list, and compares the output if STATUS is 0.
@@ -54,7 +54,7 @@ chmod +x watched
 given() { sort given | uniq -c | awk '{ print $2, $1 }' | paste -sd ' '; }
 
 campaign 0 'a campaign on one machine' --dir here
-report 'the progress at the end' 'campaign: 2500 of 2500 faults' "$(tail -n 1 said)"
+report 'the progress at the end' 'talft-campaign: 2500 of 2500 faults' "$(tail -n 1 said)"
 TALFT=$work/watched campaign 0 'a campaign that is done' --dir here
 report 'no part is run again' none "$(cat given 2>errors || echo none)"
 
@@ -83,7 +83,7 @@ ended() {
   run=$!
   for ((n = 0; n < 300; n++)); do grep -qs 000001 given || sleep 0.1; done
   refuses 'a second run during the first' \
-    "campaign: $signal.$engine: this campaign is already running: wait for it, or give another --dir" \
+    "talft-campaign: $signal.$engine: this campaign is already running: wait for it, or give another --dir" \
     campaign "${words[@]}"
   kill -"$signal" "$run"
   wait "$run" 2>errors
@@ -99,7 +99,7 @@ ended KILL local
 
 # A disk that fills: a separate file system, if the system lets users mount one.
 "$top/tools/campaign" fibonacci.obj --faults list --steps "$most" --dir here >/dev/full 2>said
-report 'a full disk for the lines' '1 campaign: standard output: no space left on the device' "$? $(tail -n 1 said)"
+report 'a full disk for the lines' '1 talft-campaign: standard output: no space left on the device' "$? $(tail -n 1 said)"
 mkdir full
 fills() {
   mount -t tmpfs -o size=128k none full || exit
@@ -122,16 +122,16 @@ fi
 # The message names the copy of the object, not the object that is read.
 "$top/talft" compile "$top/examples/sieve.src" >limit.obj
 head -n 1 list >one.list
-report 'a limit on files' '1 campaign: limited/object: file too large' "$(ulimit -f 1
+report 'a limit on files' '1 talft-campaign: limited/object: file too large' "$(ulimit -f 1
   "$top/tools/campaign" limit.obj --faults one.list --dir limited 2>said; echo "$? $(tail -n 1 said)")"
 refuses 'another campaign in the same folder' \
-  "campaign: here: holds a campaign with another fault list: give another --dir, or, if its verdicts are no longer needed, \
+  "talft-campaign: here: holds a campaign with another fault list: give another --dir, or, if its verdicts are no longer needed, \
 remove the folder" \
   campaign fibonacci.obj --faults piece.aa --steps "$most" --dir here
 no_number='is not a decimal number below 2^64'
 while IFS='|' read -r line told; do
   printf '4:r1:6\n%b\n' "$line" >bad.list
-  refuses "a list with the line $line" "campaign: bad.list:2: invalid fault \`$line\`: expected STEP:SITE:WORD; $told" \
+  refuses "a list with the line $line" "talft-campaign: bad.list:2: invalid fault \`$line\`: expected STEP:SITE:WORD; $told" \
     campaign fibonacci.obj --faults bad.list
 done <<END
 4:r64:6|the site \`r64\` is not one of r0 to r63, d, pcg, pcb, qa0 to qa7 and qv0 to qv7
@@ -160,13 +160,13 @@ report 'the parts for two jobs' 2 "$(find even -name '*.faults' | wc -l)"
 report 'the faults of both parts, in order' '' "$(sed '$d; s/ .*//' written | cmp - long.list 2>&1)"
 sed '8000s/.*/8:r64:1/' long.list >bad.list
 refuses 'a bad line of a later part' \
-  'campaign: bad.list:8000: invalid fault `8:r64:1`: expected STEP:SITE:WORD; the site `r64` is not one of '\
+  'talft-campaign: bad.list:8000: invalid fault `8:r64:1`: expected STEP:SITE:WORD; the site `r64` is not one of '\
 'r0 to r63, d, pcg, pcb, qa0 to qa7 and qv0 to qv7' \
   campaign fibonacci.obj --faults bad.list --steps 1000 --jobs 2 --dir other
 report 'nothing is kept of a list that is refused' '' "$(ls -d other 2>/dev/null)"
-refuses 'a missing list' 'campaign: missing: no such file' campaign fibonacci.obj --faults missing
+refuses 'a missing list' 'talft-campaign: missing: no such file' campaign fibonacci.obj --faults missing
 refuses 'an object that is not accepted' \
-  "campaign: $top/examples/mixed.obj: not accepted: check block 0 index 3 premise 2; --survey tries the faults without checking the object" \
+  "talft-campaign: $top/examples/mixed.obj: not accepted: check block 0 index 3 premise 2; --survey tries the faults without checking the object" \
   campaign "$top/examples/mixed.obj" --faults "$top/examples/mixed.faults" --steps 14
 report 'nothing is kept of an object that is not accepted' '' "$(ls -d mixed.obj.campaign 2>/dev/null)"
 tool 'a survey with a corrupt fault' 10 '4:r1:6 corrupt\nfaults 1 masked 0 detected 0 idle 0 corrupt 1\n' \
@@ -174,11 +174,11 @@ tool 'a survey with a corrupt fault' 10 '4:r1:6 corrupt\nfaults 1 masked 0 detec
 : >empty.list
 tool 'an empty list' 0 'faults 0 masked 0 detected 0 idle 0 corrupt 0\n' \
   campaign fibonacci.obj --faults empty.list --dir empty.kept
-report 'the message about an empty list' 'campaign: note: empty.list: is empty, so nothing was tried' "$(tail -n 1 said)"
+report 'the message about an empty list' 'talft-campaign: note: empty.list: is empty, so nothing was tried' "$(tail -n 1 said)"
 echo 2:r0:7 >wild.list
 tool 'a wild load that is answered' 0 '2:r0:7 masked\nfaults 1 masked 1 detected 0 idle 0 corrupt 0\n' \
   campaign "$top/examples/reload.obj" --faults wild.list --steps 14 --wild 5
-report 'the help' 'usage: campaign' "$("$top/tools/campaign" --help | head -n 1 | cut -c1-15)"
+report 'the help' 'usage: talft-campaign' "$("$top/tools/campaign" --help | head -n 1 | cut -c1-21)"
 
 # GNU parallel on this machine and on others: `near` replaces ssh without a network, and sets HOME and SHELL as an ssh
 # server does. The machine `away` does not answer.
@@ -228,7 +228,7 @@ for turn in 1 2 3 4 5 6; do
     if [ "$(cat "$each.status")" = 0 ]; then
       sed '$d; s/ .*//' "$each.lines" | cmp - "$each.list" 2>&1
     else
-      tail -n 1 "$each.said" | grep -vE '^campaign: both: (this campaign is already running|holds a campaign with another fault list): '
+      tail -n 1 "$each.said" | grep -vE '^talft-campaign: both: (this campaign is already running|holds a campaign with another fault list): '
     fi
   done
 done >together 2>&1
@@ -238,37 +238,39 @@ report 'two campaigns started together' '' "$(cat together)"
 campaign 0 'a campaign of a few faults' --dir mine
 cp -r mine forged
 sed -i 's/ detected [0-9]*$/ masked/; s/^faults .*/faults 1250 masked 1250 detected 0 idle 0 corrupt 0/' forged/000000.answer
-refuses 'a changed answer' 'campaign: forged/000000.answer: is damaged: remove it, and run the same command again' \
+refuses 'a changed answer' 'talft-campaign: forged/000000.answer: is damaged: remove it, and run the same command again' \
   campaign fibonacci.obj --faults list --steps "$most" --dir forged
 cp -r mine other.answer
 printf '0:r5:1 masked\nfaults 1 masked 1 detected 0 idle 0 corrupt 0\n' >other.answer/000000.answer
 sha256sum other.answer/000000.answer | cut -d ' ' -f 1 | tr -d '\n' >other.answer/000000.sum
-refuses 'an answer about another fault' 'campaign: other.answer/000000.answer: is damaged: remove it, and run the same command again' \
+refuses 'an answer about another fault' \
+  'talft-campaign: other.answer/000000.answer: is damaged: remove it, and run the same command again' \
   campaign fibonacci.obj --faults list --steps "$most" --dir other.answer
 cp -r mine other.object
 cp "$top/examples/five.obj" other.object/object
-refuses 'another object in the folder' 'campaign: other.object/object: is not a copy of fibonacci.obj: the folder is damaged: remove it' \
+refuses 'another object in the folder' \
+  'talft-campaign: other.object/object: is not a copy of fibonacci.obj: the folder is damaged: remove it' \
   campaign fibonacci.obj --faults list --steps "$most" --dir other.object
 cp -r mine other.part
 printf '0:r5:1\n' >other.part/000000.faults
-refuses 'another part in the folder' 'campaign: other.part: its parts are not those of list: the folder is damaged: remove it' \
+refuses 'another part in the folder' 'talft-campaign: other.part: its parts are not those of list: the folder is damaged: remove it' \
   campaign fibonacci.obj --faults list --steps "$most" --dir other.part
 cp -r mine linked
 echo precious >victim
 rm linked/lock && ln -s ../victim linked/lock
-refuses 'a link in the folder' 'campaign: linked/lock: is a link, which a campaign never makes: give another --dir' \
+refuses 'a link in the folder' 'talft-campaign: linked/lock: is a link, which a campaign never makes: give another --dir' \
   campaign fibonacci.obj --faults list --steps "$most" --dir linked
 mkdir linked.new && ln -s ../victim linked.new/000000.faults.new
 refuses 'a link in a folder without a campaign' \
-  'campaign: linked.new/000000.faults.new: is a link, which a campaign never makes: give another --dir' \
+  'talft-campaign: linked.new/000000.faults.new: is a link, which a campaign never makes: give another --dir' \
   campaign fibonacci.obj --faults list --steps "$most" --dir linked.new
 report 'the files that the links lead to' precious "$(cat victim)"
 mkdir letters && echo Dear >letters/mother
-refuses 'a folder of something else' "campaign: letters: is not a campaign's folder: it holds \`mother\`: give another --dir" \
+refuses 'a folder of something else' "talft-campaign: letters: is not a campaign's folder: it holds \`mother\`: give another --dir" \
   campaign fibonacci.obj --faults list --steps "$most" --dir letters
 # Whoever changes an answer can make its checksum anew: judging some faults again shows it.
 campaign 0 'a campaign that is judged again' --dir mine --again 50
-report 'what it says' 'campaign: 50 faults were judged again, with the same verdicts' "$(tail -n 1 said)"
+report 'what it says' 'talft-campaign: 50 faults were judged again, with the same verdicts' "$(tail -n 1 said)"
 for answer in forged/*.answer; do
   sed -i 's/ detected [0-9]*$/ masked/' "$answer"
   count=$(($(wc -l <"$answer") - 1))

@@ -63,19 +63,19 @@ report 'lines of a source' '5 6 8 9 10 13 14 15' "$(session "$debugging/lines.sr
 report 'a variable is struck in one colour' 'line 1: `i` is a variable: strike its green word in r3, or its blue one in r35' \
   "$(session "$fibonacci" 'zap i 1' | tail -n 1)"
 
-refuses 'a missing object of the debugger' 'debugger: /nowhere: no such file' debugger /nowhere
+refuses 'a missing object of the debugger' 'talft-debugger: /nowhere: no such file' debugger /nowhere
 head -c 1 "$five" >cut.obj
 TALFT_EXPLAIN=1 "$top/talft" dis cut.obj >written 2>said
-refuses 'an object that is refused' "debugger: $(tail -n 1 said)" debugger cut.obj
+refuses 'an object that is refused' "talft-debugger: $(tail -n 1 said)" debugger cut.obj
 tool 'a source that does not compile' 1 '' debugger "$top/examples/unknown.src"
-report 'the message about it' 'debugger: unknown.src:2:7: error: `total` is not declared' \
+report 'the message about it' 'talft-debugger: unknown.src:2:7: error: `total` is not declared' \
   "$(head -n 1 said | sed 's|/.*/||')"
 TALFT=$work/none refuses 'a missing program of the debugger' \
-  "debugger: $work/none: not found; set \$TALFT to the program \`talft\`, or add its folder to PATH" debugger "$five"
+  "talft-debugger: $work/none: not found; set \$TALFT to the program \`talft\`, or add its folder to PATH" debugger "$five"
 mkdir bare
 cp -r "$top"/{talft,build,tools,crates.txt,HANDLES} bare
 bare/tools/debugger "$five" </dev/null >written 2>said
-report 'a program that is not proved yet' "1 debugger: $work/bare/talft: the program is not proved yet" \
+report 'a program that is not proved yet' "1 talft-debugger: $work/bare/talft: the program is not proved yet" \
   "$? $(cat written said | sed 's/, so each answer would take most of a minute: run `make` first$//')"
 python3 -m json.tool "$top/editors/vscode/package.json" >written 2>said
 report 'the configuration for VS Code' '0 0' "$? $(python3 "$top/editors/vscode/dap" </dev/null 2>said; echo $?)"
@@ -227,7 +227,7 @@ says 'the meaning of d' 'help d' \
 program=endless.obj
 says 'a run without an end' end 'the run has not ended after 1,000,000 more steps: `end` continues'
 says 'no lines of an object alone' line \
-  'no source lines are known: `next` executes an instruction; `debugger OBJECT --source SOURCE` names the source of an '\
+  'no source lines are known: `next` executes an instruction; `talft-debugger OBJECT --source SOURCE` names the source of an '\
 'object'
 program=$top/examples/sieve.src
 # The command that a recording prints replays it.
@@ -250,7 +250,7 @@ report 'no lines of an object' 'at 12 running|the next step fetches st_B r32 r33
 report 'pairs that differ by a strike, and without one' '~ r0 G 1048576 out r32 G 0|* r0 G 7 r32 G 0' \
   "$(session "$five_text" 'goto 4' registers 'zap r0 7' registers | tr -s ' ' | kept '^. r0 ')"
 refuses 'the lines of an object' \
-  "lines: $five: is an object, not a source; give the source, and the object with --object" lines "$five"
+  "talft-lines: $five: is an object, not a source; give the source, and the object with --object" lines "$five"
 
 tool 'the path of a fault, and its cause' 0 "$(cat <<END
 done after 14 steps: 1 output, nothing was detected
@@ -272,18 +272,18 @@ the checker refuses this object (check block 0 index 3 premise 2), so nothing is
 END
 )\n" explain "$top/examples/mixed.obj" --fault 4:r1:6
 refuses 'a fault that strikes nothing' \
-  'explain: --fault 4:qa0:6: nothing was struck: at step 4 the queue has no entry 0' explain "$five" --fault 4:qa0:6
+  'talft-explain: --fault 4:qa0:6: nothing was struck: at step 4 the queue has no entry 0' explain "$five" --fault 4:qa0:6
 refuses 'a fault after the end' \
-  'explain: --fault 14:r1:6: nothing was struck: the run ended after 14 steps' explain "$five" --fault 14:r1:6
+  'talft-explain: --fault 14:r1:6: nothing was struck: the run ended after 14 steps' explain "$five" --fault 14:r1:6
 misused 'a fault at an unknown site' \
-  'explain: invalid fault `4:r64:6`: expected STEP:SITE:WORD; the site `r64` is not one of '\
+  'talft-explain: invalid fault `4:r64:6`: expected STEP:SITE:WORD; the site `r64` is not one of '\
 'r0 to r63, d, pcg, pcb, qa0 to qa7 and qv0 to qv7' \
   explain "$five" --fault 4:r64:6
 misused 'a negative step' \
-  'explain: invalid fault `-1:r0:3`: expected STEP:SITE:WORD; invalid number `-1`: expected at least 0' \
+  'talft-explain: invalid fault `-1:r0:3`: expected STEP:SITE:WORD; invalid number `-1`: expected at least 0' \
   explain "$five" --fault -1:r0:3
 misused 'a negative word' \
-  'explain: invalid fault `4:r0:-1`: expected STEP:SITE:WORD; `-1` is out of range: expected 0 to 18446744073709551615' \
+  'talft-explain: invalid fault `4:r0:-1`: expected STEP:SITE:WORD; `-1` is out of range: expected 0 to 18446744073709551615' \
   explain "$five" --fault 4:r0:-1
 # The struck i first matters where it is added to j: then j < 30 holds for one colour only, as 24 + 16 is 40 and 24 + 2
 # is 26.
@@ -293,9 +293,9 @@ report 'a branch that only one colour takes' 'r35 = 1: blue does not jump, so d 
 report 'a fault that is gone' \
   'gone at 702: from there on no word differs|at 4106: no word and no output differs: the fault is gone' \
   "$("$top/tools/explain" "$top/examples/sieve.src" --fault 690:r2:3 | tail -n 2 | paste -sd '|')"
-misused 'an invalid fault' 'explain: invalid fault `4`: expected STEP:SITE:WORD, such as 4:r1:6' explain "$five" --fault 4
-# `explain` writes what README shows.
-report 'the path of a fault in README' '' "$(sed -n '/^\$ tools\/explain/,/^```/p' "$top/README.md" | sed '1d; $d' |
+misused 'an invalid fault' 'talft-explain: invalid fault `4`: expected STEP:SITE:WORD, such as 4:r1:6' explain "$five" --fault 4
+# `talft-explain` writes what README shows.
+report 'the path of a fault in README' '' "$(sed -n '/^\$ tools\/bin\/talft-explain/,/^```/p' "$top/README.md" | sed '1d; $d' |
   diff - <("$top/tools/explain" "$fibonacci" --fault 296:r32:7))"
 
 # The lines of each example. The tool compares the words with the object's before it writes any line.
@@ -307,7 +307,7 @@ done
 report 'the names of a source' 'a    registers r0 and r32' "$("$top/tools/lines" "$fibonacci" | sed -n 2p)"
 "$top/talft" compile "$top/examples/sum.src" >sum.obj
 refuses 'lines of another object' \
-  "lines: $fibonacci: is not the source of sum.obj: the instructions differ" \
+  "talft-lines: $fibonacci: is not the source of sum.obj: the instructions differ" \
   lines "$fibonacci" --object sum.obj
 
 wait "$walks"
@@ -317,12 +317,12 @@ report 'what the tools know about the machine' '0 wrong' "$(tail -n 1 facts.said
 wait "$adapter"
 report 'the adapter for editors' '0 failed' "$(sed 's/.* passed, \(.*\);.*/\1/' adapter.said)"
 
-refuses 'a screen without a terminal' 'debugger: --tui needs a terminal for standard input and output' \
+refuses 'a screen without a terminal' 'talft-debugger: --tui needs a terminal for standard input and output' \
   debugger "$five_text" --tui
 if has script 'terminals that cannot show the screen'; then
   for term in dumb '' unheard-of; do
     report "a screen on the terminal <$term>" \
-      "debugger: --tui: the terminal \`$term\` cannot show it: set TERM, or leave --tui out|status 1" \
+      "talft-debugger: --tui: the terminal \`$term\` cannot show it: set TERM, or leave --tui out|status 1" \
       "$(TERM=$term timeout 60 script -qec "$top/tools/debugger $five_text --tui; echo status \$?" /dev/null </dev/null |
         tr -d '\r' | paste -sd '|')"
   done

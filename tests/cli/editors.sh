@@ -46,14 +46,11 @@ completes_tool() {
     status=$?
     echo "${COMPREPLY[*]}$([ $status -eq 0 ] || echo "status $status")"' bash "$top" "$3" "$4" 2>&1)"
 }
-completes_tool 'the options of cc' '--stack --steps' "$top/tools/cc" --st
-completes_tool 'the options of set' '--from --from-run' "$top/tools/set" --f
-completes_tool 'the options of build' '--unchecked' "$top/tools/build" --u
-completes_tool 'the options of the shell' 'noclobber' set nocl
-ln -s "$(type -P true)" cc
-completes_tool 'another cc' 'status 124' ./cc --st
-report 'each tool has completion' '' "$(grep -lE '^#!' "$top"/tools/* 2>/dev/null | sed 's|.*/||' |
-  grep -vxFf <(sed -n 's/^complete -F _talft_tool //p' "$top/editors/talft.bash" | tr ' ' '\n'))"
+completes_tool 'the options of cc' '--stack --steps' "$top/tools/bin/talft-cc" --st
+completes_tool 'the options of set' '--from --from-run' "$top/tools/bin/talft-set" --f
+completes_tool 'the options of build' '--unchecked' "$top/tools/bin/talft-build" --u
+report 'each tool has completion, and nothing else' "$(cd "$top/tools/bin" && printf '%s\n' talft *)" \
+  "$(bash --norc -c '. "$1/editors/talft.bash"; complete -p' bash "$top" | sed 's/.* //' | sort)"
 
 report 'the grammar of TextMate' '0 wrong' \
   "$(python3 "$top/tests/editors.py" textmate "$top"/examples/*.src "$top/tests/sources/tokens.src" 2>&1 | tail -n 1 | sed 's/.*, //')"

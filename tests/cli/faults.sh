@@ -14,14 +14,14 @@ tool 'the number of faults' 0 '942\n' faults "$five" --count
 tool 'the number of faults that flip each bit' 0 '60288\n' faults "$five" --count --flip all
 
 "$top/tools/faults" "$five" --flip all >five.all 2>said
-report 'the message before the list' 'faults: 60288 of 60288, before steps 0 to 13 of 14' "$(cat said)"
+report 'the message before the list' 'talft-faults: 60288 of 60288, before steps 0 to 13 of 14' "$(cat said)"
 report 'as many faults as counted' '60288 60288' "$(sort -u five.all | wc -l) $(wc -l <five.all)"
 "$top/tools/faults" "$five" >five.list 2>said
 report 'each of them strikes' 'faults 942 idle 0 corrupt 0' \
   "$("$top/talft" campaign "$five" --faults five.list --steps 14 | sed -n 's/^\(faults [0-9]*\) .* \(idle.*\)/\1 \2/p')"
 
 "$top/tools/faults" "$five" --flip all --sample 1000 --seed 7 >sample 2>said
-report 'the message about a sample' 'faults: 1000 of 60288, before steps 0 to 13 of 14' "$(cat said)"
+report 'the message about a sample' 'talft-faults: 1000 of 60288, before steps 0 to 13 of 14' "$(cat said)"
 report 'a sample has no fault twice' 1000 "$(sort -u sample | wc -l)"
 grep -Fxf sample five.all | cmp -s - sample
 report 'a sample is part of the list, in its order' 0 $?
@@ -41,32 +41,32 @@ for program in fibonacci sieve; do
   report "the run of $program, a step shorter" 9 $?
 done
 tool 'a run that is cut' 0 '5:r0:1\n' faults "$five" --most 6 --steps 5: --sites r0 --values 1
-report 'the message about a run that is cut' 'faults: the run has not ended after 6 steps: raise --most to strike later ones' "$(head -n 1 said)"
+report 'the message about a run that is cut' 'talft-faults: the run has not ended after 6 steps: raise --most to strike later ones' "$(head -n 1 said)"
 
 misused 'an unknown site' \
-  'faults: --sites: unknown site `r64`: the sites are r0 to r63, d, pcg, pcb, qa0 to qa7 and qv0 to qv7' \
+  'talft-faults: --sites: unknown site `r64`: the sites are r0 to r63, d, pcg, pcb, qa0 to qa7 and qv0 to qv7' \
   faults "$five" --sites r0,r64
-misused 'a range of sites across kinds' 'faults: --sites: invalid site `d-r3`: expected a list such as r0-r3,d' \
+misused 'a range of sites across kinds' 'talft-faults: --sites: invalid site `d-r3`: expected a list such as r0-r3,d' \
   faults "$five" --sites d-r3
 misused 'a descending range of sites' \
-  'faults: --sites: the range `r9-r2` is empty: write the smaller number first' faults "$five" --sites r9-r2
-misused 'an invalid bit' 'faults: --flip: invalid bit in `64`: the bits of a word are 0 to 63' \
+  'talft-faults: --sites: the range `r9-r2` is empty: write the smaller number first' faults "$five" --sites r9-r2
+misused 'an invalid bit' 'talft-faults: --flip: invalid bit in `64`: the bits of a word are 0 to 63' \
   faults "$five" --flip 64
 misused 'an invalid word' \
-  'faults: --values: invalid number `18446744073709551616`: expected decimal numbers below 2^64, separated by commas' \
+  'talft-faults: --values: invalid number `18446744073709551616`: expected decimal numbers below 2^64, separated by commas' \
   faults "$five" --values 18446744073709551616
-misused '--values with --flip' 'faults: --values and --flip cannot be combined' faults "$five" --values 1 --flip 1
+misused '--values with --flip' 'talft-faults: --values and --flip cannot be combined' faults "$five" --values 1 --flip 1
 misused 'an invalid range of steps' \
-  'faults: --steps: invalid range `3`: expected FIRST:LAST or FIRST:LAST:EVERY, such as 4:5 for step 4 alone' \
+  'talft-faults: --steps: invalid range `3`: expected FIRST:LAST or FIRST:LAST:EVERY, such as 4:5 for step 4 alone' \
   faults "$five" --steps 3
 refuses 'steps after the end' \
-  'faults: --steps: `14:` includes no step of the run, which takes 14 steps; LAST is excluded' \
+  'talft-faults: --steps: `14:` includes no step of the run, which takes 14 steps; LAST is excluded' \
   faults "$five" --steps 14:
-refuses 'a missing object' 'faults: missing.obj: no such file' faults missing.obj
+refuses 'a missing object' 'talft-faults: missing.obj: no such file' faults missing.obj
 head -c 1 "$five" >cut.obj
-refuses 'a truncated object' 'faults: cut.obj: status 7: object 2 1' faults cut.obj
+refuses 'a truncated object' 'talft-faults: cut.obj: status 7: object 2 1' faults cut.obj
 TALFT=$work/none refuses 'a missing program' \
-  "faults: $work/none: not found; set \$TALFT to the program \`talft\`, or add its folder to PATH" faults "$five"
-report 'the help' 'usage: faults' "$("$top/tools/faults" --help | head -n 1 | cut -c1-13)"
+  "talft-faults: $work/none: not found; set \$TALFT to the program \`talft\`, or add its folder to PATH" faults "$five"
+report 'the help' 'usage: talft-faults' "$("$top/tools/faults" --help | head -n 1 | cut -c1-19)"
 "$top/tools/faults" "$five" >/dev/full 2>said
-report 'a full disk' '1 faults: standard output: no space left on the device' "$? $(tail -n 1 said)"
+report 'a full disk' '1 talft-faults: standard output: no space left on the device' "$? $(tail -n 1 said)"

@@ -27,7 +27,7 @@ fi
 
 # The commands in README, with everything that they write.
 if has clang 'the commands of README'; then
-  sed -n '/^\$ tools\/cc /,/^```/p' "$top/README.md" | sed '$d' >readme.wanted
+  sed -n '/^\$ tools\/bin\/talft-cc /,/^```/p' "$top/README.md" | sed '$d' >readme.wanted
   (
     cd guide || exit
     grep '^\$ ' ../readme.wanted | while read -r line; do

@@ -25,125 +25,125 @@ while IFS='|' read -r status words message; do
   tool "the status of $words" "$status" '' $words
   report "the message about $words" "$message" "$(if [ "$status" = 2 ]; then head -n 1 said; else tail -n 1 said; fi)"
 done <<END
-2|build|build: missing FILE
-2|build five.asm --uncheked|build: unknown option \`--uncheked\`; did you mean \`--unchecked\`?
-2|build five.asm one.src|build: unexpected argument \`one.src\`: give one file at a time; to put modules together, build each, and give a link map
-2|debugger five.obj list|debugger: unexpected argument \`list\`: commands come after \`-c\`, or from standard input
-2|debugger five.asm -x e1|debugger: unknown option \`-x\`: commands come after \`-c\`, or from standard input
-2|debugger -ex run five.asm|debugger: unknown option \`-ex\`: commands come after \`-c\`, or from standard input
-2|campaign five.obj -j4 --faults list|campaign: unknown option \`-j4\`; did you mean \`--jobs 4\`?
-2|campaign five.obj -j 4 --faults list|campaign: unknown option \`-j\`; did you mean \`--jobs\`?
-2|campaign five.obj -x4 --faults list|campaign: unknown option \`-x4\`
-2|plot lines --out p --format jpg|plot: unknown option \`--format\`: --out NAME.png or NAME.svg chooses the format
-2|cc one.c -o x.obj -s|cc: unknown option \`-s\`; only \`-O\`, \`-I\`, \`-D\`, \`-U\`, \`-W\`, \`-f\`, \`-g\`, \`-m\`, \`-std=\` and \`-w\` are passed on
-2|build five.asm -o a.obj -o b.obj|build: \`-o\` is given twice
-2|build five.asm -o|build: \`-o\` needs a value, OBJECT
-2|build five.asm —unchecked|build: \`—unchecked\` begins with a typographic dash: write \`--unchecked\`
-1|build nosuch.src|build: nosuch.src: no such file
-1|build nofolder/a.src|build: nofolder/a.src: there is no folder \`nofolder\`
-1|build folder|build: folder: is a folder
-1|build /dev/null|build: /dev/null: unknown kind of file; expected a name that ends in .src, .asm or .map
-1|build five.obj|build: five.obj: is already an object; expected a .src, .asm or .map file
-1|build one.c|build: one.c: use \`cc\` for C and for WebAssembly modules
-1|build five.asm -o nofolder/x|build: nofolder/x: there is no folder \`nofolder\`
-1|build five.asm -o folder|build: folder: is a folder; give the output a file name
-1|build five.asm -o /dev/null|build: /dev/null: is not a regular file, so no object can replace it
-1|build unknown.src|build: unknown.src: refused by \`talft compile\`: source 7 20
-2|campaign five.obj|campaign: missing \`--faults FILE\`
-2|campaign five.obj --falts list|campaign: unknown option \`--falts\`; did you mean \`--faults\`?
-2|campaign five.obj --faults list --engine loca|campaign: \`--engine\`: unknown value \`loca\`: expected \`local\`, \`parallel\` or \`slurm\`; did you mean \`local\`?
-2|campaign five.obj --faults list --steps 0|campaign: \`--steps\`: invalid number \`0\`: expected 1 to 1000000
-2|campaign five.obj --faults list --wild 5,z|campaign: \`--wild\`: invalid answers \`5,z\`: expected at most 4096 parts separated by commas, each a number or \`stop\`
-1|campaign five.obj --faults list --dir list|campaign: --dir: list: is a file; give a folder, or the name of a new one
-1|campaign five.obj --faults list --dir kept|campaign: kept/campaign.json: is damaged: remove the folder
-2|campaign five.obj --faults list --hosts a|campaign: --hosts needs --engine parallel
-1|campaign five.asm --faults list|campaign: five.asm: is an assembly text; \`talft asm\` turns it into an object
-1|campaign empty --faults list|campaign: empty: is empty; expected an object
-1|campaign five.obj --faults bad --dir bad.kept|campaign: bad:2: invalid fault \`4:r64:6\`: expected STEP:SITE:WORD; the site \`r64\` is not one of $five_sites
-1|campaign five.obj --faults five.obj --dir object.kept|campaign: five.obj: is an object; expected a fault list
-1|faults nosuch.obj|faults: nosuch.obj: no such file
-1|faults one.src|faults: one.src: is a source; \`talft compile\` turns it into an object
-1|faults list|faults: list: is a fault list; expected an object
-2|faults five.obj --sample -1|faults: \`--sample\`: invalid number \`-1\`: expected a whole number, at least 0
-2|faults five.obj --sample 1 --sample 2|faults: \`--sample\` is given twice
-1|faults five.obj --about five.obj|faults: five.obj: is an input; give the output another name
-1|campaign five.obj --faults list --database five.asm|campaign: --database: five.asm: is not an SQLite database; give another file
-1|campaign five.obj --faults list --database nofolder/x|campaign: nofolder/x: there is no folder \`nofolder\`
-2|faults five.obj –sites r1|faults: \`–sites\` begins with a typographic dash: write \`--sites\`
-2|cc one.c –o x.obj|cc: \`–o\` begins with a typographic dash: write \`-o\`
-2|faults five.obj --out list|faults: unknown option \`--out\`: faults writes to standard output: add \`>FILE\`
-1|faults five.obj/x|faults: five.obj/x: \`five.obj\` is not a folder
-1|faults five|faults: five: no such file; did you mean \`five.obj\` or \`five.asm\`?
-1|build five.asm -o five.obj/x/y|build: five.obj/x/y: \`five.obj\` is not a folder
-1|build nofolder/a/b.src|build: nofolder/a/b.src: there is no folder \`nofolder\`
-2|plot lines --out x.jpg|plot: --out: x.jpg: a picture is SVG or PNG: expected a name that ends in .svg or .png
-2|report lines --object five.obj --out x.pdf|report: --out: x.pdf: the page is HTML: expected a name that ends in .html
-2|set out=5 five.obj|set: missing OBJECT before \`out=5\`
-1|plot nosuch|plot: nosuch: no such file
-1|plot folder|plot: folder: is a folder; give a file with the standard output of \`campaign\`
-1|plot empty|plot: empty: is empty; expected the lines of a campaign
-1|plot /dev/null|plot: /dev/null: is empty; expected the lines of a campaign
-1|plot none|plot: none: has no faults to draw: its campaign had an empty list
-1|plot list|plot: list:1: \`4:r1:6\` is a fault without a verdict: run \`campaign\` over the list, and give the lines that it writes
-1|plot five.obj|plot: five.obj:1: this is an object: expected the lines that a campaign writes
-1|plot twice|plot: twice:3: unexpected \`4:r1:6 detected 11\` after the totals; give one file for each campaign
-1|plot cut|plot: cut:2: missing last line \`faults ..\`, with the totals: the file is incomplete
-1|plot lines --out nofolder/x|plot: nofolder/x.png: there is no folder \`nofolder\`
-2|plot lines --out .|plot: --out: .: expected a file name
-1|plot lines --dir folder|plot: --dir: folder: holds no campaign (no campaign.json); give the folder that \`tools/campaign\` made, or the object with --object
-2|plot lines --dir kept --object five.obj|plot: --dir and --object cannot be combined
-1|plot lines --object list|plot: list: is a fault list; expected an object
-1|report lines --dir .|report: --dir: .: holds no campaign (no campaign.json); give the folder that \`tools/campaign\` made, or the object with --object
-1|report lines --dir nosuch|report: --dir: nosuch: no such folder; give the folder that \`tools/campaign\` made
-1|report lines --dir list|report: --dir: list: is not a folder; give the folder that \`tools/campaign\` made
-1|report lines --dir kept|report: kept/campaign.json: is damaged, or was not written by \`tools/campaign\`
-1|report none --object five.obj|report: none: has no faults to show: its campaign had an empty list
-1|report lines --object five.obj --out folder|report: folder: is a folder; give the output a file name
-1|report lines --object five.obj --source one.src|report: one.src: is not the source of five.obj: the instructions differ
-1|report lines --object other.obj|report: lines:1: \`4:r1:6 detected 11\`: on other.obj this fault is masked; give the object of this campaign, and the same --wild
-2|explain five.obj|explain: missing \`--fault STEP:SITE:WORD\`
-1|explain folder --fault 4:r1:6|explain: folder: is a folder
-1|explain empty --fault 4:r1:6|explain: empty: is empty; expected an object, an assembly text or a source
-2|explain five.obj --fault 4:r1|explain: invalid fault \`4:r1\`: expected STEP:SITE:WORD, such as 4:r1:6
-1|explain five.obj --fault 4:r1:6 --steps 3|explain: --fault 4:r1:6: nothing was struck: the run was cut after 3 steps: raise --steps
-1|lines five.asm|lines: five.asm: is an assembly text, not a source; give the source, and the object with --object
-1|debugger nosuch|debugger: nosuch: no such file
-1|debugger /dev/null|debugger: /dev/null: is empty; expected an object, an assembly text or a source
-2|debugger five.obj --comand step|debugger: unknown option \`--comand\`; did you mean \`--command\`?
-2|dap --port 70000|dap: \`--port\`: invalid number \`70000\`: expected 0 to 65535
-2|ending five.obj --steps ten|ending: \`--steps\`: invalid number \`ten\`: expected a whole number, at least 1
-1|ending five.obj --fault 40:r1:1 --steps 20|ending: --fault: step 40 is not within the 20 steps of the run: raise --steps
-2|ending five.obj --fault 4,r1,6|ending: --fault: invalid fault \`4,r1,6\`: expected STEP:SITE:WORD; its parts are separated by \`:\`
-2|ending five.obj --fault r1:4:6|ending: --fault: invalid fault \`r1:4:6\`: expected STEP:SITE:WORD; the step comes first, then the site
-2|ending five.obj --fault 4:R1:6|ending: --fault: invalid fault \`4:R1:6\`: expected STEP:SITE:WORD; write sites in lower case, as \`r1\`
-1|ending five.obj --text nosuch|ending: nosuch: no such file
-1|ending five.obj --text other.asm|ending: --text: other.asm: is not the text of five.obj; give the one that \`cc --text\` wrote for it
-1|ending five.obj --text other.obj|ending: other.obj: error: this is an object, not an assembly text: \`talft dis FILE\` writes its assembly text
-1|set five.obj --from lines -o lines|set: lines: is an input; give the output another name
-2|set|set: missing OBJECT
-2|set five.obj|set: missing NAME=WORD, \`--from FILE\` or \`--list\`
-2|set five.obj out|set: invalid argument \`out\`: expected NAME=WORD
-2|set five.obj =3|set: invalid argument \`=3\`: expected NAME=WORD
-1|set five.obj ou=1|set: five.obj: unknown cell \`ou\`; did you mean \`out\`?; --list lists the cells
-1|set empty out=1|set: empty: is empty; expected an object
-2|wasm2asm|wasm2asm: missing MODULE.wasm
-1|wasm2asm folder|wasm2asm: folder: is a folder
-1|wasm2asm one.c|wasm2asm: one.c: offset 0x0: is not a WebAssembly module of version 1; give the output of wasm-ld; \`cc\` takes C
-2|cc|cc: missing FILE and \`-o OBJECT\`
-2|cc one.c -o x.obj --stack 7|cc: \`--stack\`: invalid number \`7\`: expected a multiple of 16 from 16 to 65536
-2|cc one.c -o x.obj -lm|cc: unknown option \`-lm\`: there are no libraries; this \`cc\` makes talft objects; for a program of this machine use gcc or /usr/bin/cc
-2|cc one.c -o x.obj --stak 16|cc: unknown option \`--stak\`; did you mean \`--stack\`?
-1|cc one.c one.c -o x.obj|cc: one.c: is given twice
-1|cc one.c -o nofolder/x.obj|cc: nofolder/x.obj: there is no folder \`nofolder\`
-1|cc one.c -o x.obj --text x.obj|cc: x.obj: is given for two outputs; give each its own name
-1|cc five.asm -o x.obj|cc: five.asm: is an assembly text: use \`build\`; expected C files, or one .wasm module
-1|cc one.src -o x.obj|cc: one.src: is a source: use \`build\`; expected C files, or one .wasm module
-1|cc five.obj -o x.obj|cc: five.obj: is already an object; expected C files, or one .wasm module
-1|cc /dev/null -o x.obj|cc: /dev/null: is empty; expected C files, or one .wasm module
-1|cc nosuch.c -o x.obj|cc: nosuch.c: no such file
+2|build|talft-build: missing FILE
+2|build five.asm --uncheked|talft-build: unknown option \`--uncheked\`; did you mean \`--unchecked\`?
+2|build five.asm one.src|talft-build: unexpected argument \`one.src\`: give one file at a time; to put modules together, build each, and give a link map
+2|debugger five.obj list|talft-debugger: unexpected argument \`list\`: commands come after \`-c\`, or from standard input
+2|debugger five.asm -x e1|talft-debugger: unknown option \`-x\`: commands come after \`-c\`, or from standard input
+2|debugger -ex run five.asm|talft-debugger: unknown option \`-ex\`: commands come after \`-c\`, or from standard input
+2|campaign five.obj -j4 --faults list|talft-campaign: unknown option \`-j4\`; did you mean \`--jobs 4\`?
+2|campaign five.obj -j 4 --faults list|talft-campaign: unknown option \`-j\`; did you mean \`--jobs\`?
+2|campaign five.obj -x4 --faults list|talft-campaign: unknown option \`-x4\`
+2|plot lines --out p --format jpg|talft-plot: unknown option \`--format\`: --out NAME.png or NAME.svg chooses the format
+2|cc one.c -o x.obj -s|talft-cc: unknown option \`-s\`; only \`-O\`, \`-I\`, \`-D\`, \`-U\`, \`-W\`, \`-f\`, \`-g\`, \`-m\`, \`-std=\` and \`-w\` are passed on
+2|build five.asm -o a.obj -o b.obj|talft-build: \`-o\` is given twice
+2|build five.asm -o|talft-build: \`-o\` needs a value, OBJECT
+2|build five.asm —unchecked|talft-build: \`—unchecked\` begins with a typographic dash: write \`--unchecked\`
+1|build nosuch.src|talft-build: nosuch.src: no such file
+1|build nofolder/a.src|talft-build: nofolder/a.src: there is no folder \`nofolder\`
+1|build folder|talft-build: folder: is a folder
+1|build /dev/null|talft-build: /dev/null: unknown kind of file; expected a name that ends in .src, .asm or .map
+1|build five.obj|talft-build: five.obj: is already an object; expected a .src, .asm or .map file
+1|build one.c|talft-build: one.c: use \`talft-cc\` for C and for WebAssembly modules
+1|build five.asm -o nofolder/x|talft-build: nofolder/x: there is no folder \`nofolder\`
+1|build five.asm -o folder|talft-build: folder: is a folder; give the output a file name
+1|build five.asm -o /dev/null|talft-build: /dev/null: is not a regular file, so no object can replace it
+1|build unknown.src|talft-build: unknown.src: refused by \`talft compile\`: source 7 20
+2|campaign five.obj|talft-campaign: missing \`--faults FILE\`
+2|campaign five.obj --falts list|talft-campaign: unknown option \`--falts\`; did you mean \`--faults\`?
+2|campaign five.obj --faults list --engine loca|talft-campaign: \`--engine\`: unknown value \`loca\`: expected \`local\`, \`parallel\` or \`slurm\`; did you mean \`local\`?
+2|campaign five.obj --faults list --steps 0|talft-campaign: \`--steps\`: invalid number \`0\`: expected 1 to 1000000
+2|campaign five.obj --faults list --wild 5,z|talft-campaign: \`--wild\`: invalid answers \`5,z\`: expected at most 4096 parts separated by commas, each a number or \`stop\`
+1|campaign five.obj --faults list --dir list|talft-campaign: --dir: list: is a file; give a folder, or the name of a new one
+1|campaign five.obj --faults list --dir kept|talft-campaign: kept/campaign.json: is damaged: remove the folder
+2|campaign five.obj --faults list --hosts a|talft-campaign: --hosts needs --engine parallel
+1|campaign five.asm --faults list|talft-campaign: five.asm: is an assembly text; \`talft asm\` turns it into an object
+1|campaign empty --faults list|talft-campaign: empty: is empty; expected an object
+1|campaign five.obj --faults bad --dir bad.kept|talft-campaign: bad:2: invalid fault \`4:r64:6\`: expected STEP:SITE:WORD; the site \`r64\` is not one of $five_sites
+1|campaign five.obj --faults five.obj --dir object.kept|talft-campaign: five.obj: is an object; expected a fault list
+1|faults nosuch.obj|talft-faults: nosuch.obj: no such file
+1|faults one.src|talft-faults: one.src: is a source; \`talft compile\` turns it into an object
+1|faults list|talft-faults: list: is a fault list; expected an object
+2|faults five.obj --sample -1|talft-faults: \`--sample\`: invalid number \`-1\`: expected a whole number, at least 0
+2|faults five.obj --sample 1 --sample 2|talft-faults: \`--sample\` is given twice
+1|faults five.obj --about five.obj|talft-faults: five.obj: is an input; give the output another name
+1|campaign five.obj --faults list --database five.asm|talft-campaign: --database: five.asm: is not an SQLite database; give another file
+1|campaign five.obj --faults list --database nofolder/x|talft-campaign: nofolder/x: there is no folder \`nofolder\`
+2|faults five.obj –sites r1|talft-faults: \`–sites\` begins with a typographic dash: write \`--sites\`
+2|cc one.c –o x.obj|talft-cc: \`–o\` begins with a typographic dash: write \`-o\`
+2|faults five.obj --out list|talft-faults: unknown option \`--out\`: talft-faults writes to standard output: add \`>FILE\`
+1|faults five.obj/x|talft-faults: five.obj/x: \`five.obj\` is not a folder
+1|faults five|talft-faults: five: no such file; did you mean \`five.obj\` or \`five.asm\`?
+1|build five.asm -o five.obj/x/y|talft-build: five.obj/x/y: \`five.obj\` is not a folder
+1|build nofolder/a/b.src|talft-build: nofolder/a/b.src: there is no folder \`nofolder\`
+2|plot lines --out x.jpg|talft-plot: --out: x.jpg: a picture is SVG or PNG: expected a name that ends in .svg or .png
+2|report lines --object five.obj --out x.pdf|talft-report: --out: x.pdf: the page is HTML: expected a name that ends in .html
+2|set out=5 five.obj|talft-set: missing OBJECT before \`out=5\`
+1|plot nosuch|talft-plot: nosuch: no such file
+1|plot folder|talft-plot: folder: is a folder; give a file with the standard output of \`talft-campaign\`
+1|plot empty|talft-plot: empty: is empty; expected the lines of a campaign
+1|plot /dev/null|talft-plot: /dev/null: is empty; expected the lines of a campaign
+1|plot none|talft-plot: none: has no faults to draw: its campaign had an empty list
+1|plot list|talft-plot: list:1: \`4:r1:6\` is a fault without a verdict: run \`talft-campaign\` over the list, and give the lines that it writes
+1|plot five.obj|talft-plot: five.obj:1: this is an object: expected the lines that a campaign writes
+1|plot twice|talft-plot: twice:3: unexpected \`4:r1:6 detected 11\` after the totals; give one file for each campaign
+1|plot cut|talft-plot: cut:2: missing last line \`faults ..\`, with the totals: the file is incomplete
+1|plot lines --out nofolder/x|talft-plot: nofolder/x.png: there is no folder \`nofolder\`
+2|plot lines --out .|talft-plot: --out: .: expected a file name
+1|plot lines --dir folder|talft-plot: --dir: folder: holds no campaign (no campaign.json); give the folder that \`talft-campaign\` made, or the object with --object
+2|plot lines --dir kept --object five.obj|talft-plot: --dir and --object cannot be combined
+1|plot lines --object list|talft-plot: list: is a fault list; expected an object
+1|report lines --dir .|talft-report: --dir: .: holds no campaign (no campaign.json); give the folder that \`talft-campaign\` made, or the object with --object
+1|report lines --dir nosuch|talft-report: --dir: nosuch: no such folder; give the folder that \`talft-campaign\` made
+1|report lines --dir list|talft-report: --dir: list: is not a folder; give the folder that \`talft-campaign\` made
+1|report lines --dir kept|talft-report: kept/campaign.json: is damaged, or was not written by \`talft-campaign\`
+1|report none --object five.obj|talft-report: none: has no faults to show: its campaign had an empty list
+1|report lines --object five.obj --out folder|talft-report: folder: is a folder; give the output a file name
+1|report lines --object five.obj --source one.src|talft-report: one.src: is not the source of five.obj: the instructions differ
+1|report lines --object other.obj|talft-report: lines:1: \`4:r1:6 detected 11\`: on other.obj this fault is masked; give the object of this campaign, and the same --wild
+2|explain five.obj|talft-explain: missing \`--fault STEP:SITE:WORD\`
+1|explain folder --fault 4:r1:6|talft-explain: folder: is a folder
+1|explain empty --fault 4:r1:6|talft-explain: empty: is empty; expected an object, an assembly text or a source
+2|explain five.obj --fault 4:r1|talft-explain: invalid fault \`4:r1\`: expected STEP:SITE:WORD, such as 4:r1:6
+1|explain five.obj --fault 4:r1:6 --steps 3|talft-explain: --fault 4:r1:6: nothing was struck: the run was cut after 3 steps: raise --steps
+1|lines five.asm|talft-lines: five.asm: is an assembly text, not a source; give the source, and the object with --object
+1|debugger nosuch|talft-debugger: nosuch: no such file
+1|debugger /dev/null|talft-debugger: /dev/null: is empty; expected an object, an assembly text or a source
+2|debugger five.obj --comand step|talft-debugger: unknown option \`--comand\`; did you mean \`--command\`?
+2|dap --port 70000|talft-dap: \`--port\`: invalid number \`70000\`: expected 0 to 65535
+2|ending five.obj --steps ten|talft-ending: \`--steps\`: invalid number \`ten\`: expected a whole number, at least 1
+1|ending five.obj --fault 40:r1:1 --steps 20|talft-ending: --fault: step 40 is not within the 20 steps of the run: raise --steps
+2|ending five.obj --fault 4,r1,6|talft-ending: --fault: invalid fault \`4,r1,6\`: expected STEP:SITE:WORD; its parts are separated by \`:\`
+2|ending five.obj --fault r1:4:6|talft-ending: --fault: invalid fault \`r1:4:6\`: expected STEP:SITE:WORD; the step comes first, then the site
+2|ending five.obj --fault 4:R1:6|talft-ending: --fault: invalid fault \`4:R1:6\`: expected STEP:SITE:WORD; write sites in lower case, as \`r1\`
+1|ending five.obj --text nosuch|talft-ending: nosuch: no such file
+1|ending five.obj --text other.asm|talft-ending: --text: other.asm: is not the text of five.obj; give the one that \`talft-cc --text\` wrote for it
+1|ending five.obj --text other.obj|talft-ending: other.obj: error: this is an object, not an assembly text: \`talft dis FILE\` writes its assembly text
+1|set five.obj --from lines -o lines|talft-set: lines: is an input; give the output another name
+2|set|talft-set: missing OBJECT
+2|set five.obj|talft-set: missing NAME=WORD, \`--from FILE\` or \`--list\`
+2|set five.obj out|talft-set: invalid argument \`out\`: expected NAME=WORD
+2|set five.obj =3|talft-set: invalid argument \`=3\`: expected NAME=WORD
+1|set five.obj ou=1|talft-set: five.obj: unknown cell \`ou\`; did you mean \`out\`?; --list lists the cells
+1|set empty out=1|talft-set: empty: is empty; expected an object
+2|wasm2asm|talft-wasm2asm: missing MODULE.wasm
+1|wasm2asm folder|talft-wasm2asm: folder: is a folder
+1|wasm2asm one.c|talft-wasm2asm: one.c: offset 0x0: is not a WebAssembly module of version 1; give the output of wasm-ld; \`talft-cc\` takes C
+2|cc|talft-cc: missing FILE and \`-o OBJECT\`
+2|cc one.c -o x.obj --stack 7|talft-cc: \`--stack\`: invalid number \`7\`: expected a multiple of 16 from 16 to 65536
+2|cc one.c -o x.obj -lm|talft-cc: unknown option \`-lm\`: there are no libraries; \`talft-cc\` makes talft objects; for a program of this machine use gcc or cc
+2|cc one.c -o x.obj --stak 16|talft-cc: unknown option \`--stak\`; did you mean \`--stack\`?
+1|cc one.c one.c -o x.obj|talft-cc: one.c: is given twice
+1|cc one.c -o nofolder/x.obj|talft-cc: nofolder/x.obj: there is no folder \`nofolder\`
+1|cc one.c -o x.obj --text x.obj|talft-cc: x.obj: is given for two outputs; give each its own name
+1|cc five.asm -o x.obj|talft-cc: five.asm: is an assembly text: use \`talft-build\`; expected C files, or one .wasm module
+1|cc one.src -o x.obj|talft-cc: one.src: is a source: use \`talft-build\`; expected C files, or one .wasm module
+1|cc five.obj -o x.obj|talft-cc: five.obj: is already an object; expected C files, or one .wasm module
+1|cc /dev/null -o x.obj|talft-cc: /dev/null: is empty; expected C files, or one .wasm module
+1|cc nosuch.c -o x.obj|talft-cc: nosuch.c: no such file
 END
 TALFT=$PWD/folder refuses 'a folder as the program' \
-  "faults: $PWD/folder: is a folder; set \$TALFT to the program \`talft\`, or add its folder to PATH" faults five.obj
+  "talft-faults: $PWD/folder: is a folder; set \$TALFT to the program \`talft\`, or add its folder to PATH" faults five.obj
 report 'no file is made' '' "$(ls x.obj ./*.new nofolder 2>/dev/null)"
 
 # Clang's messages are passed on and explained. A stand-in for clang prints them.
@@ -160,7 +160,7 @@ printf "one.c:1:10: fatal error: 'mine.h' file not found\n" >mine
 printf 'wasm-ld: error: /tmp/a.o: undefined symbol: printf\nwasm-ld: error: /tmp/a.o: undefined symbol: exit\n' >symbols
 printf "clang: error: unable to execute command: Executable \"wasm-ld\" doesn't exist!\n" >linker
 refuses_clang() {
-  CLANG=$PWD/clang CLANG_SAYS=$PWD/$1 refuses "the message $1 of clang" "cc: clang cannot compile or link one.c: its messages are above; $2" \
+  CLANG=$PWD/clang CLANG_SAYS=$PWD/$1 refuses "the message $1 of clang" "talft-cc: clang cannot compile or link one.c: its messages are above; $2" \
     cc one.c -o x.obj
   report "the message $1 of clang itself" '' "$(diff <(head -n -1 said) "$1")"
 }
@@ -176,38 +176,38 @@ refuses_clang puts '`puts` is not defined: add the C file that defines it, or do
 refuses_clang linker 'the linker wasm-ld is not found: install lld'
 echo 'clang: error: unable to make temporary file: No such file or directory' >unable
 CLANG=$PWD/clang CLANG_SAYS=$PWD/unable TMPDIR=/nonexistent refuses 'a missing TMPDIR' \
-  'cc: clang cannot make a temporary file: TMPDIR is `/nonexistent`: set it to a writable folder' cc one.c -o x.obj
+  'talft-cc: clang cannot make a temporary file: TMPDIR is `/nonexistent`: set it to a writable folder' cc one.c -o x.obj
 CLANG=$PWD/clang CLANG_SAYS=$PWD/unable TMPDIR='' TMP='' TEMP='' TEMPDIR='' refuses '/tmp, which cannot be written' \
-  'cc: clang cannot make a temporary file: /tmp cannot be written: set TMPDIR to a writable folder' cc one.c -o x.obj
+  'talft-cc: clang cannot make a temporary file: /tmp cannot be written: set TMPDIR to a writable folder' cc one.c -o x.obj
 if has clang 'the functions of a C file' && has wasm-ld 'the functions of a C file'; then
   printf 'int x;\nint foo(void) { return x + 1; }\nvoid step(int a) { x = a; }\n' >two.c
   echo 'static int x;' >nothing.c
   TMPDIR=/nonexistent refuses 'a TMPDIR that clang does not find' \
-    'cc: clang cannot make a temporary file: TMPDIR is `/nonexistent`: set it to a writable folder' cc two.c -o x.obj
-  refuses 'a C file without an entry' 'cc: two.c: defines no function `run` or `main`; use --entry with `foo` or `step`' \
+    'talft-cc: clang cannot make a temporary file: TMPDIR is `/nonexistent`: set it to a writable folder' cc two.c -o x.obj
+  refuses 'a C file without an entry' 'talft-cc: two.c: defines no function `run` or `main`; use --entry with `foo` or `step`' \
     cc two.c -o x.obj
-  refuses 'an entry that is misspelled' 'cc: two.c: defines no function `fooo`; did you mean `foo`?' \
+  refuses 'an entry that is misspelled' 'talft-cc: two.c: defines no function `fooo`; did you mean `foo`?' \
     cc two.c --entry fooo -o x.obj
   refuses 'an entry with a parameter' \
-    'cc: two.c: function step: offset 0x38: the entry takes 1 parameter; no arguments can be passed: name a function '\
+    'talft-cc: two.c: function step: offset 0x38: the entry takes 1 parameter; no arguments can be passed: name a function '\
 'without parameters, such as `int main(void)`; inputs are global variables' \
     cc two.c --entry step -o x.obj
   printf 'volatile int x;\nint main(int argc, char **argv) { x = argc; return 0; }\n' >main.c
   refuses 'a main with arguments' \
-    'cc: main.c: function main: offset 0x46: the entry takes 2 parameters; no arguments can be passed: name a function '\
+    'talft-cc: main.c: function main: offset 0x46: the entry takes 2 parameters; no arguments can be passed: name a function '\
 'without parameters, such as `int main(void)`; inputs are global variables' cc main.c -o x.obj
   printf 'volatile double x = 2.0, y;\nvoid run(void) { y = __builtin_sqrt(x); }\n' >root.c
-  refuses 'a square root' 'cc: root.c: function run: offset 0x42: a floating-point instruction (f64.sqrt); compiler-rt has no square root: '\
+  refuses 'a square root' 'talft-cc: root.c: function run: offset 0x42: a floating-point instruction (f64.sqrt); compiler-rt has no square root: '\
 'write it with + - * / and comparisons, or use integers' cc root.c -o x.obj
   printf 'volatile double x = 2.0, y;\nvoid run(void) { y = x * 3; y = __builtin_floor(y); }\n' >down.c
-  refuses 'rounding' 'cc: down.c: function run: offset 0x5e: a floating-point instruction (f64.floor); compiler-rt has no rounding: '\
+  refuses 'rounding' 'talft-cc: down.c: function run: offset 0x5e: a floating-point instruction (f64.floor); compiler-rt has no rounding: '\
 'write it with + - * / and comparisons, or use integers' cc down.c -o x.obj
   clang --target=wasm32 -c -O2 one.c -o one.o
   tool 'an object of clang' 0 '' cc one.o -o of_clang.obj
   printf 'volatile int x;\nvoid run(void) { while (1) x = x + 1; }\n' >endless.c
   tool 'an endless C program' 0 '' cc endless.c --steps 1000 -o endless.obj
   report 'the message about an endless C program' \
-    'cc: note: endless.obj: the run was cut after 1000 steps; a larger --steps verifies more; a program that never '\
+    'talft-cc: note: endless.obj: the run was cut after 1000 steps; a larger --steps verifies more; a program that never '\
 'ends is always cut' \
     "$(tail -n 1 said)"
   printf 'int x;\nvoid run(void) { int a[1000]; for (int i = 0; i < 1000; i++) a[i] = i; x = a[x]; }\n' >large.c
@@ -215,28 +215,28 @@ if has clang 'the functions of a C file' && has wasm-ld 'the functions of a C fi
   report 'the message about an array that is larger than the stack' 'if the stack is too small, raise --stack (512)' \
     "$(tail -n 1 said | sed 's/.*; //')"
   echo 'int x; void run() { x = 1; }' >plus.cpp
-  refuses 'a C++ file' 'cc: plus.cpp: defines no function `run` or `main`; use --entry with `_Z3runv`' cc plus.cpp -o x.obj
+  refuses 'a C++ file' 'talft-cc: plus.cpp: defines no function `run` or `main`; use --entry with `_Z3runv`' cc plus.cpp -o x.obj
   refuses 'a C file without a function' \
-    'cc: nothing.c: defines no function `run` or `main`; the entry is `void run(void)`, and not static' cc nothing.c -o x.obj
+    'talft-cc: nothing.c: defines no function `run` or `main`; the entry is `void run(void)`, and not static' cc nothing.c -o x.obj
 fi
 
 # Messages escape control characters, and cut long words.
-refuses 'a name with an escape' 'debugger: a\x1b[31mb: no such file' debugger $'a\e[31mb'
-refuses 'a name with a line feed' 'plot: a\nb: no such file' plot $'a\nb'
-refuses 'a name that is not UTF-8' 'faults: a\xffb: no such file' faults $'a\xffb'
-misused 'an empty list of words' 'faults: --values: invalid number ``: expected decimal numbers below 2^64, separated by commas' \
+refuses 'a name with an escape' 'talft-debugger: a\x1b[31mb: no such file' debugger $'a\e[31mb'
+refuses 'a name with a line feed' 'talft-plot: a\nb: no such file' plot $'a\nb'
+refuses 'a name that is not UTF-8' 'talft-faults: a\xffb: no such file' faults $'a\xffb'
+misused 'an empty list of words' 'talft-faults: --values: invalid number ``: expected decimal numbers below 2^64, separated by commas' \
   faults five.obj --values ''
-refuses 'an empty name' 'ending: an empty file name: no such file' ending ''
+refuses 'an empty name' 'talft-ending: an empty file name: no such file' ending ''
 long=$(printf 'r%.0s' {1..5000})
-misused 'a long site' "faults: --sites: unknown site \`${long:0:58}..\`: the sites are $five_sites" \
+misused 'a long site' "talft-faults: --sites: unknown site \`${long:0:58}..\`: the sites are $five_sites" \
   faults five.obj --sites "$long"
-refuses 'a name that is too long' "build: ${long:0:99}..${long:0:99}: the name is too long" build "$long"
+refuses 'a name that is too long' "talft-build: ${long:0:99}..${long:0:99}: the name is too long" build "$long"
 report 'an escape at the prompt' 'line 1: invalid number `\x1b[31m`: expected decimal digits, or hex as 0x10' \
   "$(printf 'zap r1 \e[31m\n' | "$top/tools/debugger" five.obj 2>&1 | tail -n 1)"
 if [ "$(id -u)" != 0 ]; then
   cp five.obj secret.obj
   chmod 0 secret.obj
-  refuses 'an unreadable file' 'faults: secret.obj: permission denied' faults secret.obj
+  refuses 'an unreadable file' 'talft-faults: secret.obj: permission denied' faults secret.obj
 fi
 
 # Mistaken commands of the debugger.
@@ -248,8 +248,8 @@ for row in 'stepp|unknown command `stepp`; did you mean `step`?; `help` lists th
   'delete 7|no breakpoint or watch has the number 7: `info breaks` lists them' 'source nosuch|nosuch: no such file' \
   'source folder|folder: is a folder' 'zap r1|missing site or word: write it as in `zap r1 6`' \
   'zap r1 = 6|write `zap r1 6`, without `=`' 'zap r1=6|write `zap r1 6`, without `=`' 'flip r1 =0|write `flip r1 0`, without `=`' \
-  'set var out=5|unknown command `set`: `zap` changes a word in a register: a strike; cells cannot be changed (tools/set changes their initial words)' \
-  'layout asm|unknown command `layout`: `debugger FILE --tui` shows a full screen' \
+  'set var out=5|unknown command `set`: `zap` changes a word in a register: a strike; cells cannot be changed (`talft-set` changes their initial words)' \
+  'layout asm|unknown command `layout`: `talft-debugger FILE --tui` shows a full screen' \
   'start|unknown command `start`: `run` goes to the start' 'kill|unknown command `kill`: `run` goes to the start, `quit` ends' \
   'up|unknown command `up`: `where` shows the place; there are no calls' \
   'down|unknown command `down`: `where` shows the place; there are no calls' \
@@ -268,7 +268,7 @@ printf 'import tempfile\ntempfile._candidate_tempdir_list = lambda: ["/nonexiste
 while read -r words; do
   # shellcheck disable=SC2086
   report "no temporary folder: $words" \
-    "1 ${words%% *}: no temporary folder (/tmp, /var/tmp, ..) is writable: set TMPDIR" \
+    "1 talft-${words%% *}: no temporary folder (/tmp, /var/tmp, ..) is writable: set TMPDIR" \
     "$(PYTHONPATH=$PWD/no_temporary "$top"/tools/$words 2>said >/dev/null </dev/null; echo "$? $(cat said)")"
 done <<'END'
 set five.obj out=5 -o x.obj
@@ -286,7 +286,7 @@ limited() {
   local words told
   while IFS='|' read -r words told; do
     # shellcheck disable=SC2086
-    report "a limit on files: $words" "${words%% *}: $told" "$(ulimit -f 1
+    report "a limit on files: $words" "talft-${words%% *}: $told" "$(ulimit -f 1
       TMPDIR=$PWD/folder TALFT=$top/talft "$top"/tools/$words 2>&1 >/dev/null </dev/null | tail -n 1 |
         sed "s|$PWD/folder/tmp[a-z0-9_]*|TEMP|; s|$PWD/||")"
   done
@@ -299,18 +299,18 @@ explain five.obj --fault 4:r1:6|a temporary file in folder: file too large
 build big.asm -o x.obj|x.obj: `talft asm`: killed by signal 25: file too large
 END
 ! has gnuplot 'a limit on files: plot' || limited <<<'plot lines --out limited.svg|TEMP/picture: file too large'
-report 'standard output that is limited' 'faults: standard output: file too large' \
+report 'standard output that is limited' 'talft-faults: standard output: file too large' \
   "$(ulimit -f 1; "$top/tools/faults" big.obj --flip all --sample 999 2>&1 >limited | tail -n 1)"
 
 # On a terminal, no object is written, and an error starts a new line.
 if has script 'mistakes on a terminal'; then
   on_terminal() { timeout 60 script -qec "$1" /dev/null </dev/null | tr -d '\r'; }
   report 'an object to a terminal' \
-    'set: not written: an object is binary, and standard output is a terminal; use -o FILE or >FILE' \
+    'talft-set: not written: an object is binary, and standard output is a terminal; use -o FILE or >FILE' \
     "$(on_terminal "$top/tools/set five.obj out=1")"
-  report 'an unknown option on a terminal' 'plot: unknown option `--ot`; did you mean `--out`?' \
+  report 'an unknown option on a terminal' 'talft-plot: unknown option `--ot`; did you mean `--out`?' \
     "$(on_terminal "$top/tools/plot lines --ot x" | head -n 1)"
-  report 'a bad line on a terminal' 'campaign: bad:2: invalid fault `4:r64:6`' \
+  report 'a bad line on a terminal' 'talft-campaign: bad:2: invalid fault `4:r64:6`' \
     "$(on_terminal "$top/tools/campaign five.obj --faults bad --dir terminal.kept" | tail -n 1 | sed 's/.*\x1b\[K//; s/: expected.*//')"
   report 'the prompt on a terminal' 'unknown command `stepp`; did you mean `step`?; `help` lists the commands' \
     "$(on_terminal "$top/tools/debugger five.obj -c stepp -c quit" | grep unknown | sed 's/\x1b\[[0-9;]*m//g')"

@@ -68,25 +68,25 @@ fi
 
 head -n 5 few.lines >cut.lines
 refuses 'truncated lines' \
-  'plot: cut.lines:6: missing last line `faults ..`, with the totals: the file is incomplete' plot cut.lines
+  'talft-plot: cut.lines:6: missing last line `faults ..`, with the totals: the file is incomplete' plot cut.lines
 sed 's/idle 4/idle 5/' few.lines >wrong.lines
 refuses 'totals that are not those of the lines' \
-  'plot: wrong.lines:21: the totals do not match the lines, which add up to masked 10 detected 5 idle 4 corrupt 1' plot wrong.lines
+  'talft-plot: wrong.lines:21: the totals do not match the lines, which add up to masked 10 detected 5 idle 4 corrupt 1' plot wrong.lines
 sed '3s/masked/broken/' few.lines >broken.lines
 refuses 'an invalid line' \
-  'plot: broken.lines:3: unexpected `2:r0:1 broken`: expected STEP:SITE:WORD VERDICT, as `talft campaign` writes it' \
+  'talft-plot: broken.lines:3: unexpected `2:r0:1 broken`: expected STEP:SITE:WORD VERDICT, as `talft campaign` writes it' \
   plot broken.lines
 echo 'faults 0 masked 0 detected 0 idle 0 corrupt 0' >none.lines
-refuses 'a campaign without a fault' 'plot: none.lines: has no faults to draw: its campaign had an empty list' \
+refuses 'a campaign without a fault' 'talft-plot: none.lines: has no faults to draw: its campaign had an empty list' \
   plot none.lines
-refuses 'a missing file' 'plot: absent: no such file' plot absent
+refuses 'a missing file' 'talft-plot: absent: no such file' plot absent
 misused 'a page without an object' \
-  'report: missing object: give `--dir DIR`, the folder that `tools/campaign` made, or `--object OBJECT`' report few.lines
+  'talft-report: missing object: give `--dir DIR`, the folder that `talft-campaign` made, or `--object OBJECT`' report few.lines
 refuses 'a page of truncated lines' \
-  'report: cut.lines:6: missing last line `faults ..`, with the totals: the file is incomplete' \
+  'talft-report: cut.lines:6: missing last line `faults ..`, with the totals: the file is incomplete' \
   report cut.lines --object "$top/examples/five.obj"
 for script in plot report; do
-  report "the help of $script" "usage: $script" "$("$top/tools/$script" --help | head -n 1 | grep -o "usage: $script")"
+  report "the help of $script" "usage: talft-$script" "$("$top/tools/$script" --help | head -n 1 | grep -o "usage: talft-$script")"
 done
 
 # The instructions that a page names, for a fault before each fetch.
@@ -126,7 +126,8 @@ if command -v gnuplot >/dev/null; then
   mkdir reader
   ln -s "$top/talft" "$top/tools" "$top/tests" "$top/examples" reader
   awk '/^```/ { inside = !inside; next } inside' "$top/docs/TOOLS.md" >reader/commands
-  report 'the messages of the commands in docs/TOOLS.md' '' "$(cd reader && bash commands 2>&1 | grep -v '^faults: [0-9]\|^campaign: [0-9]\|: wrote ')"
+  report 'the messages of the commands in docs/TOOLS.md' '' \
+    "$(cd reader && PATH=$PWD:$PWD/tools/bin:$PATH bash commands 2>&1 | grep -v '^talft-faults: [0-9]\|^talft-campaign: [0-9]\|: wrote ')"
   count=$(grep -o 'has [0-9,]* faults' "$top/docs/TOOLS.md" | tr -dc 0-9)
   report 'the number of faults in docs/TOOLS.md' "$count" "$(grep -c : reader/lines)"
   report 'the pictures that these commands draw' 'both.png both.svg fibonacci.html fibonacci.png fibonacci.svg' \
@@ -179,7 +180,7 @@ if command -v gnuplot >/dev/null && has $browser 'a page in a browser'; then
   where=$(printf 'step %d\nwhere\n' "$step" | "$top/talft" debug unpaired.obj | sed -n '$s/.* block/block/p')
   {
     echo 'unpaired: faults'
-    echo 'campaign unpaired.obj --survey --faults list --steps 1000 --dir unpaired'
+    echo 'talft-campaign unpaired.obj --survey --faults list --steps 1000 --dir unpaired'
     tail -n 1 unpaired.lines
     echo True
     chosen r1 corrupt
@@ -189,7 +190,7 @@ if command -v gnuplot >/dev/null && has $browser 'a page in a browser'; then
     echo 200
     chosen r1 corrupt
     echo "$step $site $(hex "$old") $(hex "$word") 0 $verdict (before its $([ $((step % 2)) -eq 0 ] && echo fetch || echo execution) $where) why"
-    echo 'explain unpaired/object --fault '"$step:$site:$word"
+    echo 'talft-explain unpaired/object --fault '"$step:$site:$word"
     "$top/tools/explain" unpaired.obj --fault "$step:$site:$word" | head -n 1 | tr -d ,
     echo '#site=r1&verdict=corrupt'
     echo '0 errors'

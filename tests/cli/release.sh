@@ -12,9 +12,9 @@ report 'the bytes of a release made twice' \
 # `runs_guide NAME FOLDER` runs the guide with the program, tools and examples installed under a folder.
 runs_guide() {
   local place=$release/${1// /_} asked
-  mkdir "$place"
-  ln -s "$2/bin/talft" "$place/talft"
-  ln -s "$2/share/talft/tools" "$2/share/talft/examples" "$place"
+  mkdir -p "$place/tools"
+  ln -s "$2/bin" "$place/tools/bin"
+  ln -s "$2/bin/talft" "$2/share/talft/examples" "$place"
   got=$(env -u TALFT python3 "$top/tests/guide.py" "$top/docs/GUIDE.md" "$place" 2>&1)
   asked=$(sed -n 's/^\([0-9]*\) of .*/\1/p' <<<"$got")
   report "the guide with $1" "$asked of $asked commands write what the guide says" "$(grep -v '^left out' <<<"$got")"
@@ -103,5 +103,5 @@ if has dpkg-deb 'the Debian package'; then
   runs_guide 'the package' "$root/usr"
   library_runs 'the package' "$root/usr"
   debian --purge talft
-  report 'nothing is left of the package' '' "$(find "$root" -path "$root/var" -prune -o -type f -print)"
+  report 'nothing is left of the package' '' "$(find "$root" -path "$root/var" -prune -o ! -type d -print)"
 fi

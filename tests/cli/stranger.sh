@@ -6,22 +6,23 @@ tool 'an object is built' 0 '' build built.asm
 expect 'the object that was built' 0 'out 5\n' run built.obj
 cp built.obj old.obj
 echo 'cell out = 0; out = x;' >built.src
-refuses 'a source that is refused' 'build: built.src: refused by `talft compile`: source 7 20' build built.src
+refuses 'a source that is refused' 'talft-build: built.src: refused by `talft compile`: source 7 20' build built.src
 report 'the old object stays' '' "$(cmp built.obj old.obj 2>&1)"
 cp "$top/examples/mixed.obj" wrong.obj
 "$top/talft" dis wrong.obj >wrong.asm
-refuses 'an object that is not accepted' "build: wrong.asm:$(grep -n '^add r33 r1 B 0$' wrong.asm | cut -d : -f 1): refused by \`talft check\`: check block 0 index 3 premise 2" \
+refuses 'an object that is not accepted' \
+  "talft-build: wrong.asm:$(grep -n '^add r33 r1 B 0$' wrong.asm | cut -d : -f 1): refused by \`talft check\`: check block 0 index 3 premise 2" \
   build wrong.asm
 report 'nothing is left over' '' "$(ls ./*.new 2>&1 | grep -v 'No such file')"
 cp built.src built.txt
 refuses 'a file of an unknown kind' \
-  'build: built.txt: unknown kind of file; expected a name that ends in .src, .asm or .map' build built.txt
+  'talft-build: built.txt: unknown kind of file; expected a name that ends in .src, .asm or .map' build built.txt
 
 # five.obj takes 14 steps, so a run of 12 steps is cut. Both faults strike, and the second is detected in step 11.
 printf '0:r9:1\n4:r1:6\n' >cut.faults
 tool 'a campaign that is cut' 0 '0:r9:1 masked\n4:r1:6 detected 11\nfaults 2 masked 1 detected 1 idle 0 corrupt 0\n' \
   campaign "$top/examples/five.obj" --faults cut.faults --steps 12 --dir cut.kept
-report 'how many struck runs were cut' 'campaign: 1 struck run was still running after 12 steps: raise --steps' \
+report 'how many struck runs were cut' 'talft-campaign: 1 struck run was still running after 12 steps: raise --steps' \
   "$(tail -n 1 said)"
 tool 'a campaign that is not cut' 0 '0:r9:1 masked\n4:r1:6 detected 11\nfaults 2 masked 1 detected 1 idle 0 corrupt 0\n' \
   campaign "$top/examples/five.obj" --faults cut.faults --steps 14 --dir whole.kept
@@ -106,15 +107,15 @@ cp "$top/tests/c/control.wasm" read.wasm
 cp "$top/examples/five.asm" read.asm
 ln -s read.asm text-again.asm
 touch read.lines read.svg
-refuses 'an object written over its module' 'cc: read.wasm: is an input; give the output another name' \
+refuses 'an object written over its module' 'talft-cc: read.wasm: is an input; give the output another name' \
   cc read.wasm -o read.wasm
-refuses 'a text written over its module' 'wasm2asm: ./read.wasm: is an input; give the output another name' \
+refuses 'a text written over its module' 'talft-wasm2asm: ./read.wasm: is an input; give the output another name' \
   wasm2asm read.wasm -o ./read.wasm
-refuses 'an object written over its text' 'build: text-again.asm: is an input; give the output another name' \
+refuses 'an object written over its text' 'talft-build: text-again.asm: is an input; give the output another name' \
   build read.asm -o text-again.asm
-refuses 'a page written over its lines' 'report: read.lines: is an input; give the output another name' \
+refuses 'a page written over its lines' 'talft-report: read.lines: is an input; give the output another name' \
   report read.lines --dir cut.kept --out read.lines
-refuses 'a picture written over its lines' 'plot: read.svg: is an input; give the output another name' \
+refuses 'a picture written over its lines' 'talft-plot: read.svg: is an input; give the output another name' \
   plot read.svg --out read.svg
 report 'the module' '' "$(cmp read.wasm "$top/tests/c/control.wasm" 2>&1)"
 report 'the text' '' "$(cmp read.asm "$top/examples/five.asm" 2>&1)"
@@ -123,7 +124,7 @@ report 'the text' '' "$(cmp read.asm "$top/examples/five.asm" 2>&1)"
 for words in "explain $top/examples/five.obj --fault 4:r1:6" "debugger $top/examples/five.obj" "lines $top/examples/sieve.src" \
   "faults $top/examples/five.obj --steps 4 --sites r1 --values 6" "set $top/examples/five.obj --list"; do
   # shellcheck disable=SC2086
-  report "standard output that is closed: ${words%% *}" "${words%% *}: standard output is closed" \
+  report "standard output that is closed: ${words%% *}" "talft-${words%% *}: standard output is closed" \
     "$(timeout 20 "$top/tools/"$words 2>&1 >&- </dev/null)"
 done
 report 'standard input that is closed' 'at 0 running' "$("$top/tools/debugger" "$top/examples/five.obj" <&- 2>&1 | head -n 1)"
@@ -290,44 +291,45 @@ mkdir stranger.folder
 piped() { "$top/tools/$1" <(cat "$top/examples/five.obj") "${@:2}" 2>&1 | sed 's,/dev/fd/[0-9]*,PIPE,'; }
 for script in faults ending; do
   report "an object from a pipe: $script" \
-    "$script: PIPE: is a pipe, but an object is read more than once: give a file" "$(piped $script)"
+    "talft-$script: PIPE: is a pipe, but an object is read more than once: give a file" "$(piped $script)"
 done
 report 'an object from a pipe: campaign' \
-  'campaign: PIPE: is a pipe, but an object is read more than once: give a file' \
+  'talft-campaign: PIPE: is a pipe, but an object is read more than once: give a file' \
   "$(piped campaign --faults cut.faults --dir piped.kept)"
 report 'an object from a pipe, read once' 'out 0' "$(piped set --list)"
 for script in plot report; do
   words=(); [ $script = plot ] || words=(--object "$top/examples/five.obj")
   refuses "a folder for the lines of $script" \
-    "$script: stranger.folder: is a folder; give a file with the standard output of \`campaign\`" \
+    "talft-$script: stranger.folder: is a folder; give a file with the standard output of \`talft-campaign\`" \
     $script stranger.folder "${words[@]}"
 done
 of='lines are read more than once: give a file'
-report 'lines from a pipe: report' "report: /dev/stdin: is a pipe, but the $of" \
+report 'lines from a pipe: report' "talft-report: /dev/stdin: is a pipe, but the $of" \
   "$(cat stranger.lines | "$top/tools/report" /dev/stdin --object "$top/examples/five.obj" --out stranger.html 2>&1)"
-report 'lines from a pipe: plot' "plot: /dev/stdin: is a pipe, but with --dir the $of" \
+report 'lines from a pipe: plot' "talft-plot: /dev/stdin: is a pipe, but with --dir the $of" \
   "$(cat stranger.lines | "$top/tools/plot" /dev/stdin --dir cut.kept 2>&1)"
 if has gnuplot 'a picture of lines from a pipe'; then
-  report 'a picture of lines from a pipe' 'plot: wrote piped.svg
+  report 'a picture of lines from a pipe' 'talft-plot: wrote piped.svg
 0 piped.svg' \
     "$(cat stranger.lines | "$top/tools/plot" /dev/stdin --out piped.svg 2>&1; echo $? piped.svg)"
 fi
-misused 'a page without a name' 'report: /dev/stdin: give the page a name with `--out FILE`' \
+misused 'a page without a name' 'talft-report: /dev/stdin: give the page a name with `--out FILE`' \
   report /dev/stdin --object "$top/examples/five.obj"
 refuses 'a dash for standard input' \
-  'plot: -: no such file; `-` does not mean standard input here: give a file name' plot -
+  'talft-plot: -: no such file; `-` does not mean standard input here: give a file name' plot -
 refuses 'a dash for the list' \
-  'campaign: -: no such file; `-` does not mean standard input here: give a file name' \
+  'talft-campaign: -: no such file; `-` does not mean standard input here: give a file name' \
   campaign "$top/examples/five.obj" --faults - --dir dash.kept
-refuses 'lines of another object' "report: stranger.lines:1: \`4:r1:6 detected 11\`: on $top/examples/reload.obj this fault is \
+refuses 'lines of another object' "talft-report: stranger.lines:1: \`4:r1:6 detected 11\`: on $top/examples/reload.obj this fault is \
 masked; give the object of this campaign, and the same --wild" report stranger.lines --object "$top/examples/reload.obj"
 echo 999:r1:6 >idle.faults
 tool 'a list for another object' 0 '999:r1:6 idle\nfaults 1 masked 0 detected 0 idle 1 corrupt 0\n' \
   campaign "$top/examples/five.obj" --faults idle.faults --steps 100 --dir idle.kept
-report 'the note about it' 'campaign: note: idle.faults: no fault of the list struck anything: is it for another object, or '\
+report 'the note about it' 'talft-campaign: note: idle.faults: no fault of the list struck anything: is it for another object, or '\
 'are its steps at or beyond --steps?' "$(tail -n 1 said)"
 cp "$top/examples/five.obj" "$top/examples/sieve.src" "$top/tests/c/control.wasm" .
-refuses 'an object in place of the lines' 'report: five.obj: is an object; give the lines of its campaign first, as in `report LINES --object five.obj`' \
+refuses 'an object in place of the lines' \
+  'talft-report: five.obj: is an object; give the lines of its campaign first, as in `talft-report LINES --object five.obj`' \
   report five.obj
 
 # `-` is a name like any other; an adapter reads standard input anyway.
@@ -335,9 +337,10 @@ no_dash='-: no such file; `-` does not mean standard input here: give a file nam
 for words in 'build -' 'cc - -o dash.obj' 'debugger -' 'explain - --fault 4:r1:6' 'lines -' 'wasm2asm -' 'faults -' 'ending -' \
   'set - --list'; do
   # shellcheck disable=SC2086
-  refuses "a dash: ${words%% *}" "${words%% *}: $no_dash" $words
+  refuses "a dash: ${words%% *}" "talft-${words%% *}: $no_dash" $words
 done
-report 'a dash: dap' 'dap: unexpected argument `-`: the editor names the program in its `launch` request; without --port, `dap` '\
+report 'a dash: dap' \
+  'talft-dap: unexpected argument `-`: the editor names the program in its `launch` request; without --port, `talft-dap` '\
 'reads standard input anyway' "$("$top/tools/dap" - 2>&1 </dev/null | head -n 1)"
 
 # A full disk: each tool that writes to standard output says so, without a traceback.
@@ -349,40 +352,40 @@ for words in 'explain five.obj --fault 4:r1:6' 'debugger five.obj' 'lines sieve.
   'set five.obj --list' 'set five.obj out=3' 'ending five.obj' 'wasm2asm control.wasm --quiet' \
   'campaign five.obj --faults cut.faults --dir full.kept'; do
   # shellcheck disable=SC2086
-  report "standard output to a full disk: ${words:0:20}" "1 ${words%% *}: standard output: no space left on the device" \
+  report "standard output to a full disk: ${words:0:20}" "1 talft-${words%% *}: standard output: no space left on the device" \
     "$(full $words)"
 done
 asked='{"seq":1,"type":"request","command":"threads"}'
-report 'standard output to a full disk: dap' '1 dap: standard output: no space left on the device' \
+report 'standard output to a full disk: dap' '1 talft-dap: standard output: no space left on the device' \
   "$(printf 'Content-Length: %d\r\n\r\n%s' ${#asked} "$asked" | "$top/tools/dap" 2>said >/dev/full
     printf '%d %s' $? "$(tail -n 1 said)")"
 # Python may write at once, or when the tool ends.
 for script in build campaign cc dap debugger ending explain faults lines plot report set wasm2asm; do
   for unbuffered in '' 1; do
-    report "the help of $script to a full disk" "1 $script: standard output: no space left on the device" \
+    report "the help of $script to a full disk" "1 talft-$script: standard output: no space left on the device" \
       "$(PYTHONUNBUFFERED=$unbuffered full "$script" --help)"
   done
 done
 
-# A cell with the name of the line that `recover` adds: `set --from` cannot tell them apart.
+# A cell with the name of the line that `recover` adds: `talft-set --from` cannot tell them apart.
 printf 'cell again = 7; cell other = 0; other = other + 1; again = again + 1;\n' >again.src
 tool 'a cell called `again` is built' 0 '' build again.src
-report 'the note about it' 'build: note: again.obj: the cell `again` has the name of the line that `talft recover` adds to those of '\
+report 'the note about it' 'talft-build: note: again.obj: the cell `again` has the name of the line that `talft recover` adds to those of '\
 'the run: rename the cell' "$(cat said)"
 "$top/talft" recover again.obj --fault 4:pcg:0 >again.lines 2>/dev/null
-refuses 'lines of `recover` for it' "set: again.lines:$(grep -n '^again' again.lines | head -n 1 | cut -d : -f 1): "\
+refuses 'lines of `recover` for it' "talft-set: again.lines:$(grep -n '^again' again.lines | head -n 1 | cut -d : -f 1): "\
 '`again` is a cell of this object, but also the line that `talft recover` adds: give the lines of `talft run` instead, with --from-run' \
   set again.obj --from again.lines -o next.obj
 "$top/talft" run again.obj >again.lines
 tool 'lines of `run` for it' 0 '' set again.obj --from-run again.lines -o next.obj
 expect 'the next run of it' 0 'other 2\nagain 9\n' run next.obj
-misused 'both kinds of lines' 'set: --from and --from-run exclude each other' set again.obj --from again.lines --from-run again.lines
+misused 'both kinds of lines' 'talft-set: --from and --from-run exclude each other' set again.obj --from again.lines --from-run again.lines
 "$top/talft" recover "$top/examples/five.obj" --fault 4:r1:6 >again.lines 2>/dev/null
 tool 'the line of `recover` for another object' 0 '' set "$top/examples/five.obj" --from again.lines -o next.obj
 
 # A terminal that is too small for the screen.
 if has script 'a small terminal'; then
-  report 'a screen on a small terminal' 'debugger: --tui: the terminal has 20 columns and 5 rows, but the screen needs at least '\
+  report 'a screen on a small terminal' 'talft-debugger: --tui: the terminal has 20 columns and 5 rows, but the screen needs at least '\
 '50 columns and 12 rows: enlarge it, or leave --tui out' \
     "$(TERM=xterm timeout 60 script -qec "stty cols 20 rows 5; $top/tools/debugger five.obj --tui 2>small.said" /dev/null \
       </dev/null >answer; cat small.said)"
@@ -393,10 +396,10 @@ report '`run` at the start' 'the run is at its start: `continue` runs it' \
   "$(echo run | "$top/tools/debugger" "$top/examples/five.obj" 2>&1 | tail -n 1)"
 report '`r` for registers' '`r` is short for `registers`; `run` goes to the start, and `continue` runs on from here' \
   "$(printf 'r\nr\n' | "$top/tools/debugger" "$top/examples/five.obj" 2>&1 | grep 'short for')"
-if has gnuplot 'no note about runs that `report` repeats'; then
+if has gnuplot 'no note about runs that `talft-report` repeats'; then
   printf '4:r1:6\n' >once.list
   "$top/talft" campaign "$top/examples/five.obj" --faults once.list >once.lines
-  report 'no note about runs that `report` repeats' 'report: wrote once.html' \
+  report 'no note about runs that `talft-report` repeats' 'talft-report: wrote once.html' \
     "$("$top/tools/report" once.lines --object "$top/examples/five.obj" --out once.html 2>&1)"
 fi
 
@@ -415,15 +418,16 @@ echo 'hello, world' >words
 echo 'int x; void run(void) { x = 1; }' >one.c
 printf '(module (memory 1))\n' >five.wat
 printf '\177ELF\2\1\1' >elf.o
-{ echo 'campaign: 0 of 1 faults'; cat lines; } >both
-{ cat lines; echo 'campaign: note'; } >noted
+{ echo 'talft-campaign: 0 of 1 faults'; cat lines; } >both
+{ cat lines; echo 'talft-campaign: note'; } >noted
 : >nothing
 mkdir folder damaged
 echo '[]' >damaged/campaign.json
 while IFS='|' read -r status words message; do
   eval "words=($words)"
   tool "the status of $status: ${words[*]}" "$status" '' "${words[@]}"
-  report "the message about ${words[*]}" "${words[0]}: $message" "$(if [ "$status" = 2 ]; then head -n 1 said; else tail -n 1 said; fi)"
+  report "the message about ${words[*]}" "talft-${words[0]}: $message" \
+    "$(if [ "$status" = 2 ]; then head -n 1 said; else tail -n 1 said; fi)"
 done <<'END'
 2|explain five.obj 4:r1:6|`4:r1:6` is a fault: put `--fault` before it
 2|explain 4:r1:6 five.obj|`4:r1:6` is a fault: put `--fault` before it
@@ -442,7 +446,7 @@ done <<'END'
 2|lines fibonacci.src five.obj|`five.obj` is an object: put `--object` before it
 2|report lines five.obj|`five.obj` is an object: put `--object` before it
 2|report lines folder|`folder` is a folder: put `--dir` before it
-2|report lines|missing object: give `--dir DIR`, the folder that `tools/campaign` made, or `--object OBJECT`
+2|report lines|missing object: give `--dir DIR`, the folder that `talft-campaign` made, or `--object OBJECT`
 2|set five.obj outputs|`outputs` is the output of a run: put `--from` before it
 2|wasm2asm control.wasm x.asm|unexpected argument `x.asm`: the text's name comes after `-o`
 2|build one.src two.src|unexpected argument `two.src`: give one file at a time; to put modules together, build each, and give a link map
@@ -452,23 +456,23 @@ done <<'END'
 2|explain five.obj --fault r1:4:6|invalid fault `r1:4:6`: expected STEP:SITE:WORD; the step comes first, then the site
 2|debugger five.obj --fault r1:4:6|invalid fault `r1:4:6`: expected STEP:SITE:WORD; the step comes first, then the site
 2|debugger --batch five.obj|unknown option `--batch`: without a terminal the debugger ends after the commands
-2|debugger --args five.obj|unknown option `--args`: a program has no arguments: `set` changes its inputs
+2|debugger --args five.obj|unknown option `--args`: a program has no arguments: `talft-set` changes its inputs
 2|debugger -q five.obj|unknown option `-q`: leave it out: there is no banner
 2|debugger -x script five.obj|unknown option `-x`: commands come after `-c`, or from standard input
-2|cc one.c -ltalft -o x|unknown option `-ltalft`: there are no libraries; this `cc` makes talft objects; for a program of this machine use gcc or /usr/bin/cc
-2|cc one.c -L. -o x|unknown option `-L.`: there are no libraries; this `cc` makes talft objects; for a program of this machine use gcc or /usr/bin/cc
-1|cc one.c nosuch/libtalft.a -o x|nosuch/libtalft.a: this `cc` makes talft objects; for a program of this machine use gcc or /usr/bin/cc; `make library` makes libtalft.a
-1|cc one.c elf.o -o x|elf.o: this `cc` makes talft objects; for a program of this machine use gcc or /usr/bin/cc
-1|cc one.c nosuch.so.1 -o x|nosuch.so.1: this `cc` makes talft objects; for a program of this machine use gcc or /usr/bin/cc
+2|cc one.c -ltalft -o x|unknown option `-ltalft`: there are no libraries; `talft-cc` makes talft objects; for a program of this machine use gcc or cc
+2|cc one.c -L. -o x|unknown option `-L.`: there are no libraries; `talft-cc` makes talft objects; for a program of this machine use gcc or cc
+1|cc one.c nosuch/libtalft.a -o x|nosuch/libtalft.a: `talft-cc` makes talft objects; for a program of this machine use gcc or cc; `make library` makes libtalft.a
+1|cc one.c elf.o -o x|elf.o: `talft-cc` makes talft objects; for a program of this machine use gcc or cc
+1|cc one.c nosuch.so.1 -o x|nosuch.so.1: `talft-cc` makes talft objects; for a program of this machine use gcc or cc
 1|lines lines|lines: is the output of a campaign; expected a source
 1|lines list|list: is a fault list; expected a source
 1|debugger lines|lines: is the output of a campaign; expected an object, an assembly text or a source
 1|explain outputs --fault 4:r1:6|outputs: is the output of a run; expected an object, an assembly text or a source
 1|debugger modules|modules: is a link map; expected an object, an assembly text or a source
 1|wasm2asm five.wat|five.wat: offset 0x0: is not a WebAssembly module of version 1; this is its text: make a module with wat2wasm
-1|plot both|both:1: `campaign: 0 of 1 faults`: this is what `campaign` writes to standard error: redirect only standard output, without `2>&1`
-1|report both --object five.obj|both:1: `campaign: 0 of 1 faults`: this is what `campaign` writes to standard error: redirect only standard output, without `2>&1`
-1|plot noted|noted:3: `campaign: note`: this is what `campaign` writes to standard error: redirect only standard output, without `2>&1`
+1|plot both|both:1: `talft-campaign: 0 of 1 faults`: this is what `talft-campaign` writes to standard error: redirect only standard output, without `2>&1`
+1|report both --object five.obj|both:1: `talft-campaign: 0 of 1 faults`: this is what `talft-campaign` writes to standard error: redirect only standard output, without `2>&1`
+1|plot noted|noted:3: `talft-campaign: note`: this is what `talft-campaign` writes to standard error: redirect only standard output, without `2>&1`
 2|cc one.c x.obj|missing `-o` before `x.obj`
 2|cc one.c -o x.obj two.c|unexpected argument `two.c`: put all files next to each other
 1|faults list|list: is a fault list; expected an object
@@ -481,9 +485,9 @@ done <<'END'
 1|campaign lines --faults list|lines: is the output of a campaign; expected an object
 1|campaign list --faults five.obj|list: is a fault list; expected an object
 1|campaign binary --faults list|binary: is a binary file; expected an object
-1|campaign words --faults list|words: is not an object; `talft compile`, `talft asm` and `cc` make objects
-1|plot lines --object control.wasm|control.wasm: is a WebAssembly module; `cc` turns it into an object
-1|report lines --object one.c|one.c: is a C program; `cc` turns it into an object
+1|campaign words --faults list|words: is not an object; `talft compile`, `talft asm` and `talft-cc` make objects
+1|plot lines --object control.wasm|control.wasm: is a WebAssembly module; `talft-cc` turns it into an object
+1|report lines --object one.c|one.c: is a C program; `talft-cc` turns it into an object
 1|report lines --object five.obj --source list|list: is a fault list; expected a source
 1|report answer --object five.obj|answer:1: this is an answer of `talft`: expected the lines that a campaign writes
 1|plot fibonacci.src|fibonacci.src:1: this is a source: expected the lines that a campaign writes
@@ -496,7 +500,7 @@ done <<'END'
 1|campaign five.obj --faults fibonacci.src --dir damaged|fibonacci.src: is a source; expected a fault list
 1|campaign five.obj --faults nosuch --dir list|nosuch: no such file
 1|campaign five.obj --faults list --dir damaged|damaged/campaign.json: is damaged: remove the folder
-1|report lines --dir damaged|damaged/campaign.json: is damaged, or was not written by `tools/campaign`
+1|report lines --dir damaged|damaged/campaign.json: is damaged, or was not written by `talft-campaign`
 2|campaign five.obj --faults list --dir ''|`--dir` needs a value, DIR
 2|ending five.obj --fault ''|`--fault` needs a value, STEP:SITE:WORD
 2|ending five.obj --fault -1:r1:6|--fault: invalid fault `-1:r1:6`: expected STEP:SITE:WORD; the step `-1` is not a decimal number below 2^64
@@ -511,7 +515,7 @@ done <<'END'
 END
 report 'no folder is made for a list that is refused' 'damaged folder' \
   "$(find . -mindepth 1 -type d | sed 's,./,,' | sort | paste -sd ' ')"
-report 'wrong use has two lines' '`set --help` lists the arguments and options' "$("$top/tools/set" five.obj out=x 2>&1 | sed 1d)"
+report 'wrong use has two lines' '`talft-set --help` lists the arguments and options' "$("$top/tools/set" five.obj out=x 2>&1 | sed 1d)"
 
 # An input that is also the standard output: the shell has emptied it, or appends to it.
 written_over() {
@@ -519,7 +523,7 @@ written_over() {
   shift 3
   cp "$file" over
   "$top/tools/$1" "${@:2}" >over 2>said </dev/null
-  report "$name" "1 ${1##*/}: over: is empty: it is also the standard output, and the shell emptied it; make it again, and $message" \
+  report "$name" "1 talft-$1: over: is empty: it is also the standard output, and the shell emptied it; make it again, and $message" \
     "$? $(cat said)"
 }
 written_over 'a list written over' 'write the lines to another file' list campaign five.obj --faults over --dir over.kept
@@ -531,7 +535,7 @@ written_over 'a source written over by lines' 'write to another file' fibonacci.
 written_over 'a program written over by explain' 'write to another file' five.obj explain over --fault 4:r1:6
 written_over 'a module written over by wasm2asm' 'write to another file' control.wasm wasm2asm over
 cp list over
-report 'a list that the lines would follow' '1 campaign: over: is also the standard output; write the lines to another file' \
+report 'a list that the lines would follow' '1 talft-campaign: over: is also the standard output; write the lines to another file' \
   "$("$top/tools/campaign" five.obj --faults over --dir over.kept 2>said >>over; echo "$? $(cat said)")"
 report 'the list after that' 4:r1:6 "$(cat over)"
 report 'no folder of such a campaign' '' "$(ls -d over.kept 2>/dev/null)"
@@ -540,7 +544,7 @@ report 'no folder of such a campaign' '' "$(ls -d over.kept 2>/dev/null)"
 "$top/tools/campaign" five.obj --faults list --steps 20 --dir same >answer 2>said
 while IFS='|' read -r words differs; do
   # shellcheck disable=SC2086
-  refuses "a campaign with $words" "campaign: same: holds a campaign with $differs: give another --dir, or, if its verdicts are no \
+  refuses "a campaign with $words" "talft-campaign: same: holds a campaign with $differs: give another --dir, or, if its verdicts are no \
 longer needed, remove the folder" campaign five.obj --faults list --dir same $words
 done <<'END'
 --steps 30|another --steps (20)
@@ -577,35 +581,36 @@ report 'both are made before anything is installed' 'build/prove.sh build/librar
 # What the tools wrote, and an answer that was changed.
 if has gnuplot 'what the tools wrote'; then
   "$top/tools/plot" lines 2>said
-  report 'the pictures that are written' 'plot: wrote picture.png and picture.svg' "$(cat said)"
+  report 'the pictures that are written' 'talft-plot: wrote picture.png and picture.svg' "$(cat said)"
 fi
 "$top/tools/campaign" five.obj --faults list --dir changed >answer 2>said
 echo changed >changed/000000.answer
 refuses 'an answer that was changed' \
-  'campaign: changed/000000.answer: is damaged: remove it, and run the same command again' \
+  'talft-campaign: changed/000000.answer: is damaged: remove it, and run the same command again' \
   campaign five.obj --faults list --dir changed
 
 # Programs that are not `talft`.
 printf '#!/bin/sh\nexit 70\n' >unproved
 printf '#!/bin/sh\necho some words\n' >another
 chmod +x unproved another
-TALFT=$PWD/unproved refuses 'a program that is not proved' 'plot: five.obj: status 70, not proved yet' plot lines --object five.obj
-TALFT=$PWD/another refuses 'another program' 'build: x.obj: `talft check`: status 0' build five.asm -o x.obj
+TALFT=$PWD/unproved refuses 'a program that is not proved' 'talft-plot: five.obj: status 70, not proved yet' plot lines --object five.obj
+TALFT=$PWD/another refuses 'another program' 'talft-build: x.obj: `talft check`: status 0' build five.asm -o x.obj
 report 'no object of another program' '' "$(ls x.obj 2>/dev/null)"
-report 'another program that explains' "explain: unexpected IndexError in listing.py: if $PWD/another is not the \`talft\` of these tools, \
+report 'another program that explains' \
+  "talft-explain: unexpected IndexError in listing.py: if $PWD/another is not the \`talft\` of these tools, \
 set \$TALFT; otherwise report it" \
   "$(TALFT=$PWD/another "$top/tools/explain" five.obj --fault 4:r1:6 2>&1 | sed 's/ line [0-9]*:/:/')"
 
 # On a terminal, a tool that reads standard input says so.
 if has script 'tools that read from a terminal'; then
-  report 'the lines of a run from a terminal' 'set: reading the lines of a run from standard input, until Ctrl-D' \
-    "$(timeout 60 script -qec "$top/tools/set five.obj --from - --list" /dev/null </dev/null | tr -d '\r' | grep '^set')"
-  report 'the adapter on a terminal' "dap: waiting for an editor's requests on standard input; Ctrl-C ends it" \
-    "$(timeout 60 script -qec "timeout 2 $top/tools/dap" /dev/null </dev/null | tr -d '\r' | grep '^dap: waiting')"
+  report 'the lines of a run from a terminal' 'talft-set: reading the lines of a run from standard input, until Ctrl-D' \
+    "$(timeout 60 script -qec "$top/tools/set five.obj --from - --list" /dev/null </dev/null | tr -d '\r' | grep '^talft-set')"
+  report 'the adapter on a terminal' "talft-dap: waiting for an editor's requests on standard input; Ctrl-C ends it" \
+    "$(timeout 60 script -qec "timeout 2 $top/tools/dap" /dev/null </dev/null | tr -d '\r' | grep '^talft-dap: waiting')"
 fi
 
 # Ctrl-C while the adapter waits for an editor.
-report 'Ctrl-C in the adapter' '1 dap: interrupted' \
+report 'Ctrl-C in the adapter' '1 talft-dap: interrupted' \
   "$(timeout --preserve-status -k 5 -s INT 2 env --default-signal=INT "$top/tools/dap" 2>said < <(sleep 10)
     echo "$? $(cat said)")"
 cd "$work" || exit 2

@@ -171,7 +171,7 @@ def port(tests):
         for wrong in ({}, {"token": "0" * 32}):
             stranger = Client(number)
             answer = stranger.begin({"program": ENDLESS, **wrong})
-            tests.check("a client without the token", "`launch`: `token` is missing or wrong: it is the one that `dap` wrote when "
+            tests.check("a client without the token", "`launch`: `token` is missing or wrong: it is the one that `talft-dap` wrote when "
                         "it began to listen", answer["message"])
         page = socket.create_connection(("127.0.0.1", number))
         body = json.dumps({"seq": 1, "type": "request", "command": "launch", "arguments": {"program": ENDLESS, "token": token}})

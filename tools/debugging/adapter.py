@@ -93,7 +93,7 @@ class Adapter(Views, Breaks):
         """Refuses a client that does not know the token of a port, which any program of this machine can reach."""
         if self.token is not None and not hmac.compare_digest(str(asked.get("token")).encode(), self.token.encode()):
             self.over = True
-            raise Refused("`launch`: `token` is missing or wrong: it is the one that `dap` wrote when it began to listen")
+            raise Refused("`launch`: `token` is missing or wrong: it is the one that `talft-dap` wrote when it began to listen")
 
     def on_launch(self, request, asked):
         self.check_token(asked)

@@ -142,7 +142,7 @@ class Commands(Shown):
         """Refuses if no source lines are known."""
         if self.session.target.source is None:
             raise Refused("no source lines are known: `next` executes an instruction; "
-                          "`debugger OBJECT --source SOURCE` names the source of an object")
+                          "`talft-debugger OBJECT --source SOURCE` names the source of an object")
 
     def do_line(self, words):
         self.lines_known()

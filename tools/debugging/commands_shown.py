@@ -56,7 +56,7 @@ class Shown:
         """Prints the source's names and their places."""
         names = self.session.target.names
         lines = [f"  {name}  {place.told()}" for name, place in (names or {}).items()]
-        self.say(*lines or ["no source names are known: `debugger OBJECT --source SOURCE` names an object's source"])
+        self.say(*lines or ["no source names are known: `talft-debugger OBJECT --source SOURCE` names an object's source"])
 
     def note(self, *lines):
         """Records the lines of `talft debug` that show the same."""

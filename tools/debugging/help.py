@@ -72,14 +72,14 @@ ALONE = {"continue", "reverse-continue", "finish", "run", "end", "undo", "queue"
          "quit"}
 # Commands of other debuggers, and what to use here.
 ELSEWHERE = {"list": "`disassemble` shows the code with the lines of the source",
-             "set": "`zap` changes a word in a register: a strike; cells cannot be changed (tools/set changes their initial words)",
-             "layout": "`debugger FILE --tui` shows a full screen", "start": "`run` goes to the start",
+             "set": "`zap` changes a word in a register: a strike; cells cannot be changed (`talft-set` changes their initial words)",
+             "layout": "`talft-debugger FILE --tui` shows a full screen", "start": "`run` goes to the start",
              "kill": "`run` goes to the start, `quit` ends", "up": "`where` shows the place; there are no calls",
              "down": "`where` shows the place; there are no calls",
              "locals": "`info names` says where names are kept, `print` and `display` write their words",
              "frame": "`where` shows the place; there are no calls",
              "clear": "`delete` forgets breakpoints", "jump": "`goto` goes to a position",
-             "advance": "`until` goes to a place", "tui": "`debugger FILE --tui` shows a full screen"}
+             "advance": "`until` goes to a place", "tui": "`talft-debugger FILE --tui` shows a full screen"}
 SITES_TOLD = """r0 to r31           green words, as the compiler uses them; each register holds a colour and a word
 r32 to r63          blue words: the second computation, of rI in r(I + 32)
 d                   what a green jump leaves for the blue one: the target's address, or 0 where none is pending

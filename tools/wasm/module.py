@@ -40,7 +40,7 @@ class Module:
         self.has_memory, self.pages, self.bodies = False, 0, []
         if data[:8] != b"\0asm\1\0\0\0":
             instead = ("this is its text: make a module with wat2wasm" if data.lstrip().startswith(b"(module") else
-                       "give the output of wasm-ld; `cc` takes C")
+                       "give the output of wasm-ld; `talft-cc` takes C")
             raise Refused("is not a WebAssembly module of version 1", instead, offset=0)
         reader, last = Bytes(data, 8), -1
         while reader.at < reader.end:
