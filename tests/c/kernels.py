@@ -16,7 +16,7 @@ import tempfile
 from tries import CC, LEVELS, TALFT, here, top
 
 DIVIDE = "divide", "kalman"
-SAID = re.compile(r"accepted: (\d+) instructions, .* (\d+) cells; (?:.*; )?verified: (\d+) stores in (\d+) steps "
+SAID = re.compile(r"accepted: (\d+) instructions, .* (\d+) cells?; (?:.*; )?verified: (\d+) stores in (\d+) steps "
                   r"match the module's, which ran (\d+) instructions")
 
 

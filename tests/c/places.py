@@ -16,6 +16,9 @@ import sys
 here = os.path.dirname(os.path.abspath(__file__))
 tools = os.path.join(here, "..", "..", "tools")
 sys.path.insert(0, tools)
+if __name__ == "__main__":
+    # The modules below take the tool's name from here.
+    sys.argv[0] = os.path.join(tools, "cc")
 
 from common import Refused              # noqa: E402
 from emitted import follow              # noqa: E402
@@ -244,5 +247,4 @@ def watch():
 
 if __name__ == "__main__":
     watch()
-    sys.argv[0] = os.path.join(tools, "cc")
     runpy.run_path(sys.argv[0], run_name="__main__")
