@@ -227,7 +227,7 @@ done <<'END'
 12^asm got^> cell out int 0\n^got:1:1: error: unexpected `>`: this marks a prompt or a quotation: remove it
 12^asm got^```text\ncell out int 0\n```\n^got:1:1: error: this line is a Markdown code fence: remove both fences
 END
-for tool in build cc dap debugger ending explain faults lines plot report set wasm2asm; do
+for tool in $(ls "$top/tools/bin" | sed "s/^talft-//" | grep -vx campaign); do
   report "the message about $tool as a command" \
     "2: talft: error: unknown command \`$tool\`: that is a separate script, \`talft-$tool\`; see \`man talft-$tool\`" \
     "$(first_said "$tool")"

@@ -1,7 +1,7 @@
--- The words of a line.
-use Rattle.std.specs.Prelude.{◌≡◌, ℕ, ◌<◌, Bool, true, false, ◌==◌, ◌&&◌, ◌||◌, not, if◌then◌else◌, List, [], ◌∷◌, length}
+-- Words, and the words of lines.
+use Rattle.std.specs.Prelude.{◌≡◌, ℕ, ◌<◌, Bool, true, false, ◌==◌, ◌&&◌, not, if◌then◌else◌, List, [], ◌∷◌, length}
 use Rattle.std.specs.List.{AllByRecursion}
-use Rattle.ft_text.specs.Lines.{with_byte}
+use Rattle.ft_text.specs.LineWords.{is_blank, words_of, is_comment}
 
 -- whether a byte may be in a word: it is neither a blank nor a line feed. A word has at least one byte
 abbrev pub is_part : ℕ → Bool

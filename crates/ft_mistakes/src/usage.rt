@@ -432,7 +432,7 @@ fn say_near_command(page: &mut Page, word: &str) -> Result<(), NoMemory> {
 /// The scripts in the folder `tools`.
 const TOOLS: &[&str] = &[
     "build", "campaign", "cc", "dap", "debugger", "ending", "explain", "faults", "lines", "plot",
-    "report", "set", "wasm2asm",
+    "report", "set", "show", "wasm2asm",
 ];
 
 /// Whether a word is the name of a script in the folder `tools`.
