@@ -1,5 +1,5 @@
 # The names of the tools: `make install` puts the program and the tools into one folder, where no name but `talft` is without
-# the prefix `talft-`. A clone has the same names in tools/bin. Each tool works by its link, and calls itself by it.
+# the prefix `talft-`. A clone has the same names in tools/bin. Each tool works by this name, and calls itself by it.
 
 tools=$(cd "$top/tools" && grep -lE '^#!' -- * 2>/dev/null)
 installed=$work/installed
@@ -7,8 +7,7 @@ make -s -C "$top" install-program PROGRAM="$top/crates/talft/out/talft" DESTDIR=
 report 'make install-program' 0 $?
 report 'the commands that are installed' "$(echo talft; sed 's/^/talft-/' <<<"$tools")" "$(ls "$installed/usr/bin")"
 report 'the commands with completion' "$(ls "$installed/usr/bin")" "$(ls "$installed/usr/share/bash-completion/completions")"
-report 'the links in tools/bin' "$(sed 's|.*|talft-& ../&|' <<<"$tools")" \
-  "$(cd "$top/tools/bin" && for name in *; do echo "$name $(readlink "$name")"; done)"
+report 'the commands in tools/bin' "$(sed 's/^/talft-/' <<<"$tools")" "$(ls "$top/tools/bin")"
 
 # The tools find the program and their own files, whatever the folder they are called from, and with no `talft` on PATH.
 mkdir elsewhere
