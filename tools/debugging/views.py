@@ -45,15 +45,15 @@ class Pair:
 
     def __init__(self, session, i, state, before, clean):
         self.names = (f"r{i}", f"r{i + 32}")
-        words = [state.words[name] for name in self.names]
+        words = [state.register(name) for name in self.names]
         self.bare = [f"{name:<4}{colour} {word}" for name, (colour, word) in zip(self.names, words)]
         self.named = [self.bare[0] + session.target.names_of(self.names[0]), self.bare[1]]
         told = [f"{name:<4}{colour} {spelled(session, word)}" for name, (colour, word) in zip(self.names, words)]
         self.green, self.blue = told[0] + session.target.names_of(self.names[0]), told[1]
         self.differs = words[0][1] != words[1][1]
-        is_usual = clean is not None and all(clean.words[name] == state.words[name] for name in self.names)
+        is_usual = clean is not None and all(clean.register(name) == state.register(name) for name in self.names)
         self.mark = ("~" if is_usual else "*") if self.differs else " "
-        self.changed = [before is not None and before.words[name] != state.words[name] for name in self.names]
+        self.changed = [before is not None and before.register(name) != state.register(name) for name in self.names]
         self.is_unset = words == [("G", 0), ("G", 0)]
 
     def within(self, *widths):
