@@ -121,6 +121,26 @@ index 14, line 4)" \
   report 'its markup' '0 yes' "$(grep -c '<!--<script' early.html) $(grep -q 'u003c!--' early.html && echo yes)"
 fi
 
+# At a terminal a page says what it is doing; otherwise it says only what it wrote. It calls the program for the words, for
+# the places, and about once for each fault that it traces: not again for the run without a fault, which these share.
+if command -v gnuplot >/dev/null; then
+  printf '0:r9:1 masked\n2:r9:1 masked\nfaults 2 masked 2 detected 0 idle 0 corrupt 0\n' >two.lines
+  tool 'a page without a terminal' 0 '' report two.lines --object "$top/examples/five.obj" --out quiet.html
+  report 'it says only what it wrote' 'report: wrote quiet.html' "$(cat said)"
+  if has script 'the progress of a page'; then
+    report 'what a page says at a terminal' 'draws the picture|read 2 faults|reads the words of 2 faults' \
+      "$(script -qec "'$top/tools/report' two.lines --object '$top/examples/five.obj' --out loud.html" /dev/null </dev/null |
+        tr '\r' '\n' | sed -n 's/.*report: \(draws.*\|read 2.*\|reads the words.*\)/\1/p' | sort -u | paste -sd '|')"
+  fi
+  printf '%s\n' '#!/bin/sh' "echo call >>'$work/calls'" "exec '$top/talft' \"\$@\"" >counting
+  chmod +x counting
+  : >calls
+  TALFT=./counting "$top/tools/report" unpaired.lines --dir unpaired --out counted.html 2>said
+  traced=$(grep -o '"ways":{.*' counted.html | grep -o '"[0-9]*":"' | wc -l)
+  report "at most 3 calls for each of $traced traced faults, and 6 more" yes \
+    "$([ "$traced" -gt 9 ] && [ "$(wc -l <calls)" -le $((3 * traced + 6)) ] && echo yes || echo "$(wc -l <calls) calls")"
+fi
+
 # The commands in docs/TOOLS.md, run as a reader would. They print only their progress and what they wrote.
 if command -v gnuplot >/dev/null; then
   mkdir reader
@@ -169,6 +189,11 @@ if command -v gnuplot >/dev/null && has $browser 'a page in a browser'; then
     echo 'document.getElementById("more").click(), document.querySelectorAll("#faults tbody tr").length'
     choose r1 corrupt
     echo 'document.querySelector("#faults tbody tr").innerText.replace(/\s+/g, " ")'
+    for wide in 1280 1920; do
+      echo "width $wide"
+      echo '[document.querySelector("#faults th:last-child").getBoundingClientRect().right <= innerWidth,' \
+        'document.querySelector(".scroll").scrollWidth <= document.querySelector(".scroll").clientWidth].join(" ")'
+    done
     echo 'document.querySelector("#faults tbody tr a").click(),' \
       'document.getElementById("way").innerText.split("\n").slice(0, 2).join("\n")'
     echo location.hash
@@ -189,6 +214,8 @@ if command -v gnuplot >/dev/null && has $browser 'a page in a browser'; then
     echo 200
     chosen r1 corrupt
     echo "$step $site $(hex "$old") $(hex "$word") 0 $verdict (before its $([ $((step % 2)) -eq 0 ] && echo fetch || echo execution) $where) why"
+    echo 'true true'
+    echo 'true true'
     echo 'explain unpaired/object --fault '"$step:$site:$word"
     "$top/tools/explain" unpaired.obj --fault "$step:$site:$word" | head -n 1 | tr -d ,
     echo '#site=r1&verdict=corrupt'
