@@ -3,7 +3,7 @@ import html
 import re
 import sys
 
-COLOURS = {31: "#e06c75", 32: "#98c379", 33: "#e5c07b", 34: "#61afef", 36: "#56b6c2"}
+COLOURS = {31: "#e06c75", 32: "#98c379", 33: "#e5c07b", 34: "#61afef", 94: "#61afef"}
 INK, PAPER, WIDE, HIGH = "#dcdfe4", "#1e2127", 8.4, 18
 PART = re.compile(r"\x1b\[([0-9;]*)m|\x1b\([B0]|\x0f|([^\x1b\x0f]+)")
 

@@ -6,7 +6,7 @@ from debugging.machine import is_fetch
 
 RESET = "\033[0m"
 STYLES = {"green": "\033[32m", "blue": "\033[34m", "differs": "\033[1;31m", "dim": "\033[2m", "here": "\033[1m",
-          "changed": "\033[33m", "break": "\033[31m"}
+          "changed": "\033[33m", "break": "\033[31m", "green changed": "\033[1;32m", "blue changed": "\033[1;34m"}
 MOST_CHANGES = 12
 # What the marks of pairs mean.
 MARKS = {"*": "* differs because of a strike", "~": "~ differs anyway"}
@@ -73,12 +73,12 @@ def pairs(session, before=None):
 
 def shown_pairs(paint, rows, width):
     """The lines of some pairs, under their heading."""
-    lines = [f"  {'green':<{width}}blue"]
+    lines = ["  " + paint("green", f"{'green':<{width}}") + paint("blue", "blue")]
     for row in rows:
         style = "differs" if row.mark == "*" else None
         lines.append(paint(style, row.mark + " ")
-                     + paint(style or ("changed" if row.changed[0] else "green"), f"{row.green:<{width}}")
-                     + paint(style or ("changed" if row.changed[1] else "blue"), row.blue))
+                     + paint(style or "green" + " changed" * row.changed[0], f"{row.green:<{width}}")
+                     + paint(style or "blue" + " changed" * row.changed[1], row.blue))
     return lines
 
 
