@@ -3,7 +3,9 @@ import collections
 import errno
 import os
 import signal
+import struct
 import subprocess
+import zlib
 
 from common import SITES, VERDICTS, Refused, put
 from messages import reason
@@ -91,6 +93,14 @@ class Picture:
         self.text(LEFT + 20, top + 74, "no fault of the list")
         self.text(LEFT + WIDTH // 4, top + 74, "; ".join(self.notes(panel, cut)), "font small")
 
+    def described(self):
+        """The words and numbers in the picture, with a line for each panel."""
+        return "\n".join(
+            f"{panel.title}: " + ", ".join(f"{verdict} {panel.shown[verdict]:,} ({panel.percent(verdict)})" for verdict in VERDICTS)
+            + f"; {'; '.join(self.notes(panel, cut))}; {counted(grid.width)} a column, rows "
+            + " ".join("unused" if site == FOLDED else SITES[site] for site in grid.rows) + f". {told(panel.latencies)}"
+            for panel, cut, grid in zip(self.panels, self.cuts, self.grids))
+
     def notes(self, panel, cut):
         """What a reader of the numbers must know."""
         total = total_of(panel)
@@ -176,8 +186,15 @@ def quoted_count(count):
     return f'"{count:,}"' if count else '""'
 
 
-def run(lines, kind, size, path, folder):
-    """Draws one file with gnuplot."""
+def with_text(png, text):
+    """A PNG with its description as text, for programs that read pictures aloud or compare them: after the header, a chunk iTXt."""
+    chunk = b"iTXtDescription" + bytes(5) + text.encode()
+    chunk = struct.pack(">I", len(chunk) - 4) + chunk + struct.pack(">I", zlib.crc32(chunk))
+    return png[:33] + chunk + png[33:]
+
+
+def run(lines, kind, size, path, folder, text=""):
+    """Draws one file with gnuplot. A PNG gets the text as its description: its letters are pixels."""
     made = os.path.join(folder, "picture")
     script = "\n".join([f"set terminal {TERMINALS[kind]} {size} background rgb 'white'", FONTS[kind],
                         f"set output {quoted(made)}", *lines, "unset output"])
@@ -193,4 +210,5 @@ def run(lines, kind, size, path, folder):
     with open(made, "rb") as drawn:
         data = drawn.read()
     # Browsers would blur the cells.
-    put(path, data.replace(b"<image ", b"<image style='image-rendering:pixelated' "))
+    put(path, with_text(data, text) if kind == ".png" else
+        data.replace(b"<image ", b"<image style='image-rendering:pixelated' "))

@@ -153,6 +153,19 @@ if command -v gnuplot >/dev/null; then
     "$(cd reader && find . -size +4k \( -name '*.??g' -o -name '*.html' \) | sed 's/..//' | sort | paste -sd ' ')"
 fi
 
+# The pictures in the documents, made anew: what stands in them is the same. Letters in a PNG are pixels, which depend on the
+# fonts, so its description is compared.
+if command -v gnuplot >/dev/null; then
+  mkdir anew
+  tool_said=$(bash "$top/docs/pictures.sh" anew 2>&1)
+  report 'what docs/pictures.sh says' '' "$tool_said"
+  report 'docs/pictures/debugger.svg made anew' '' "$(diff "$top/docs/pictures/debugger.svg" anew/debugger.svg | head -n 4)"
+  report 'docs/pictures/fibonacci.png made anew' "$(python3 "$top/tests/picture.py" --text "$top/docs/pictures/fibonacci.png")" \
+    "$(python3 "$top/tests/picture.py" --text anew/fibonacci.png)"
+  report 'it has a description' 1 "$(python3 "$top/tests/picture.py" --text anew/fibonacci.png | grep -c 'accepted: masked [1-9].* corrupt 0 ')"
+  report 'docs/pictures has no other picture' "$(ls anew)" "$(ls "$top/docs/pictures")"
+fi
+
 # `choose SITE VERDICT` writes the script that chooses these on the page, and returns the number of rows and the page's
 # note about them.
 choose() {

@@ -1,9 +1,5 @@
-#!/usr/bin/env python3
-"""Shows the debugger's screen in pseudo-terminals of several sizes, and tests what is drawn where, and in which colour.
-
-    python3 tests/debugging/terminal.py DEBUGGER SOURCE
-
-SOURCE is examples/fibonacci.src. The last line is the number of checks, and of those that failed."""
+"""A pseudo-terminal with as much of xterm as curses uses: what a full screen shows, with its colours."""
+import collections
 import fcntl
 import os
 import pty
@@ -15,22 +11,25 @@ import sys
 import termios
 import time
 
-FAULT = "296:r32:7"
-GREEN, BLUES = 32, (34, 94)
+# A cell's colour, as in the sequences (39 is the default), and its other attributes.
+Style = collections.namedtuple("Style", "ink bold dim underline reverse", defaults=(39, False, False, False, False))
+PLAIN = Style()
+ON = {1: "bold", 2: "dim", 4: "underline", 7: "reverse"}
+OFF = {22: ("bold", "dim"), 24: ("underline",), 27: ("reverse",)}
 PART = re.compile(rb"\x1b\[([?>]?)([\d;]*)([@-~])|\x1b([()][0-9A-Za-z]|[=>78MNOc])|\x1b\][^\x07\x1b]*(?:\x07|\x1b\\)"
                   rb"|([\r\n\b\t\x0f\x07])|([^\x1b\r\n\b\t\x0f\x07]+)")
 
 
 class Terminal:
-    """As much of a terminal as curses uses with TERM=xterm-256color: rows of (character, colour)."""
+    """Rows of (character, style)."""
 
     def __init__(self, wide, high):
-        self.wide, self.high, self.row, self.column, self.ink = wide, high, 0, 0, 39
+        self.wide, self.high, self.row, self.column, self.style = wide, high, 0, 0, PLAIN
         self.cells = [self.blank() for _ in range(high)]
         self.rest, self.last = b"", " "
 
     def blank(self):
-        return [(" ", 39)] * self.wide
+        return [(" ", PLAIN)] * self.wide
 
     def feed(self, data):
         """Takes what the program writes. A sequence may be cut in the middle: it waits for its end."""
@@ -59,7 +58,7 @@ class Terminal:
         for character in text:
             if self.column == self.wide:
                 self.row, self.column = min(self.row + 1, self.high - 1), 0
-            self.cells[self.row][self.column] = (character, self.ink)
+            self.cells[self.row][self.column] = (character, self.style)
             self.column, self.last = self.column + 1, character
 
     def control(self, mark, numbers, final):
@@ -79,26 +78,34 @@ class Terminal:
         elif final == b"b":
             self.write(self.last * first)
         elif final == b"X":
-            row[self.column:self.column + first] = [(" ", self.ink)] * min(first, self.wide - self.column)
+            row[self.column:self.column + first] = [(" ", PLAIN)] * min(first, self.wide - self.column)
         elif final == b"P":
-            row[self.column:] = row[self.column + first:] + [(" ", 39)] * min(first, self.wide - self.column)
+            row[self.column:] = row[self.column + first:] + [(" ", PLAIN)] * min(first, self.wide - self.column)
         elif final == b"@":
-            row[self.column:] = ([(" ", 39)] * first + row[self.column:])[:self.wide - self.column]
+            row[self.column:] = ([(" ", PLAIN)] * first + row[self.column:])[:self.wide - self.column]
         elif final == b"K":
             start, end = {0: (self.column, self.wide), 1: (0, self.column + 1), 2: (0, self.wide)}[numbers[0]]
-            row[start:end] = [(" ", 39)] * (end - start)
+            row[start:end] = [(" ", PLAIN)] * (end - start)
         elif final == b"J":
-            row[self.column:] = [(" ", 39)] * (self.wide - self.column)
+            row[self.column:] = [(" ", PLAIN)] * (self.wide - self.column)
             for below in range(self.row + 1 if numbers[0] == 0 else 0, self.high):
                 self.cells[below] = self.blank()
         elif final == b"m":
             for number in numbers:
-                if number in (0, 39):
-                    self.ink = 39
-                elif 30 <= number <= 37 or 90 <= number <= 97:
-                    self.ink = number
+                self.attribute(number)
         elif final not in b"rhlt":
             sys.exit(f"terminal.py: unknown sequence {numbers} {final}")
+
+    def attribute(self, number):
+        """Changes the style of what follows."""
+        if number == 0:
+            self.style = PLAIN
+        elif number in ON:
+            self.style = self.style._replace(**{ON[number]: True})
+        elif number in OFF:
+            self.style = self.style._replace(**dict.fromkeys(OFF[number], False))
+        elif number == 39 or 30 <= number <= 37 or 90 <= number <= 97:
+            self.style = self.style._replace(ink=number)
 
     def lines(self):
         """The rows as text."""
@@ -108,12 +115,12 @@ class Terminal:
         """The colours of the first place where this text stands."""
         for line, row in zip(self.lines(), self.cells):
             if (at := line.find(text)) >= 0:
-                return {ink for _, ink in row[at:at + len(text)]}
+                return {style.ink for _, style in row[at:at + len(text)]}
         return set()
 
 
 def shown(words, wide, high):
-    """The screen once the run has ended."""
+    """The debugger's screen once the key End was typed and the run is detected."""
     child, master = pty.fork()
     if child == 0:
         os.environ.update(TERM="xterm-256color", LC_ALL="C.UTF-8")
@@ -136,39 +143,3 @@ def shown(words, wide, high):
         os.waitpid(child, 0)
         os.close(master)
     return terminal
-
-
-def checks(terminal, wide, high):
-    """(what, whether it holds) of a screen."""
-    lines = terminal.lines()
-    yield "the title is whole", " at 328 detected   the machine has stopped itself: e says why" in lines[0]
-    yield "the timeline ends in the last column", lines[high - 4].endswith("- 934 steps")
-    yield "the timeline begins in the first column", lines[high - 4].startswith("0 -")
-    yield "the keys fill the last line", len(lines[-1].rstrip()) >= wide - 12 and "e explain" in lines[-1]
-    yield "the longest instruction is whole", any("mov r36 B 1048576 ref:int" in line for line in lines)
-    yield "both halves of a pair have their names", any(re.search(r"r4  G 1048576 out +r36 B 1048576 out", line) for line in lines)
-    words = [line[line.index("|"):].rstrip() for line in lines[1:high - 4]]
-    yield "the words reach the right edge", max(len(line.rstrip()) for line in lines[1:high - 4]) >= wide - 1
-    yield "no word is cut", not any("…" in line for line in words)
-    yield "a green word is green", terminal.ink_of("r3  G 3") == {GREEN}
-    yield "a blue word is blue", any(terminal.ink_of("r35 B 3") == {blue} for blue in BLUES)
-    yield "a green store is green", terminal.ink_of("st_G r4 r5") == {GREEN}
-    yield "a blue branch is blue", any(terminal.ink_of("bz_B r37 r36") == {blue} for blue in BLUES)
-
-
-def main(debugger, source):
-    count = failed = 0
-    for wide, high in ((80, 24), (100, 30)):
-        terminal = shown([debugger, source, "--tui", "--fault", FAULT], wide, high)
-        for what, holds in checks(terminal, wide, high):
-            count += 1
-            if not holds:
-                failed += 1
-                print(f"{wide}x{high}: not so: {what}")
-        if failed:
-            print("\n".join(terminal.lines()))
-    print(f"{count} checks: {failed} failed")
-
-
-if __name__ == "__main__":
-    main(*sys.argv[1:])

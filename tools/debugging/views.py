@@ -2,7 +2,7 @@
 import os
 
 from debugging.explaining import counted
-from debugging.machine import is_fetch
+from debugging.machine import is_fetch, own_colour, written_register
 
 RESET = "\033[0m"
 STYLES = {"green": "\033[32m", "blue": "\033[34m", "differs": "\033[1;31m", "dim": "\033[2m", "here": "\033[1m",
@@ -148,8 +148,14 @@ def code_rows(session, first, last):
 
 
 def colour_of(instruction):
-    """The style of an instruction's colour, or None."""
-    return {"_G": "green", "_B": "blue"}.get(instruction.words[0][-2:])
+    """The style of an instruction's colour; where it has none of its own, that of the register it writes, or None."""
+    words = instruction.words
+    colour, register = own_colour(words), written_register(words)
+    if words[0] == "mov":
+        colour = words[2]
+    if colour is None and register is not None and register[1:].isdigit():
+        colour = "G" if int(register[1:]) < 32 else "B"
+    return {"G": "green", "B": "blue"}.get(colour)
 
 
 def code_lines(session, paint, around=5, at=None):
