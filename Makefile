@@ -132,7 +132,7 @@ evidence: all library
 
 # The documents, the manual pages and the trace as a searchable site in out/site.
 site:
-	rm -rf out/site
+	@rm -rf out/site
 	@python3 build/site.py out/site
 
 # Builds twice, in different folders, at different times, with different locales and numbers of processors, and

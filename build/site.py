@@ -24,14 +24,22 @@ BESIDE = {"README.md": "index.html", "SECURITY.md": "security.html", "CHANGELOG.
 INLINE = r"</?(?:code|em|strong|a|span)\b[^>]*>"
 
 STYLE = """:root{color-scheme:light dark;--line:#8885;--soft:#8881;--link:light-dark(#0b57a4,#8ab8ff)}
-body{font:16px/1.55 system-ui,sans-serif;margin:0;display:grid;grid-template-columns:15rem minmax(0,52rem);gap:2rem;padding:1rem 1.5rem}
+body{font:16px/1.55 system-ui,sans-serif;margin:0;display:grid;grid-template-columns:15rem minmax(0,60rem);gap:2rem;padding:1rem 1.5rem}
+.wide body{grid-template-columns:15rem minmax(0,1fr)}.wide table{display:table;table-layout:fixed;width:100%}
+.wide td,.wide th{font-size:12px;padding:.2rem .3rem}.wide td code{overflow-wrap:anywhere}.wide th:nth-child(1){width:3.6rem}
+.wide th:nth-child(2){width:22%}#filter{font:inherit;width:100%;max-width:30rem}
 nav{position:sticky;top:1rem;align-self:start;max-height:95vh;overflow:auto;font-size:.92rem}nav h2{font-size:.95rem;margin:1rem 0 .2rem}
 nav ul{list-style:none;margin:0;padding:0}nav [aria-current]{font-weight:bold}a{color:var(--link)}
-main{overflow-wrap:break-word}pre{background:var(--soft);padding:.7rem;overflow:auto}code{font-size:.92em}
+#menu,nav label{display:none}
+main{overflow-wrap:break-word}pre{background:var(--soft);padding:.7rem;overflow:auto;font-size:13px;line-height:1.45;
+white-space:pre-wrap;overflow-wrap:anywhere}pre.drawing{white-space:pre}code{font-size:.92em}pre code{font-size:1em}
 table{border-collapse:collapse;display:block;overflow-x:auto;margin:1rem 0}td,th{border:1px solid var(--line);padding:.25rem .5rem;vertical-align:top;text-align:left}
-blockquote{border-left:4px solid var(--line);margin-left:0;padding-left:1rem}img{max-width:100%;background:#fff}
-input{font:inherit;width:100%;box-sizing:border-box}#found{font-size:.9rem;padding-left:1.7rem}
-@media(max-width:50rem){body{display:block}nav{position:static;max-height:none}}
+blockquote{border-left:4px solid var(--line);margin-left:0;padding-left:1rem}blockquote:has(>pre:only-child){border:0;padding:0}img{max-width:100%;background:#fff}
+nav input[type=search]{font:inherit;width:100%;box-sizing:border-box}#found{font-size:.9rem;padding-left:1.7rem}
+@media(max-width:50rem){body,.wide body{display:block;padding:.7rem 1rem}nav{position:static;max-height:none}
+nav label{display:inline-block;float:right;padding:0 .6rem;border:1px solid var(--line);border-radius:4px;cursor:pointer}
+#menu{display:inline-block;position:absolute;opacity:0}#menu:focus-visible+label{outline:2px solid}#menu:not(:checked)~*:not(.home):not(label){display:none}
+pre{font-size:12px}.wide table{display:block}.wide td{min-width:6rem}}
 """
 SCRIPT = """const box=document.getElementById("search"),found=document.getElementById("found");
 const root=document.documentElement.dataset.root;
@@ -51,8 +59,25 @@ def read(path):
 
 def body_of(text, kind):
     """A document as the HTML inside a page."""
-    words = ["pandoc", "-f", kind, "-t", "html", "--wrap=none"]
+    # The headings of a manual page are below the title that its page gets.
+    words = ["pandoc", "-f", kind, "-t", "html", "--wrap=none", *(["--shift-heading-level-by=1"] if kind == "man" else [])]
     return subprocess.run(words, input=text, capture_output=True, text=True, check=True).stdout
+
+
+def fitted(body):
+    """A page's HTML so that nothing is cut at its right: long names in tables may be broken after their signs, and only
+    drawings keep their lines."""
+    def code(match):
+        return match.group(0) if len(match.group(1)) < 24 else "<code>" + re.sub("([/_.:])", r"\1<wbr>", match.group(1)) + "</code>"
+
+    def table(match):
+        return re.sub(r"<code>([^<]*)</code>", code, match.group(0))
+
+    def box(match):
+        kind = ' class="drawing"' if re.search(r"[\u2500-\u25ff]", html.unescape(match.group(2))) else match.group(1)
+        return f"<pre{kind}>{match.group(2)}</pre>"
+    body = re.sub(r"<table.*?</table>", table, body, flags=re.S)
+    return re.sub(r"<pre([^>]*)>(.*?)</pre>", box, body, flags=re.S)
 
 
 def title_of(text):
@@ -64,7 +89,7 @@ class Site:
     """The pages, by name, and the search index."""
 
     def __init__(self, folder):
-        self.folder, self.index = folder, []
+        self.folder, self.index, self.count = folder, [], 0
         self.pages = dict(BESIDE)
         for name in sorted(os.listdir(os.path.join(TOP, "docs"))):
             if name.endswith(".md"):
@@ -105,7 +130,9 @@ class Site:
         def item(to, text):
             current = ' aria-current="page"' if to == here else ""
             return f'<li><a href="{root}{to}"{current}>{html.escape(text)}</a></li>'
-        parts = [f'<a href="{root}index.html"><b>talft</b></a>', '<input id="search" placeholder="search" aria-label="search">',
+        # On a narrow screen only the name and the button are shown, until the button is pressed.
+        parts = [f'<a class="home" href="{root}index.html"><b>talft</b></a>', '<input type="checkbox" id="menu">',
+                 '<label for="menu">Menu</label>', '<input type="search" id="search" placeholder="search" aria-label="search">',
                  '<ol id="found"></ol>']
         for reader, names in READERS.items():
             rows = [item(self.pages[f"docs/{name}.md"], self.titles[f"docs/{name}.md"]) for name in names]
@@ -115,10 +142,14 @@ class Site:
                      f"{item('report.html', 'A report') if os.path.exists(os.path.join(self.folder, 'report.html')) else ''}</ul>")
         return "\n".join(parts)
 
-    def page(self, to, title, body):
+    def page(self, to, title, body, wide=False):
         root = "../" * to.count("/")
-        self.note(to, title, body)
-        self.write(to, f'<!DOCTYPE html>\n<html lang="en" data-root="{root}"><meta charset="utf-8">'
+        if not wide:
+            self.note(to, title, body)
+        body = fitted(body)
+        kind = ' class="wide"' if wide else ""
+        self.count += 1
+        self.write(to, f'<!DOCTYPE html>\n<html lang="en"{kind} data-root="{root}"><meta charset="utf-8">'
                    f'<meta name="viewport" content="width=device-width"><title>{html.escape(title)}</title>'
                    f'<link rel="stylesheet" href="{root}style.css">\n<nav>{self.menu(to, root)}</nav>\n<main>{body}</main>\n'
                    f'<script src="{root}index.js"></script><script src="{root}search.js"></script></html>\n')
@@ -143,10 +174,18 @@ class Site:
             self.page(f"manual/{name}.html", shown, f"<h1>{shown}</h1>{body}")
             rows.append(f'<li><a href="{name}.html">{shown}</a></li>')
         self.page("manual/index.html", "Manual pages", f'<h1>Manual pages</h1><ul>{"".join(rows)}</ul>')
-        subprocess.run([sys.executable, os.path.join(TOP, "docs/trace.py"), "--page", os.path.join(self.folder, "trace-page.html")], check=True)
+        self.trace()
         self.write("style.css", STYLE)
         self.write("search.js", SCRIPT)
         self.write("index.js", f"const INDEX={json.dumps(self.index, ensure_ascii=False)};\n")
+
+    def trace(self):
+        """The searchable trace, with the menu."""
+        path = os.path.join(self.folder, "trace-page.html")
+        subprocess.run([sys.executable, os.path.join(TOP, "docs/trace.py"), "--page", path], check=True)
+        with open(path, encoding="utf-8") as file:
+            body = file.read().partition("</style>")[2].replace("</html>", "")
+        self.page("trace-page.html", "Searchable trace", body, wide=True)
 
     def report(self):
         """Makes the report of a campaign on an example, if the program is built and gnuplot is installed."""
@@ -176,7 +215,9 @@ def main(words):
     if os.path.exists(words[0]) and os.listdir(words[0]):
         sys.exit(f"site: error: {words[0]} exists already and is not empty")
     os.makedirs(words[0], exist_ok=True)
-    Site(os.path.abspath(words[0])).make()
+    site = Site(os.path.abspath(words[0]))
+    site.make()
+    print(f"site: made {site.count} pages: open {os.path.join(words[0], 'index.html')}")
 
 
 if __name__ == "__main__":

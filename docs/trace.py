@@ -370,12 +370,13 @@ def table(trace):
 
 PAGE = """<!DOCTYPE html>
 <html lang="en"><meta charset="utf-8"><title>Requirements and their evidence</title>
-<style>body{font:15px sans-serif;margin:1em}table{border-collapse:collapse}td,th{border:1px solid #999;
-padding:.3em .5em;vertical-align:top;text-align:left;font-size:13px}code{white-space:nowrap}input{font:inherit;width:30em}</style>
+<style>body{font:15px system-ui,sans-serif;margin:1em}table{border-collapse:collapse}td,th{border:1px solid #999;
+padding:.3em .5em;vertical-align:top;text-align:left;font-size:13px}code{overflow-wrap:anywhere}
+input{font:inherit;width:30em;max-width:100%}</style>
 <h1>Requirements and their evidence</h1>
-<p><input id="search" placeholder="search: a number, a word, a clause, a file"></p>
+<p><input id="filter" placeholder="search: a number, a word, a clause, a file"></p>
 <table><thead><tr>@HEAD@</tr></thead><tbody>@BODY@</tbody></table>
-<script>const rows=[...document.querySelectorAll("tbody tr")];document.getElementById("search").oninput=e=>{
+<script>const rows=[...document.querySelectorAll("tbody tr")];document.getElementById("filter").oninput=e=>{
 const words=e.target.value.toLowerCase().split(" ");for(const row of rows){const text=row.textContent.toLowerCase();
 row.hidden=!words.every(word=>text.includes(word))}}</script></html>
 """
@@ -386,7 +387,8 @@ def page(trace):
     def cell(value):
         if isinstance(value, str):
             return html.escape(value)
-        return "<br>".join(f"<code>{html.escape(one)}</code>" for one in value)
+        # Long names may be cut after their signs.
+        return "<br>".join("<code>" + re.sub("([/_.:])", r"\1<wbr>", html.escape(one)) + "</code>" for one in value)
 
     def line(row):
         return f'<tr id="{row[0]}">{"".join(f"<td>{cell(value)}</td>" for value in row)}</tr>'

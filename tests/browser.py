@@ -3,8 +3,8 @@
 
     python3 tests/browser.py PAGE [PICTURE] <SCRIPT
 
-Each line is a JavaScript expression; its value is written as text. The last line is the number of errors in the
-console, which go to standard error. PICTURE gets a PNG of the page."""
+Each line is a JavaScript expression; its value is written as text. A line `width N` makes the window N pixels wide. The
+last line is the number of errors in the console, which go to standard error. PICTURE gets a PNG of the page."""
 import base64
 import json
 import os
@@ -85,6 +85,10 @@ def main(page, picture=None):
         browser.ask("Page.navigate", url="file://" + os.path.abspath(page))
         browser.wait_for("Page.loadEventFired")
         for line in sys.stdin:
+            if line.startswith("width "):
+                browser.ask("Emulation.setDeviceMetricsOverride", width=int(line[6:]), height=1000, deviceScaleFactor=1,
+                            mobile=False)
+                continue
             answer = browser.ask("Runtime.evaluate", expression=line, returnByValue=True, awaitPromise=True)
             print(answer["exceptionDetails"]["text"] if "exceptionDetails" in answer else answer["result"].get("value"))
         if picture:

@@ -37,7 +37,7 @@ exec 3>&1
 
 # A million faults of two programs.
 large() {
-  local program steps count
+  local program steps count used
   unset TALFT
   for program in fibonacci sieve; do
     "$top/talft" compile "$top/examples/$program.src" >"$program.obj"
@@ -58,7 +58,10 @@ large() {
     if has gnuplot "the picture of $program"; then
       measured "$program: the pictures" "$top/tools/plot" "$program.lines" --out "$program"
       report "the picture of $program" 'PNG' "$(head -c 4 "$program.png" | tail -c 3)"
-      measured "$program: the page" "$top/tools/report" "$program.lines" --dir "$program" --out "$program.html"
+      used=$({ TIMEFORMAT='%U %S'; time measured "$program: the page" "$top/tools/report" "$program.lines" --dir "$program" \
+        --out "$program.html" 2>said; } 2>&1)
+      report "the page of $program takes at most 5 s of a processor" yes \
+        "$(awk '{ print $1 + $2 <= 5 ? "yes" : $1 + $2 " s" }' <<<"$used")"
       report "the page of $program, below 2 MB" yes "$([ "$(wc -c <"$program.html")" -lt 2000000 ] && echo yes)"
     fi
     [ -z "${KEEP-}" ] || cp "$program".{lines,svg,png,html} "$KEEP"

@@ -1,5 +1,7 @@
 #!/usr/bin/env python3
-"""Counts the pixels of each verdict's colour in a PNG, or in the PNG within an SVG: python3 tests/picture.py FILE."""
+"""Counts the pixels of each verdict's colour in a PNG, or in the PNG within an SVG: python3 tests/picture.py FILE.
+
+With --text before FILE, it writes the description within a PNG instead."""
 import base64
 import collections
 import re
@@ -31,7 +33,8 @@ def unfiltered(kind, row, above, size):
     return out
 
 
-def main(path):
+def main(*words):
+    path = words[-1]
     with open(path, "rb") as file:
         data = file.read()
     if inner := re.search(rb"data:image/png;base64,([^'\"]*)", data):
@@ -39,6 +42,9 @@ def main(path):
     if data[:8] != b"\x89PNG\r\n\x1a\n":
         sys.exit(f"{path}: not a PNG")
     parts = list(chunks(data))
+    if words[0] == "--text":
+        print("\n".join(part.split(b"\0", 5)[-1].decode() for name, part in parts if name == b"iTXt"))
+        return
     wide, high, depth, kind = struct.unpack(">IIBB", parts[0][1][:10])
     size = {2: 3, 6: 4}[kind]
     rows = zlib.decompress(b"".join(part for name, part in parts if name == b"IDAT"))
@@ -51,4 +57,4 @@ def main(path):
 
 
 if __name__ == "__main__":
-    main(sys.argv[1])
+    main(*sys.argv[1:])

@@ -7,7 +7,8 @@ import re
 import subprocess
 import tempfile
 
-from common import SITES, VERDICT, Refused, check_object, in_this_process, not_run, program, put, verdicts, why
+from columns import verdicts
+from common import SITES, VERDICT, Refused, check_object, in_this_process, not_run, program, put, why
 from debugging.sessions import length_of_run
 from messages import named
 

@@ -1,8 +1,10 @@
 """One campaign as `talft-plot` draws it: the faults of each row and column by verdict, and their latencies."""
 import array
 import collections
+import itertools
+import operator
 
-from common import SITES, VERDICTS, Refused, verdicts
+from common import SITES, VERDICTS, Refused
 from messages import named
 
 # The order of the verdicts, from the top of a cell to its bottom.
@@ -16,30 +18,33 @@ FOLDED = len(SITES)
 class Panel:
     """The faults of a campaign."""
 
-    def __init__(self, path, title, used):
-        """Reads the lines. `used` has the registers that instructions name, or is None if these are unknown."""
+    def __init__(self, title, used):
+        """`used` has the registers that instructions name, or is None if these are unknown."""
         self.title, self.used = title, used
-        self.counts, self.latencies = collections.Counter(), collections.Counter()
+        self.counts, self.shown, self.away = collections.Counter(), collections.Counter(), 0
+        self.latencies = collections.Counter()
         self.steps, self.sites, self.kinds = array.array("L"), array.array("B"), array.array("B")
-        place, kind = {site: at for at, site in enumerate(SITES)}, {verdict: at for at, verdict in enumerate(ORDER)}
+        self.place, self.kind = {site: at for at, site in enumerate(SITES)}, {verdict: at for at, verdict in enumerate(ORDER)}
         if used is not None:
-            place.update((site, FOLDED) for site in SITES[:64] if site not in used)
-        self.folded = set()
-        for step, site, _, verdict, at in verdicts(path):
-            self.steps.append(step)
-            self.sites.append(place[site])
-            self.kinds.append(kind[verdict])
-            if place[site] == FOLDED:
-                self.folded.add(site)
-            if at is not None:
-                self.latencies[at - step] += 1
+            self.place.update((site, FOLDED) for site in SITES[:64] if site not in used)
+
+    def take(self, columns):
+        """Adds lines."""
+        self.steps.extend(columns.steps)
+        self.sites.extend(map(self.place.__getitem__, columns.sites))
+        self.kinds.extend(map(self.kind.__getitem__, columns.verdicts))
+        self.latencies.update(at - step for step, at in zip(columns.steps, columns.ats) if at is not None)
+        for (site, verdict), count in columns.counts.items():
+            self.counts[verdict] += count
+            if self.place[site] == FOLDED:
+                self.away += count
+            else:
+                self.shown[verdict] += count
+
+    def end(self, path):
+        """Refuses lines without a fault, after the last one."""
         if not self.steps:
             raise Refused(f"{named(path)}: has no faults to draw: its campaign had an empty list")
-        self.counts.update(dict(zip(ORDER, (self.kinds.count(at) for at in range(4)))))
-        self.away = self.sites.count(FOLDED)
-        self.shown = self.counts - collections.Counter(
-            {ORDER[kind]: count for (site, kind), count in
-             collections.Counter(zip(self.sites, self.kinds)).items() if site == FOLDED})
 
     def rows_here(self):
         """The sites that were struck, and the row of folded ones, by number."""
@@ -70,11 +75,12 @@ class Grid:
         """Counts the faults of each cell by verdict."""
         self.columns = (self.length - 1) // self.width + 1
         row = {site: at for at, site in enumerate(self.rows)}
-        columns = ((step - self.first) // self.width for step in self.panel.steps)
-        counts = collections.Counter(zip(columns, (row[site] for site in self.panel.sites), self.panel.kinds))
+        steps = map(operator.sub, self.panel.steps, itertools.repeat(self.first))
+        columns = map(operator.floordiv, steps, itertools.repeat(self.width))
+        counts = collections.Counter(zip(columns, self.panel.sites, self.panel.kinds))
         self.cells = collections.defaultdict(lambda: [0] * 4)
-        for (column, at, verdict), count in counts.items():
-            self.cells[column, at][verdict] = count
+        for (column, site, verdict), count in counts.items():
+            self.cells[column, row[site]][verdict] = count
 
     def gaps(self):
         """The share of cells that have no fault, among those at sites that always exist."""

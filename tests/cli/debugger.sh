@@ -12,6 +12,8 @@ python3 -B "$debugging/facts.py" 1 8 60 "$top"/examples/{five,loop,stores,index}
 facts=$!
 python3 -B "$debugging/adapter.py" >adapter.said 2>&1 &
 adapter=$!
+python3 -B "$debugging/screens.py" "$top/tools/debugger" "$fibonacci" >terminal.said 2>&1 &
+terminal=$!
 
 # `session PROGRAM COMMAND..` prints what the prompt writes for these commands.
 session() {
@@ -210,7 +212,17 @@ says 'a planned strike is forgotten' 'plan 700:r0:16\nplan 9:r1:7\nunplan 700:r0
 says 'no such strike' 'unplan 9:r1:7' '`9:r1:7` is not planned: `info strikes` lists the strikes'
 says 'a sum is not printed' 'print i + 1' '`i + 1`: `print` takes names, as in `print r1 out`, not expressions'
 says 'names have no dollar sign' 'print $r1' '`$r1`: names have no `$` here: write `r1`'
-says 'a command of other debuggers' 'list' 'unknown command `list`: `disassemble` shows the code with the lines of the source'
+says 'a command of other debuggers' 'frame' 'unknown command `frame`: `where` shows the place; there are no calls'
+# `list` shows the lines around the place, then the next ones, or those around a line or a place.
+report 'the line of the place' "=>    4  $(sed -n 4p "$fibonacci")" "$(session "$fibonacci" 'goto 40' list | grep '^=>')"
+numbers() { sed -n 's/^\(=>\|  \) *\([0-9][0-9]*\)\(  .*\|\)$/\2/p' | paste -sd ' '; }
+report 'the lines around the place, and the next ones' "$(seq 22 41 | paste -sd ' ')" "$(session "$top/examples/loop.asm" list l | numbers)"
+report 'the lines around a line' "$(seq 3 12 | paste -sd ' ')" "$(session "$top/examples/loop.asm" 'list 8' | numbers)"
+report 'the lines of an object are those of dis' "$("$top/talft" dis "$five" | grep -n '^st_G' | sed 's/:/  /')" \
+  "$(session "$five" 'list 0:4' | sed -n 's/^ *\([0-9]*  st_G.*\)/\1/p')"
+printf '# \e[2J\n' | cat - "$five_text" >escape.asm
+report 'a text has no control characters' 0 "$(session escape.asm list 'list 1' | grep -c $'\e')"
+says 'a line after the last' 'list 99' 'unknown line 99: the lines are 1 to 17'
 says 'a topic of other debuggers' 'info locals' \
   'unknown topic `locals`: `info names` says where names are kept, `print` and `display` write their words'
 says 'the displayed words' 'display i prime\nundisplay i\ndisplay' '  prime 0'
@@ -314,6 +326,8 @@ wait "$walks"
 report 'random walks' '2 walks: 0 failed' "$(cat walks.said)"
 wait "$facts"
 report 'what the tools know about the machine' '0 wrong' "$(tail -n 1 facts.said | sed 's/.*: //')"
+wait "$terminal"
+report 'the screen in pseudo-terminals of 80x24 and 100x30' '0 failed' "$(tail -n 1 terminal.said | sed 's/.*: //')"
 wait "$adapter"
 report 'the adapter for editors' '0 failed' "$(sed 's/.* passed, \(.*\);.*/\1/' adapter.said)"
 

@@ -121,6 +121,26 @@ index 14, line 4)" \
   report 'its markup' '0 yes' "$(grep -c '<!--<script' early.html) $(grep -q 'u003c!--' early.html && echo yes)"
 fi
 
+# At a terminal a page says what it is doing; otherwise it says only what it wrote. It calls the program for the words, for
+# the places, and about once for each fault that it traces: not again for the run without a fault, which these share.
+if command -v gnuplot >/dev/null; then
+  printf '0:r9:1 masked\n2:r9:1 masked\nfaults 2 masked 2 detected 0 idle 0 corrupt 0\n' >two.lines
+  tool 'a page without a terminal' 0 '' report two.lines --object "$top/examples/five.obj" --out quiet.html
+  report 'it says only what it wrote' 'talft-report: wrote quiet.html' "$(cat said)"
+  if has script 'the progress of a page'; then
+    report 'what a page says at a terminal' 'draws the picture|read 2 faults|reads the words of 2 faults' \
+      "$(script -qec "'$top/tools/report' two.lines --object '$top/examples/five.obj' --out loud.html" /dev/null </dev/null |
+        tr '\r' '\n' | sed -n 's/.*report: \(draws.*\|read 2.*\|reads the words.*\)/\1/p' | sort -u | paste -sd '|')"
+  fi
+  printf '%s\n' '#!/bin/sh' "echo call >>'$work/calls'" "exec '$top/talft' \"\$@\"" >counting
+  chmod +x counting
+  : >calls
+  TALFT=./counting "$top/tools/report" unpaired.lines --dir unpaired --out counted.html 2>said
+  traced=$(grep -o '"ways":{.*' counted.html | grep -o '"[0-9]*":"' | wc -l)
+  report "at most 3 calls for each of $traced traced faults, and 6 more" yes \
+    "$([ "$traced" -gt 9 ] && [ "$(wc -l <calls)" -le $((3 * traced + 6)) ] && echo yes || echo "$(wc -l <calls) calls")"
+fi
+
 # The commands in docs/TOOLS.md, run as a reader would. They print only their progress and what they wrote.
 if command -v gnuplot >/dev/null; then
   mkdir reader
@@ -132,6 +152,19 @@ if command -v gnuplot >/dev/null; then
   report 'the number of faults in docs/TOOLS.md' "$count" "$(grep -c : reader/lines)"
   report 'the pictures that these commands draw' 'both.png both.svg fibonacci.html fibonacci.png fibonacci.svg' \
     "$(cd reader && find . -size +4k \( -name '*.??g' -o -name '*.html' \) | sed 's/..//' | sort | paste -sd ' ')"
+fi
+
+# The pictures in the documents, made anew: what stands in them is the same. Letters in a PNG are pixels, which depend on the
+# fonts, so its description is compared.
+if command -v gnuplot >/dev/null; then
+  mkdir anew
+  tool_said=$(bash "$top/docs/pictures.sh" anew 2>&1)
+  report 'what docs/pictures.sh says' '' "$tool_said"
+  report 'docs/pictures/debugger.svg made anew' '' "$(diff "$top/docs/pictures/debugger.svg" anew/debugger.svg | head -n 4)"
+  report 'docs/pictures/fibonacci.png made anew' "$(python3 "$top/tests/picture.py" --text "$top/docs/pictures/fibonacci.png")" \
+    "$(python3 "$top/tests/picture.py" --text anew/fibonacci.png)"
+  report 'it has a description' 1 "$(python3 "$top/tests/picture.py" --text anew/fibonacci.png | grep -c 'accepted: masked [1-9].* corrupt 0 ')"
+  report 'docs/pictures has no other picture' "$(ls anew)" "$(ls "$top/docs/pictures")"
 fi
 
 # `choose SITE VERDICT` writes the script that chooses these on the page, and returns the number of rows and the page's
@@ -170,6 +203,11 @@ if command -v gnuplot >/dev/null && has $browser 'a page in a browser'; then
     echo 'document.getElementById("more").click(), document.querySelectorAll("#faults tbody tr").length'
     choose r1 corrupt
     echo 'document.querySelector("#faults tbody tr").innerText.replace(/\s+/g, " ")'
+    for wide in 1280 1920; do
+      echo "width $wide"
+      echo '[document.querySelector("#faults th:last-child").getBoundingClientRect().right <= innerWidth,' \
+        'document.querySelector(".scroll").scrollWidth <= document.querySelector(".scroll").clientWidth].join(" ")'
+    done
     echo 'document.querySelector("#faults tbody tr a").click(),' \
       'document.getElementById("way").innerText.split("\n").slice(0, 2).join("\n")'
     echo location.hash
@@ -190,6 +228,8 @@ if command -v gnuplot >/dev/null && has $browser 'a page in a browser'; then
     echo 200
     chosen r1 corrupt
     echo "$step $site $(hex "$old") $(hex "$word") 0 $verdict (before its $([ $((step % 2)) -eq 0 ] && echo fetch || echo execution) $where) why"
+    echo 'true true'
+    echo 'true true'
     echo 'talft-explain unpaired/object --fault '"$step:$site:$word"
     "$top/tools/explain" unpaired.obj --fault "$step:$site:$word" | head -n 1 | tr -d ,
     echo '#site=r1&verdict=corrupt'

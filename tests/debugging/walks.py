@@ -137,7 +137,7 @@ class Walk:
     def record(self):
         """Tests that the recording is a script that leads to the same state."""
         session = self.session
-        said = session.timeline.calls.ask(session.journal.lines + session.timeline.questions).text.splitlines()
+        said = session.timeline.calls.ask(session.journal.lines + session.timeline.questions.splitlines()).text.splitlines()
         state = session.state()
         wanted = [f"{name} {colour} {word}" for name, (colour, word) in state.words.items()]
         wanted += [f"{name} {word}" for name, word in state.cells.items()]

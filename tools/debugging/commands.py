@@ -28,6 +28,8 @@ class Commands(Shown):
         self.session, self.paint, self.out, self.is_shown = session, paint, out, is_shown
         self.sure = sure or (lambda question: False)
         self.depth, self.before, self.displayed = 0, None, []
+        # Where `list` was last asked, and the last line that it showed.
+        self.listed = None
         self.told_replaced, self.told_short = False, False
 
     def resolve(self, name):

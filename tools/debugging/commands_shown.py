@@ -6,7 +6,11 @@ from common import SITES, Refused
 from debugging import explaining, views
 from debugging.help import ELSEWHERE, HELP, INFO, SHORT, TOPICS, help_lines, help_of
 from debugging.reading import no_dollar, no_more, number, one_word, word_of
+from debugging.target import shown_text
 from messages import near, quoted
+
+# How many lines `list` shows.
+LISTED = 10
 
 
 class Shown:
@@ -144,6 +148,39 @@ class Shown:
         if len(shown) < int(digits or 1):
             size = self.session.target.size_of_array(array, sum(name.startswith(array + "[") for name in names))
             self.say(size if "[" in first else f"{shown[-1]} is the last cell")
+
+    def do_list(self, words):
+        """Ten lines of the source, or of the assembly text: around the place, around a line, or the next ten."""
+        target, here = self.session.target, self.session.current()
+        is_source = target.source is not None
+        lines = target.source if is_source else [shown_text(line) for line in target.listing.lines]
+        current = here and (here.source_line if is_source else here.line)
+        if words:
+            first = self.line_wanted(" ".join(words), is_source, len(lines)) - LISTED // 2
+        elif self.listed and self.listed[0] == self.session.position:
+            first = self.listed[1] + 1
+        elif current:
+            first = current - LISTED // 2
+        else:
+            raise Refused("no instruction is here: give a line, as in `list 1`")
+        if first > len(lines):
+            raise Refused(f"line {len(lines)} is the last one: `list 1` starts over")
+        first = max(1, first)
+        last = min(first + LISTED - 1, len(lines))
+        self.listed = self.session.position, last
+        for number in range(first, last + 1):
+            arrow = "=>" if number == current else "  "
+            self.say(self.paint("here" if number == current else None, f"{arrow} {number:>4}  {lines[number - 1]}".rstrip()))
+
+    def line_wanted(self, text, is_source, count):
+        """The line that a user names: by its number, or by a place."""
+        named = self.session.target.line_named(text)
+        if named and named[1] == is_source:
+            if not 1 <= named[0] <= count:
+                raise Refused(f"unknown line {named[0]}: the lines are 1 to {count}")
+            return named[0]
+        instruction = self.session.target.find(text)
+        return (instruction.source_line if is_source else instruction.line) or 1
 
     def do_disassemble(self, words):
         if len(words) == 1 and words[0].isdigit():

@@ -19,7 +19,7 @@ def counted(count, noun):
 
 def differences(state, other):
     """(name, word, other word) of each word that differs; None for a missing one."""
-    left, right = state.all_words(), other.all_words()
+    left, right = state.all_words(other), other.all_words(state)
     return [(name, left.get(name), right.get(name)) for name in dict.fromkeys([*left, *right])
             if left.get(name) != right.get(name)]
 
@@ -94,7 +94,7 @@ class Runs:
         self.struck = session.timeline.span(self.first, end, session.strikes)
         self.clean = session.timeline.span(self.first, end, ())
         # Without the strikes an output may come later: only their order counts.
-        before = len(session.timeline.outputs(self.first, ()))
+        before = len(session.timeline.outputs(self.first, session.strikes))
         self.wanted = session.timeline.outputs(end + MOST_LATER, ()).since(before)
 
     def first_wrong(self):

@@ -4,7 +4,7 @@
 HELP = {
     "step": ("step [N], s", "N steps forward (1)", "step 4", "an instruction takes two steps: its fetch and its execution"),
     "next": ("next [N], n", "N instructions forward (1)", "next 2", "from within an instruction, to its end"),
-    "line": ("line [N], l", "N source lines forward (1)", "line", "only if the lines of a source are known"),
+    "line": ("line [N]", "N source lines forward (1)", "line", "only if the lines of a source are known"),
     "back": ("back [N], rs", "N steps back (1)", "back 8", "it forgets strikes made later; `undo` brings them back"),
     "reverse-next": ("reverse-next [N], rn", "N instructions back (1)", "rn", ""),
     "reverse-line": ("reverse-line [N], rl", "N source lines back (1)", "rl", ""),
@@ -42,6 +42,9 @@ HELP = {
           "it stops at the end of an array; a base may follow N, as in x/3x"),
     "disassemble": ("disassemble [N|PLACE], disas", "code: N instructions (5) before and after, here or at a place",
                     "disas 9", "operands: see `help operands`; a mnemonic: `help bz_B`"),
+    "list": ("list [LINE|PLACE], l", "ten lines of the source or the assembly text", "list 4",
+             "around the place, or around a line; `list` again shows the next ten.\n"
+             "Of an object alone it shows what `talft dis` writes"),
     "where": ("where, bt", "position, status, counters", "where", ""),
     "zap": ("zap SITE WORD, z", "strike now: the word at SITE becomes WORD", "zap r1 6",
             "sites: see `help sites`; strikes: see `help faults`"),
@@ -59,11 +62,12 @@ HELP = {
     "help": ("help [CMD|TOPIC], h, ?", "this list; `help break` says more about a command", "help break", ""),
     "quit": ("quit, q", "end", "quit", ""),
 }
-SHORT = {"s": "step", "n": "next", "l": "line", "rs": "back", "reverse-step": "back", "rn": "reverse-next",
+SHORT = {"s": "step", "n": "next", "l": "list", "rs": "back", "reverse-step": "back", "rn": "reverse-next",
          "r": "registers", "rl": "reverse-line", "c": "continue", "rc": "reverse-continue", "g": "goto", "b": "break",
          "w": "watch", "d": "delete", "i": "info", "p": "print", "disas": "disassemble", "z": "zap", "o": "outputs",
          "e": "explain", "u": "undo", "h": "help", "?": "help", "q": "quit", "go": "continue", "reg": "print",
          "cell": "print", "stepi": "step", "si": "step", "nexti": "next", "ni": "next", "bt": "where",
+         "backtrace": "where",
          "fin": "finish"}
 INFO = ["registers", "queue", "cells", "breaks", "strikes", "position", "outputs", "names"]
 # The commands that an empty line repeats, and those that take no argument.
@@ -71,8 +75,7 @@ AGAIN = {"step", "next", "line", "back", "reverse-next", "reverse-line", "contin
 ALONE = {"continue", "reverse-continue", "finish", "run", "end", "undo", "queue", "cells", "where", "explain", "diff",
          "quit"}
 # Commands of other debuggers, and what to use here.
-ELSEWHERE = {"list": "`disassemble` shows the code with the lines of the source",
-             "set": "`zap` changes a word in a register: a strike; cells cannot be changed (`talft-set` changes their initial words)",
+ELSEWHERE = {"set": "`zap` changes a word in a register: a strike; cells cannot be changed (`talft-set` changes their initial words)",
              "layout": "`talft-debugger FILE --tui` shows a full screen", "start": "`run` goes to the start",
              "kill": "`run` goes to the start, `quit` ends", "up": "`where` shows the place; there are no calls",
              "down": "`where` shows the place; there are no calls",

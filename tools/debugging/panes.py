@@ -1,20 +1,24 @@
 """What the full screen shows."""
 import curses
+import os
 
 from debugging import explaining, views
 
-KEYS = (": command  ? help  q quit  n/p step  i/I instruction  c/r run  e explain  b break  z zap  f flip  u undo"
+# The keys that fit into 80 columns come first.
+KEYS = (": command  ? help  q quit  n/p step  c/r run  b break  z zap  f flip  e explain  i/I instruction  u undo"
         "  g goto  l/L line")
 # What the symbols of the timeline and the marks of pairs mean.
 LEGEND = "  ".join(["o here", "! strike", "@ both", *views.MARKS.values()])
-# The maximum number of columns of the green half of a register pair, including the space after it.
-HALF = 27
+# The columns that a green and a blue register need at least, with the space before the next column, and how many the
+# green one gets at most if it needs no more.
+HALVES, HALF = (18, 14), 27
 # How many of the last outputs determine the cells that changed last.
 LAST_CHANGED = 200
 # The smallest number of columns with room for a short blue word.
 WIDE = 75
-# The smallest screen that shows anything useful: columns and rows.
-LEAST = 50, 12
+# The smallest screen that shows anything useful: columns and rows; and the fewest columns of the code, and of the words
+# on a narrow screen.
+LEAST, LEAST_CODE, LEAST_WORDS = (50, 12), 34, 26
 
 
 def is_too_small(window):
@@ -49,19 +53,32 @@ class Panes:
             return
         height, wide = self.window.getmaxyx()
         session = self.session
-        left, body = max(34, min(56, wide // 2)), height - 5
-        self.put(0, 0, f" {session.target.path}   {views.status_line(session)}   {views.doing(session)}", "here")
+        shown = [pair for pair in views.pairs(session, self.before) if self.every or not pair.is_unset]
+        left, body = self.split(wide, shown), height - 5
+        doing = f"   {views.status_line(session)}   {views.doing(session)}".replace("`explain` says", "e says")
+        path = session.target.path if len(session.target.path + doing) < wide else os.path.basename(session.target.path)
+        self.put(0, 0, f" {path}{doing}", "here")
         self.code(1, body, left - 1)
         for row in range(1, body + 1):
             self.put(row, left - 1, "|", "dim", 1)
-        row = self.registers(1, left + 1, body - 8)
+        row = self.registers(1, left + 1, body - 8, shown)
         self.rest(row, left + 1, body - row + 1)
         self.time(height - 4, wide)
         if self.message:
             self.put(height - 2, 0, self.message, "changed")
         # As many keys as fit; `?` shows all. The last cell of the screen stays empty.
-        self.put(height - 1, 0, KEYS if len(KEYS) < wide else KEYS[:wide].rpartition("  ")[0], "dim")
+        self.put(height - 1, 0, (KEYS + "  ")[:wide + 1].rpartition("  ")[0], "dim")
         self.window.refresh()
+
+    def split(self, wide, shown):
+        """The column of the right pane. It gets what its words have needed so far, so that it does not jump with each step;
+        the code gets the rest, as far as it has such long lines. If both need more, each gets half."""
+        self.halves = tuple(max([least, *(len(text) + 1 for text in texts)]) for least, texts in zip(
+            self.halves, ([pair.green for pair in shown], [pair.blue for pair in shown])))
+        need = 2 + sum(self.halves) if wide >= WIDE else LEAST_WORDS
+        code = 17 + max(len(instruction.short()) for instruction in self.session.target.code)
+        lines = [len(f"{number}: {line.strip()}") + 1 for number, line in enumerate(self.session.target.source or (), 1)]
+        return max(min(code, max(LEAST_CODE, wide // 2)), min(max([code, *lines]), wide - need), LEAST_CODE)
 
     def code_lines(self, height):
         """(address or None, text, style) of the instructions around the chosen one, and the chosen address."""
@@ -94,34 +111,39 @@ class Panes:
         for i, (_, text, style) in enumerate(shown):
             self.put(top + i, 0, text, style, width)
 
-    def registers(self, top, column, height):
+    def registers(self, top, column, height, shown):
         """Draws both colours side by side; returns the next row."""
         state = self.session.state()
-        shown = [pair for pair in views.pairs(self.session, self.before) if self.every or not pair.is_unset]
         cut = max(0, len(shown) - max(3, height - 3))
         more = f"   ({cut} more)" if cut else ""
         wide = self.window.getmaxyx()[1]
         is_wide, room = wide >= WIDE, max(1, wide - column - 2)
         # A green word may have a name of the source after it.
-        half = min(HALF, (room + 3) // 2) if is_wide else room
-        self.put(top, column, (f"  {'green':<{half}}blue" if is_wide else f"  green  blue: {WIDE} columns") + more, "title")
+        spare = room + 1 - sum(self.halves)
+        # If both need more than there is, what one does not need goes to the other.
+        half = self.halves[0] + min(spare // 2, max(0, HALF - self.halves[0])) if spare >= 0 else \
+            max(min(HALF, (room + 3) // 2), min(self.halves[0], room + 1 - self.halves[1]))
+        half = half if is_wide else room
+        self.put(top, column + 2, "green", "green changed")
+        self.put(top, column + 2 + (half if is_wide else 7), ("blue" if is_wide else f"blue: {WIDE} columns") + more,
+                 "blue changed")
         row = top + 1
         for pair in shown[:len(shown) - cut]:
-            styles = ["differs" if pair.mark == "*" else "changed" if changed else colour
+            styles = ["differs" if pair.mark == "*" else colour + " changed" * changed
                       for changed, colour in zip(pair.changed, ("green", "blue"))]
             self.put(row, column, pair.mark + " ", "differs" if pair.mark == "*" else "dim", 2)
             # A space stays between the columns.
-            green, blue = pair.within(half - 1, room - half)
-            self.put(row, column + 2, green, styles[0], half - 1)
+            green, blue = pair.within(half - is_wide, room - half)
+            self.put(row, column + 2, green, styles[0], half - is_wide)
             if is_wide:
                 self.put(row, column + 2 + half, blue, styles[1])
             row += 1
         style = "differs" if state.pcg != state.pcb else None
         counters = [f"pcg G {state.pcg}", f"pcb B {state.pcb}"]
         self.put(row, column, "* " if style else "  ", style)
-        self.put(row, column + 2, counters[0], style, half - 1)
-        self.put(row, column + 2 + half, counters[1], style)
-        self.put(row + 1, column, f"  d   G {views.spelled(self.session, state.word('d'))}")
+        self.put(row, column + 2, counters[0], style or "green", half - 1)
+        self.put(row, column + 2 + half, counters[1], style or "blue")
+        self.put(row + 1, column, f"  d   G {views.spelled(self.session, state.word('d'))}", "green")
         return row + 3
 
     def cells_shown(self, most):
@@ -146,8 +168,10 @@ class Panes:
         lines += [(line, None) for line in self.commands.display_lines()]
         lines += [("queue" + ("" if state.queue else ": empty"), "title")]
         lines += [(line, "green") for line in (views.queue_lines(session) if state.queue else [])]
-        few = self.cells_shown(max(1, (height - len(lines)) // 3))
-        more = f" ({len(few)} of {total}; `:cells` has all)" if total > len(few) else ""
+        # Outputs get half of the room, and what the cells leave; cells get the rest.
+        room = max(2, height - len(lines) - 2)
+        few = self.cells_shown(max(1, room - min(len(outputs), max(room // 2, room - total))))
+        more = f" ({len(few)} of {total}; all: `:cells`)" if total > len(few) else ""
         lines.append(("cells" + more, "title"))
         lines += [(f"  {name} {word}", None) for name, word in few]
         room = max(1, height - len(lines) - 1)
@@ -161,7 +185,7 @@ class Panes:
         session = self.session
         end = max(self.length, session.position)
         note = f" {end} steps" if self.ends else f" {end} steps and more"
-        bar = views.time_line(session, wide - len(note) - 4, end)
+        bar = views.time_line(session, wide - len(note) - 2, end)
         self.put(row, 0, "0 ")
         for i, mark in enumerate(bar):
             self.put(row, 2 + i, mark, {"o": "here", "!": "differs", "@": "differs"}.get(mark, "dim"), 1)

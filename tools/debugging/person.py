@@ -15,8 +15,9 @@ MOST_UNDONE = 1_000
 class Session:
     """Moves, strikes, and the words at a position."""
 
-    def __init__(self, target, fault=None):
-        self.target, self.timeline = target, Timeline(target)
+    def __init__(self, target, fault=None, timeline=None):
+        """Sessions may share a timeline: then states that one has read serve the next."""
+        self.target, self.timeline = target, timeline or Timeline(target)
         self.position, self.strikes = 0, ()
         self.breaks, self.watches, self.next_number = {}, {}, 1
         self.past, self.journal = [], Journal()

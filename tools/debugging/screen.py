@@ -9,7 +9,7 @@ from common import Refused
 from debugging import explaining, runs, stepping, views
 from debugging.commands import MOST_TO_END, Commands, Quit
 from debugging.help import AGAIN
-from debugging.panes import LEAST, Panes, is_too_small
+from debugging.panes import HALVES, LEAST, Panes, is_too_small
 from debugging.sessions import Interrupted
 from messages import quoted
 
@@ -33,8 +33,10 @@ ENDS = {"start": "this is the start", "done": "the machine is done", "detected":
         "breakpoint": "a breakpoint", "interrupted": "interrupted: the run stays where it is"}
 # Commands whose answers fit on one line, as the screen shows the rest.
 BRIEF = AGAIN | {"until", "finish", "goto", "run", "end", "undo", "zap", "flip", "plan", "unplan", "watch"}
-COLOURS = (("green", "COLOR_GREEN"), ("blue", "COLOR_CYAN"), ("differs", "COLOR_RED"), ("changed", "COLOR_YELLOW"),
+COLOURS = (("green", "COLOR_GREEN"), ("blue", "COLOR_BLUE"), ("differs", "COLOR_RED"), ("changed", "COLOR_YELLOW"),
            ("break", "COLOR_RED"))
+# A blue that can be read on black, where a terminal has more than the eight old colours.
+BRIGHT_BLUE = 12
 
 
 class Screen(Panes):
@@ -44,6 +46,7 @@ class Screen(Panes):
         self.window, self.session = window, session
         self.lines, self.message, self.cursor, self.every, self.before = [], "", None, False, None
         self.commands = Commands(session, views.plain, self.lines.append, self.is_sure, True)
+        self.halves = HALVES
         # Marks a text that is cut.
         self.cut = "…" if window.encoding.lower() in ("utf-8", "utf8") else ">"
         end = runs.place_at(session.timeline, 1_000_000, ())
@@ -55,15 +58,19 @@ class Screen(Panes):
     def styles(self):
         """Attributes by name; colours if the terminal has them and NO_COLOR is not set."""
         bold = curses.A_BOLD
-        self.style = {"here": curses.A_REVERSE, "title": bold, "dim": curses.A_DIM, "green": 0, "blue": 0,
-                      "differs": bold | curses.A_UNDERLINE, "changed": bold, "break": bold, None: 0}
+        self.style = {"here": curses.A_REVERSE, "title": bold, "dim": curses.A_DIM, "green": 0, "blue": 0, "green changed": bold,
+                      "blue changed": bold, "differs": bold | curses.A_UNDERLINE, "changed": bold, "break": bold, None: 0}
         if not curses.has_colors() or os.environ.get("NO_COLOR"):
             return
         curses.start_color()
         curses.use_default_colors()
         for number, (name, colour) in enumerate(COLOURS, 1):
-            curses.init_pair(number, getattr(curses, colour), -1)
+            is_bright = name == "blue" and curses.COLORS > BRIGHT_BLUE
+            curses.init_pair(number, BRIGHT_BLUE if is_bright else getattr(curses, colour), -1)
             self.style[name] = curses.color_pair(number) | (bold if name in ("differs", "break") else 0)
+        for name in ("green", "blue"):
+            # A new word keeps its colour.
+            self.style[name + " changed"] = self.style[name] | bold
 
     # WHAT IS TYPED
 

@@ -26,6 +26,10 @@ KEPT, MOST_KEPT = 24, 64_000_000
 AROUND = ((200_000, 48, 80), (3_000_000, 240, 400), (None, 600, 1_200))
 # A state includes its cells if there are at most this many.
 FEW_CELLS = 32
+# An answer of `reg` is shorter, and where each is in a state.
+MOST_ANSWER, PLACE_OF = 40, {name: at for at, name in enumerate(REGISTERS)}
+# How many states of the run without strikes `span` keeps.
+MOST_CLEAN = 6_000
 
 Strike = collections.namedtuple("Strike", "step site word planned", defaults=(False,))
 Where = collections.namedtuple("Where", "position status pcg pcb block index")
@@ -65,7 +69,7 @@ def path(strikes, start, end):
 def ask(object_file, lines, wild=None):
     """The answers of one session, for tools that ask only once."""
     words = [program(), "debug", object_file] + (["--wild", wild] if wild else [])
-    script = "".join(line + "\n" for line in lines)
+    script = "\n".join([*lines, ""])
     try:
         run = subprocess.run(words, input=script, stdout=subprocess.PIPE, universal_newlines=True, check=False)
     except OSError as error:
@@ -107,7 +111,7 @@ class Calls:
         words = [target.program, "debug", target.object_file] + (["--wild", target.wild] if target.wild else [])
         # A file, not a pipe: `communicate` forgets its remaining input when it is called again after a timeout.
         with naming(f"a temporary file in {tempfile.gettempdir()}"), tempfile.TemporaryFile("w+") as script:
-            script.write("".join(line + "\n" for line in lines))
+            script.write("\n".join([*lines, ""]))
             script.seek(0)
             try:
                 # In a separate process session: Ctrl-C goes to the tool, which then ends the call.
@@ -155,6 +159,15 @@ class Answers:
         line = self.text[self.at:end]
         self.at = end + 1
         return line
+
+    def registers(self):
+        """The answers of `reg` for all registers, as lines."""
+        found = self.text[self.at:self.at + MOST_ANSWER * len(REGISTERS)].split("\n", len(REGISTERS))
+        if len(found) <= len(REGISTERS):
+            raise Refused("`talft debug` ended too soon: its answers are incomplete")
+        del found[-1]
+        self.at += sum(map(len, found)) + len(found)
+        return found
 
     def step(self):
         """The answer of `step` or `go`: the outputs as lines of text, the position and the status."""
@@ -210,37 +223,50 @@ class Answers:
 class State:
     """What the program says about one position."""
 
-    __slots__ = ("position", "status", "pcg", "pcb", "block", "index", "words", "queue", "cells", "commits", "count")
+    __slots__ = ("position", "status", "pcg", "pcb", "block", "index", "lines", "queue", "cells", "commits", "count")
 
     def __init__(self, answers, cells, count, commits):
         """Reads the answers of `questions`."""
         self.commits, self.count = commits, count
-        self.words = {name: answers.register() for name in REGISTERS}
+        # Of most states only a few words are read, or none.
+        self.lines = answers.registers()
         self.cells = {name: answers.cell() for name in cells}
         self.queue = answers.queue()
         self.position, self.status, self.pcg, self.pcb, self.block, self.index = answers.where()
+
+    def register(self, name):
+        """The colour and the word of a register."""
+        _, colour, word = self.lines[PLACE_OF[name]].split(" ")
+        return colour, int(word)
+
+    @property
+    def words(self):
+        """The colour and the word of each register, by name."""
+        return {name: self.register(name) for name in REGISTERS}
 
     def word(self, name):
         """The word of a register, a counter or a part of the queue; None if it does not exist."""
         if name in ("pcg", "pcb"):
             return getattr(self, name)
-        if name in self.words:
-            return self.words[name][1]
+        if name in PLACE_OF:
+            return self.register(name)[1]
         if name[:2] in ("qa", "qv") and name[2:].isdigit() and int(name[2:]) < len(self.queue):
             return self.queue[int(name[2:])][name[1] == "v"]
         return None
 
     def colour(self, name):
         """The colour of a register or a counter."""
-        return {"pcg": "G", "pcb": "B"}.get(name) or self.words[name][0]
+        return {"pcg": "G", "pcb": "B"}.get(name) or self.register(name)[0]
 
     def is_cell(self, word):
         """Whether a cell has this address."""
         return cell_number(word, self.count) is not None
 
-    def all_words(self):
-        """Each word that can be struck, and each known cell, by name."""
-        found = {name: word for name, (_, word) in self.words.items()}
+    def all_words(self, other=None):
+        """Each word that can be struck, and each known cell, by name; without registers that are as in the other state."""
+        names = REGISTERS if other is None else [
+            name for name, line, others in zip(REGISTERS, self.lines, other.lines) if line != others]
+        found = {name: self.register(name)[1] for name in names}
         found.update(pcg=self.pcg, pcb=self.pcb)
         for i, (address, value) in enumerate(self.queue):
             found[f"qa{i}"], found[f"qv{i}"] = address, value
@@ -261,7 +287,9 @@ class Window:
         return self.first + len(self.states) - 1
 
     def has(self, position, strikes):
-        """Whether the state of a run with these strikes is known at a position."""
+        """Whether the state of a run with these strikes is known at a position. A run that has stopped stays as it is."""
+        if position > self.last and self.states[-1].status != "running":
+            position = self.last
         return self.first <= position <= self.last and made_by(self.strikes, position) == made_by(strikes, position)
 
 
@@ -298,9 +326,11 @@ class Timeline:
         self.windows, self.idle = [], {}
         names = target.listing.cells
         self.told_cells = names if len(names) <= FEW_CELLS else []
-        self.questions = [f"reg {name}" for name in REGISTERS] + [f"cell {name}" for name in self.told_cells]
-        self.questions += ["queue", "where"]
-        size = sum(len(line) + 1 for line in self.questions) + 20
+        questions = [f"reg {name}" for name in REGISTERS] + [f"cell {name}" for name in self.told_cells]
+        self.questions = "\n".join(questions + ["queue", "where"])
+        # Consecutive states of the run without strikes, for `span`.
+        self.clean = []
+        size = len(self.questions) + 21
         self.most_states = max(1, (MOST_SCRIPT - 2000) // size)
 
     def window(self, position, strikes):
@@ -323,10 +353,13 @@ class Timeline:
     def read(self, first, count, strikes):
         """Reads a window of states from a position on, with one call."""
         lead = path(strikes, 0, first)
-        script = lead + self.questions
+        script, step = lead + [self.questions], "step 1\n" + self.questions
+        struck_at = {strike.step for strike in strikes}
         for at in range(first + 1, first + count):
-            script.append("step 1")
-            script += [f"zap {s.site} {s.word}" for s in strikes if s.step == at] + self.questions
+            if at in struck_at:
+                script += ["step 1", *(f"zap {s.site} {s.word}" for s in strikes if s.step == at), self.questions]
+            else:
+                script.append(step)
         answers = self.calls.ask(script)
         outputs, struck = answers.path(lead)
         self.idle.update((strike, not was) for strike, was in zip(made_by(strikes, first), struck))
@@ -356,6 +389,22 @@ class Timeline:
         return window.states[min(position, window.last) - window.first]
 
     def span(self, first, last, strikes):
+        """The states from one position to another. Those without strikes are kept for the next span."""
+        for window in self.windows:
+            if window.has(first, strikes) and window.has(last, strikes):
+                return window.states[min(first, window.last) - window.first:last - window.first + 1]
+        if strikes:
+            return self.read_span(first, last, strikes)
+        clean = self.clean
+        if not clean or not clean[0].position <= first <= clean[-1].position:
+            clean = self.read_span(first, last, ())
+        elif clean[-1].position < last and clean[-1].status == "running":
+            clean = clean[:-1] + self.read_span(clean[-1].position, last, ())
+        self.clean = clean[-MOST_CLEAN:]
+        at = max(0, first - clean[0].position)
+        return clean[at:at + last - first + 1]
+
+    def read_span(self, first, last, strikes):
         """The states from one position to another, with one call for as many as fit into a script."""
         found, at = [], first
         while at <= last:
@@ -365,6 +414,12 @@ class Timeline:
                 break
             at = window.last + 1
         return found
+
+    def keep(self, first, last, strikes):
+        """Reads the states from one position to another as a window, if they fit into one."""
+        if last - first < self.most_states:
+            self.windows.insert(0, self.read(first, last - first + 1, strikes))
+            del self.windows[KEPT:]
 
     def outputs(self, position, strikes):
         """The outputs up to a position."""

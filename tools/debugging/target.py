@@ -73,10 +73,14 @@ def kind_of_file(path, *wanted):
     return kind_of(path, data, *wanted)
 
 
+def shown_text(text):
+    """A text as a terminal may show it: each character that it would not print is a question mark."""
+    return "".join(letter if letter.isprintable() or letter in "\t\n" else "?" for letter in text)
+
+
 def shown_lines(text):
-    """The lines of a source as a terminal may show them: each character that it would not print is a question mark."""
-    shown = "".join(letter if letter.isprintable() or letter in "\t\n" else "?" for letter in text)
-    return shown.removesuffix("\n").split("\n")
+    """The lines of a source, likewise."""
+    return shown_text(text).removesuffix("\n").split("\n")
 
 
 class Target:

@@ -2,11 +2,11 @@
 import os
 
 from debugging.explaining import counted
-from debugging.machine import is_fetch
+from debugging.machine import is_fetch, own_colour, written_register
 
 RESET = "\033[0m"
 STYLES = {"green": "\033[32m", "blue": "\033[34m", "differs": "\033[1;31m", "dim": "\033[2m", "here": "\033[1m",
-          "changed": "\033[33m", "break": "\033[31m"}
+          "changed": "\033[33m", "break": "\033[31m", "green changed": "\033[1;32m", "blue changed": "\033[1;34m"}
 MOST_CHANGES = 12
 # What the marks of pairs mean.
 MARKS = {"*": "* differs because of a strike", "~": "~ differs anyway"}
@@ -45,15 +45,15 @@ class Pair:
 
     def __init__(self, session, i, state, before, clean):
         self.names = (f"r{i}", f"r{i + 32}")
-        words = [state.words[name] for name in self.names]
+        words = [state.register(name) for name in self.names]
         self.bare = [f"{name:<4}{colour} {word}" for name, (colour, word) in zip(self.names, words)]
         self.named = [self.bare[0] + session.target.names_of(self.names[0]), self.bare[1]]
         told = [f"{name:<4}{colour} {spelled(session, word)}" for name, (colour, word) in zip(self.names, words)]
         self.green, self.blue = told[0] + session.target.names_of(self.names[0]), told[1]
         self.differs = words[0][1] != words[1][1]
-        is_usual = clean is not None and all(clean.words[name] == state.words[name] for name in self.names)
+        is_usual = clean is not None and all(clean.register(name) == state.register(name) for name in self.names)
         self.mark = ("~" if is_usual else "*") if self.differs else " "
-        self.changed = [before is not None and before.words[name] != state.words[name] for name in self.names]
+        self.changed = [before is not None and before.register(name) != state.register(name) for name in self.names]
         self.is_unset = words == [("G", 0), ("G", 0)]
 
     def within(self, *widths):
@@ -73,12 +73,12 @@ def pairs(session, before=None):
 
 def shown_pairs(paint, rows, width):
     """The lines of some pairs, under their heading."""
-    lines = [f"  {'green':<{width}}blue"]
+    lines = ["  " + paint("green", f"{'green':<{width}}") + paint("blue", "blue")]
     for row in rows:
         style = "differs" if row.mark == "*" else None
         lines.append(paint(style, row.mark + " ")
-                     + paint(style or ("changed" if row.changed[0] else "green"), f"{row.green:<{width}}")
-                     + paint(style or ("changed" if row.changed[1] else "blue"), row.blue))
+                     + paint(style or "green" + " changed" * row.changed[0], f"{row.green:<{width}}")
+                     + paint(style or "blue" + " changed" * row.changed[1], row.blue))
     return lines
 
 
@@ -148,8 +148,14 @@ def code_rows(session, first, last):
 
 
 def colour_of(instruction):
-    """The style of an instruction's colour, or None."""
-    return {"_G": "green", "_B": "blue"}.get(instruction.words[0][-2:])
+    """The style of an instruction's colour; where it has none of its own, that of the register it writes, or None."""
+    words = instruction.words
+    colour, register = own_colour(words), written_register(words)
+    if words[0] == "mov":
+        colour = words[2]
+    if colour is None and register is not None and register[1:].isdigit():
+        colour = "G" if int(register[1:]) < 32 else "B"
+    return {"G": "green", "B": "blue"}.get(colour)
 
 
 def code_lines(session, paint, around=5, at=None):

@@ -1,0 +1,145 @@
+"""A pseudo-terminal with as much of xterm as curses uses: what a full screen shows, with its colours."""
+import collections
+import fcntl
+import os
+import pty
+import re
+import select
+import signal
+import struct
+import sys
+import termios
+import time
+
+# A cell's colour, as in the sequences (39 is the default), and its other attributes.
+Style = collections.namedtuple("Style", "ink bold dim underline reverse", defaults=(39, False, False, False, False))
+PLAIN = Style()
+ON = {1: "bold", 2: "dim", 4: "underline", 7: "reverse"}
+OFF = {22: ("bold", "dim"), 24: ("underline",), 27: ("reverse",)}
+PART = re.compile(rb"\x1b\[([?>]?)([\d;]*)([@-~])|\x1b([()][0-9A-Za-z]|[=>78MNOc])|\x1b\][^\x07\x1b]*(?:\x07|\x1b\\)"
+                  rb"|([\r\n\b\t\x0f\x07])|([^\x1b\r\n\b\t\x0f\x07]+)")
+
+
+class Terminal:
+    """Rows of (character, style)."""
+
+    def __init__(self, wide, high):
+        self.wide, self.high, self.row, self.column, self.style = wide, high, 0, 0, PLAIN
+        self.cells = [self.blank() for _ in range(high)]
+        self.rest, self.last = b"", " "
+
+    def blank(self):
+        return [(" ", PLAIN)] * self.wide
+
+    def feed(self, data):
+        """Takes what the program writes. A sequence may be cut in the middle: it waits for its end."""
+        data, at = self.rest + data, 0
+        while match := PART.match(data, at):
+            at = match.end()
+            if match[3]:
+                self.control(match[1], [int(part or 0) for part in match[2].split(b";")], match[3])
+            elif match[5]:
+                self.move(match[5])
+            elif match[6]:
+                self.write(match[6].decode("utf-8", "replace"))
+        self.rest = data[at:]
+
+    def move(self, byte):
+        """A character that moves the cursor."""
+        if byte == b"\r":
+            self.column = 0
+        elif byte == b"\n":
+            self.row = min(self.row + 1, self.high - 1)
+        elif byte == b"\b":
+            self.column = max(0, self.column - 1)
+
+    def write(self, text):
+        """Text at the cursor."""
+        for character in text:
+            if self.column == self.wide:
+                self.row, self.column = min(self.row + 1, self.high - 1), 0
+            self.cells[self.row][self.column] = (character, self.style)
+            self.column, self.last = self.column + 1, character
+
+    def control(self, mark, numbers, final):
+        """A control sequence."""
+        first, row = numbers[0] or 1, self.cells[self.row]
+        if mark:
+            return
+        if final in b"Hf":
+            self.row, self.column = first - 1, (numbers[1] or 1) - 1 if len(numbers) > 1 else 0
+        elif final == b"d":
+            self.row = first - 1
+        elif final == b"G":
+            self.column = first - 1
+        elif final in b"ABCD":
+            down, right = {b"A": (-1, 0), b"B": (1, 0), b"C": (0, 1), b"D": (0, -1)}[final]
+            self.row, self.column = self.row + down * first, self.column + right * first
+        elif final == b"b":
+            self.write(self.last * first)
+        elif final == b"X":
+            row[self.column:self.column + first] = [(" ", PLAIN)] * min(first, self.wide - self.column)
+        elif final == b"P":
+            row[self.column:] = row[self.column + first:] + [(" ", PLAIN)] * min(first, self.wide - self.column)
+        elif final == b"@":
+            row[self.column:] = ([(" ", PLAIN)] * first + row[self.column:])[:self.wide - self.column]
+        elif final == b"K":
+            start, end = {0: (self.column, self.wide), 1: (0, self.column + 1), 2: (0, self.wide)}[numbers[0]]
+            row[start:end] = [(" ", PLAIN)] * (end - start)
+        elif final == b"J":
+            row[self.column:] = [(" ", PLAIN)] * (self.wide - self.column)
+            for below in range(self.row + 1 if numbers[0] == 0 else 0, self.high):
+                self.cells[below] = self.blank()
+        elif final == b"m":
+            for number in numbers:
+                self.attribute(number)
+        elif final not in b"rhlt":
+            sys.exit(f"terminal.py: unknown sequence {numbers} {final}")
+
+    def attribute(self, number):
+        """Changes the style of what follows."""
+        if number == 0:
+            self.style = PLAIN
+        elif number in ON:
+            self.style = self.style._replace(**{ON[number]: True})
+        elif number in OFF:
+            self.style = self.style._replace(**dict.fromkeys(OFF[number], False))
+        elif number == 39 or 30 <= number <= 37 or 90 <= number <= 97:
+            self.style = self.style._replace(ink=number)
+
+    def lines(self):
+        """The rows as text."""
+        return ["".join(character for character, _ in row) for row in self.cells]
+
+    def ink_of(self, text):
+        """The colours of the first place where this text stands."""
+        for line, row in zip(self.lines(), self.cells):
+            if (at := line.find(text)) >= 0:
+                return {style.ink for _, style in row[at:at + len(text)]}
+        return set()
+
+
+def shown(words, wide, high):
+    """The debugger's screen once the key End was typed and the run is detected."""
+    child, master = pty.fork()
+    if child == 0:
+        os.environ.update(TERM="xterm-256color", LC_ALL="C.UTF-8")
+        os.environ.pop("NO_COLOR", None)
+        time.sleep(0.3)
+        os.execv(words[0], words)
+    fcntl.ioctl(master, termios.TIOCSWINSZ, struct.pack("HHHH", high, wide, 0, 0))
+    terminal, end, has_typed = Terminal(wide, high), time.monotonic() + 60, False
+    try:
+        while time.monotonic() < end:
+            if select.select([master], [], [], 1.0)[0]:
+                terminal.feed(os.read(master, 1 << 16))
+            elif not has_typed and any("q quit" in line for line in terminal.lines()):
+                os.write(master, b"\x1b[4~\x1bOF")
+                has_typed = True
+            elif any(" detected " in line for line in terminal.lines()):
+                break
+    finally:
+        os.kill(child, signal.SIGKILL)
+        os.waitpid(child, 0)
+        os.close(master)
+    return terminal
