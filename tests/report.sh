@@ -40,7 +40,9 @@ package() {
     script) echo bsdutils ;;
     slurmctld | slurmd) echo "$1" ;;
     sshd) echo openssh-server ;;
+    unshare) echo util-linux ;;
     wasm-ld) echo lld ;;
+    xz) echo xz-utils ;;
     *) echo "$1" ;;
   esac
 }
@@ -51,6 +53,21 @@ has() {
   skip "$2" "$1 is not installed"
   lacking+=("$(package "$1")")
   return 1
+}
+
+# `child PROCESS NAME` prints the numbers of the processes with this name that a process has started.
+child() {
+  grep -ls "^PPid:[[:space:]]*$1\$" /proc/[0-9]*/status | xargs -r grep -ls "^Name:[[:space:]]*$2\$" | cut -d / -f 3
+}
+
+# `state PROCESS` prints whether a process runs, sleeps or is a zombie; nothing if there is none.
+state() {
+  sed -n 's/^State:[[:space:]]*//p' "/proc/$1/status" 2>/dev/null
+}
+
+# `running ARGUMENT` prints the numbers of the processes that have an argument which begins so.
+running() {
+  grep -lsz "^$1" /proc/[0-9]*/cmdline | cut -d / -f 3
 }
 
 # Prints what was skipped, how to install what it needs, and the last line, and sets the status.
