@@ -260,10 +260,10 @@ echo precious >victim
 rm linked/lock && ln -s ../victim linked/lock
 refuses 'a link in the folder' 'campaign: linked/lock: is a link, which a campaign never makes: give another --dir' \
   campaign fibonacci.obj --faults list --steps "$most" --dir linked
-mkdir linked.new && ln -s ../victim linked.new/000000.faults.new
+mkdir linked.empty && ln -s ../victim linked.empty/000000.faults.new
 refuses 'a link in a folder without a campaign' \
-  'campaign: linked.new/000000.faults.new: is a link, which a campaign never makes: give another --dir' \
-  campaign fibonacci.obj --faults list --steps "$most" --dir linked.new
+  'campaign: linked.empty/000000.faults.new: is a link, which a campaign never makes: give another --dir' \
+  campaign fibonacci.obj --faults list --steps "$most" --dir linked.empty
 report 'the files that the links lead to' precious "$(cat victim)"
 mkdir letters && echo Dear >letters/mother
 refuses 'a folder of something else' "campaign: letters: is not a campaign's folder: it holds \`mother\`: give another --dir" \
