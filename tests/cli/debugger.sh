@@ -245,6 +245,8 @@ report 'invisible characters of a source' '1: cell out = 0; # ?[2J?2J?|2: out = 
   "$("$top/tools/lines" escape.src | grep '^[12]: ' | paste -sd '|')"
 "$top/tools/explain" escape.src --fault 4:r1:4 >explained
 report 'invisible characters in an explanation' '0 1' "$(grep -c $'\e' explained) $(grep -c '2: out = 5; # ?]0;x?' explained)"
+session escape.src disassemble 'goto 4' 'zap r1 4' finish explain >explained
+report 'invisible characters at the prompt' '0 2' "$(grep -c $'[\e\a]' explained) $(grep -cF '2: out = 5; # ?]0;x?' explained)"
 report 'no lines of an object' 'at 12 running|the next step fetches st_B r32 r33  (block 0 index 5)' \
   "$(session "$five" 'zap r1 9' 'goto 10' | tail -n 2 | sed 's/^at 10/at 12/' | paste -sd '|')"
 report 'pairs that differ by a strike, and without one' '~ r0 G 1048576 out r32 G 0|* r0 G 7 r32 G 0' \
