@@ -4,6 +4,8 @@ trap 'rm -rf "$work"' EXIT
 passed=0 failed=0
 # What was skipped, and the Debian packages that would have kept it from being skipped.
 skipped=() lacking=()
+# The gate's scripts name all packages that they can use, since a test that is skipped does not look for what it needs besides.
+of_gate() { sed -n 's/^ *apt-get install //p' "$top/README.md" | tr ' ' '\n'; }
 
 # `report NAME WANTED GOT`
 report() {
@@ -70,14 +72,15 @@ running() {
   grep -lsz "^$1" /proc/[0-9]*/cmdline | cut -d / -f 3
 }
 
-# Prints what was skipped, how to install what it needs, and the last line, and sets the status.
+# `close [PACKAGE ..]` prints what was skipped, how to install what it needs and these packages, and the last line, and sets
+# the status.
 close() {
   if [ ${#skipped[@]} -ne 0 ]; then
     echo 'Skipped:'
     printf '  %s\n' "${skipped[@]}"
   fi
   if [ ${#lacking[@]} -ne 0 ]; then
-    echo "To skip less: apt-get install $(printf '%s\n' "${lacking[@]}" | sort -u | paste -sd ' ')"
+    echo "To skip less: apt-get install $(printf '%s\n' "${lacking[@]}" "$@" | sort -u | paste -sd ' ')"
   fi
   printf '%d passed, %d failed' "$passed" "$failed"
   [ ${#skipped[@]} -eq 0 ] || printf ', %d skipped' "${#skipped[@]}"
