@@ -216,7 +216,7 @@ if has clang 'the functions of a C file' && has wasm-ld 'the functions of a C fi
   tool 'an array that is larger than the stack' 0 '' cc large.c --steps 1000 -o large.obj
   report 'the message about an array that is larger than the stack' 'if the stack is too small, raise --stack (512)' \
     "$(tail -n 1 said | sed 's/.*; //')"
-  printf 'void run(void) { *(volatile long long *)1024 = 5; }\n' >constant.c
+  printf 'void run(void) { *(volatile long long *)65536 = 5; }\n' >constant.c
   refuses 'a constant address' 'cc: constant.c: uses no global variable; a constant address is not a cell: declare a global variable for '\
 'each input and output' cc constant.c -o x.obj
   printf 'long long x;\nvoid run(void) { x = 6 * 7; }\n' >constants.c
