@@ -50,12 +50,12 @@ def functions(count):
             section(7, many([RUN, b"\x0A__data_end\x03\x00"])) + section(10, unsigned(count) + b"\x02\x00\x0B" * count))
 
 
-# Modules that are not refused, and whose sizes must not be taken at their word: a table of 2^32 - 1 places, loops that
-# nest as deep as they may, and functions that nothing calls.
+# Modules that are not refused, and whose sizes must not be taken at their word: a table of 2^32 - 1 places, six times loops
+# that nest as deep as they may, and functions that nothing calls.
 SIZES = {
-    "functions": functions(300_000),
+    "functions": functions(100_000),
     "places": module(table=section(4, b"\x01\x70\x00" + unsigned(2 ** 32 - 1))),
-    "nested": module(b"\x03\x40" * 4990 + b"\x0B" * 4990),
+    "nested": module((b"\x03\x40" * 4990 + b"\x0B" * 4990) * 6),
 }
 
 

@@ -198,8 +198,10 @@ said_of large \
   'the memory from 0x400 to 0x2408 takes 1025 cells, more than 1024; use less data, a smaller '\
 '-Wl,-z,stack-size=, or use --memory LO:HI'
 cd ..
+report 'the module alignment, with 300 MB' 'an alignment larger than the access' \
+  "$(ulimit -v 300000; "$top/tools/wasm2asm" refused/alignment.wasm 2>&1 | grep -o 'an alignment larger than the access')"
 for module in places nested functions; do
-  report "the module $module, with 1 GB and 20 s" 0 "$(ulimit -v 1000000 -t 20
+  report "the module $module, with 1 GB and 8 s" 0 "$(ulimit -v 1000000 -t 8
     "$top/tools/cc" "refused/$module.wasm" -o "$module.obj" 2>said >&2; echo $?)"
 done
 refuses 'a module without the requested entry' \
