@@ -32,6 +32,9 @@ if has cc 'the C library' && has ar 'the C library'; then
   cc "${embed[@]}" -Wconversion -I"$top/embed" "$top/tests/embed/blocks.c" "$top/embed/arena.c" -o embed_blocks 2>errors
   report 'blocks of one arena' 'all blocks are right' "$(./embed_blocks 3000 7)"
   report 'many blocks of one arena, in 10 s' 'all blocks are right' "$(ulimit -t 10; ./embed_blocks many 400000)"
+  cc "${embed[@]}" "$top/tests/embed/arena.c" "$top/embed/arena.c" "$library/libft_c.a" -o embed_arena 2>errors
+  report 'the block that EMBEDDING.md calls enough' "$(sed -n 's/.* A block of \([0-9]*\) KiB .*/\1/p' "$top/docs/EMBEDDING.md")" \
+    "$(./embed_arena "$top"/tests/objects/*.obj | awk '{ if ($(NF - 1) > most) most = $(NF - 1) } END { print most / 1024 }')"
   mkdir embed_objects
   for source in "$top"/examples/*.src; do
     "$top/talft" compile "$source" >"embed_objects/$(basename "$source" .src).obj" 2>/dev/null || rm "embed_objects/$(basename "$source" .src).obj"
