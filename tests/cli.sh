@@ -64,4 +64,4 @@ for part in "$top"/tests/cli/*.sh; do
   . "$part"
 done
 
-close
+close $(of_gate)

@@ -1,6 +1,7 @@
 #!/usr/bin/env bash
-# Runs the tests of the gate as on a fresh machine: PATH is one folder of links to bash, coreutils, diffutils, sed, grep,
-# awk, git, make, gcc with its assembler and linker, Python 3 and the kit, and to nothing else. It is not part of the gate.
+# Runs the tests of the gate as on a fresh machine: PATH is one folder of links to bash, coreutils, diffutils, findutils,
+# sed, grep, tar, gzip, awk, git, make, gcc with binutils, Python 3 and the kit, and to nothing else. Every Debian has the
+# first eight. It is not part of the gate.
 #
 #     bash tests/fresh.sh [SCRIPT ..]
 #
@@ -10,9 +11,9 @@ top=$(cd "$(dirname "$0")/.." && pwd)
 folder=$(mktemp -d)
 trap 'rm -rf "$folder"' EXIT
 
-for command in $(dpkg -L bash coreutils diffutils sed grep | sed -nE 's|^(/usr)?/s?bin/||p') \
-  sh awk git make gcc cc as ld ar rt rattle; do
-  ln -sf "$(command -v "$command")" "$folder/$command" || exit 2
+for command in $(dpkg -L bash coreutils diffutils findutils sed grep tar gzip | sed -nE 's|^(/usr)?/s?bin/||p') \
+  sh awk git make gcc cc as ld ar nm rt rattle; do
+  ln -sf "$(type -P "$command")" "$folder/$command" || exit 2
 done
 # A python3 that is a script of a version manager needs more than this folder.
 ln -sf "$(python3 -c 'import sys; print(sys.executable)')" "$folder/python3"

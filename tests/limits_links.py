@@ -1,6 +1,7 @@
-"""Link maps over two objects, one of which has many stubs."""
+"""Link maps over two objects, one of which has many stubs; and over one whose check takes long."""
 from limits_objects import *
 from limits_rows import *
+from limits_chains import passed_products
 
 MOST = 65536
 OTHER = "module other\nexport go 0\n"
@@ -36,3 +37,5 @@ link_row("moves", "moves of addresses of 4,096 imported blocks", 61000, "moves",
     imports(4096), stubs(4096, b"".join(mov(k % 64, GREEN, n + 2 + k % 4096, code(0)) for k in range(n)))), same(0, None))
 link_row("modules", "modules of blocks of one instruction", 64, "modules", lambda n: put_map(
     "module object\n" * n, spell(memory(), HALT * 1024, blocks=b"".join(pair(k, 0) for k in range(1024)))), same(0, None))
+link_row("checks", "modules of 128 branches that each pass another of as many products", 64, "modules",
+         lambda n: put_map("module object\n" * n, passed_products(128)), same(0, None))

@@ -143,6 +143,11 @@ for name, what, text, line, turns in [
     steps = {"turns": 10 ** 9, "puts": 5 * 10 ** 7, "loads": 5 * 10 ** 8, "terms": 10 ** 9}[name]
     source_row(f"{name}-steps", what.replace("turns", "steps"), steps, "steps", lambda n, text=text: text, {"exec": same(9, line)},
                extra={"exec": ["--steps", "N"]})
+# The most that one turn can take: a loop of a whole source.
+for name, what, text, line, turns in [
+        ("most", "turns over 81 expressions of 200 operators", "var x;while(1){" + ("x=" + "x|" * 200 + "x;") * 81 + "}", "", 20000),
+        ("most-puts", "turns that each write 10,911 lines", "cell out=0;while(1){" + "out=1;" * 10911 + "}", "out 1", 1000)]:
+    source_row(name, what, turns, "turns", lambda n, text=text: text, {"mean": same(9, line)}, extra={"mean": ["--turns", "N"]})
 
 # Demonstrations.
 add("demo", "turns of a demonstration", ["demo", "N"], 10921, "turns", lambda n: None, same(0, None))

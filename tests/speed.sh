@@ -22,11 +22,11 @@ write=no times=no
 [ "${1-}" = --times ] && times=yes && shift
 export TALFT_EXPLAIN=0
 export GLIBC_TUNABLES=glibc.cpu.hwcaps=-AVX2,-AVX2_Usable,-AVX_Fast_Unaligned_Load,-AVX512F,-AVX512VL,-ERMS,-FSRM
+has valgrind 'the counts of machine instructions' || { close $(of_gate); exit; }
 library=$(getconf GNU_LIBC_VERSION)
-has valgrind 'the counts of machine instructions' || { close; exit; }
 if [ "$write$times" = nono ] && ! grep -qs "^# $library\$" "$kept"; then
   skip 'the counts of machine instructions' "they were not taken with $library"
-  close
+  close $(of_gate)
   exit
 fi
 bash "$top/build/prove.sh" >"$work/said" || { cat "$work/said"; exit 1; }
@@ -105,4 +105,4 @@ if [ "$write" = yes ]; then
     cat counts "$kept" 2>errors | awk '/^[a-z]/ && !($1 in seen) { seen[$1]; print }' | sort
   } >new && cp new "$kept" && rows >rows && python3 "$top/tests/speed.py" table rows "$kept" "$top/docs/SPEED.md"
 fi
-close
+close $(of_gate)

@@ -43,11 +43,19 @@ CASES = {
 }
 
 
-# Modules that are not refused, and whose sizes must not be taken at their word: a table of 2^32 - 1 places, and loops
-# that nest as deep as they may.
+def functions(count):
+    """A module with this many functions that do nothing."""
+    return (b"\0asm\1\0\0\0" + section(1, many([b"\x60\x00\x00"])) + section(3, unsigned(count) + b"\x00" * count) +
+            section(5, b"\x01\x00\x02") + section(6, many([bytes([I32, 0]) + const(I32, 1032) + b"\x0B"])) +
+            section(7, many([RUN, b"\x0A__data_end\x03\x00"])) + section(10, unsigned(count) + b"\x02\x00\x0B" * count))
+
+
+# Modules that are not refused, and whose sizes must not be taken at their word: a table of 2^32 - 1 places, six times loops
+# that nest as deep as they may, and functions that nothing calls.
 SIZES = {
+    "functions": functions(100_000),
     "places": module(table=section(4, b"\x01\x70\x00" + unsigned(2 ** 32 - 1))),
-    "nested": module(b"\x03\x40" * 4990 + b"\x0B" * 4990),
+    "nested": module((b"\x03\x40" * 4990 + b"\x0B" * 4990) * 6),
 }
 
 

@@ -35,6 +35,8 @@ sed 's/^cell in int 7$/cell in int 0/' "$top/examples/conditional.asm" >other.as
 expect 'the run of conditional.asm over 0' 0 'out 2\n' run other.obj
 expect 'the run of index.asm' 0 'out 20\n' run index.obj
 expect 'the run of total.asm' 0 'out 100\n' run total.obj
+report 'its lines in ASSEMBLY.md' '' "$(sed -n '/^`examples\/total.asm`/,/^## Order/p' "$top/docs/ASSEMBLY.md" |
+  sed -n '/^```text$/,/^```$/{/^```/!p}' | grep -vxFf <(sed 's/ *#.*//; s/^ *//' "$top/examples/total.asm"))"
 
 expect 'a missing text' 3 '' asm "$work/missing"
 printf 'cell out int 0\r\n' >text

@@ -34,6 +34,11 @@ cycles=$(TALFT=$top/talft bash "$top/examples/c/ten_cycles" cycles 2>said)
 report 'ten cycles of control.wasm' "$(answers control)" "$(grep -v '^struck' <<<"$cycles")"
 report 'the cycle that is struck' 'struck: status 1 after 2 of 3 lines' "$(grep '^struck' <<<"$cycles")"
 
+# A variable with the name of the line that `recover` adds.
+sed 's/force/again/g' "$top/tests/c/control.wasm" >named.wasm
+refuses 'a variable called `again`' 'cc: named.obj: a variable called `again` would have the name of the line that `talft recover` adds to '\
+'those of the run: rename the variable' cc named.wasm -o named.obj
+
 # The initial words of cells.
 "$top/tools/set" control.obj goal=3 measured=-1 --list >before 2>said
 report 'cells and their words' "$(printf 'goal 3\nmeasured 18446744073709551615')" "$(head -n 2 before)"
@@ -196,8 +201,10 @@ said_of large \
   'the memory from 0x400 to 0x2408 takes 1025 cells, more than 1024; use less data, a smaller '\
 '-Wl,-z,stack-size=, or use --memory LO:HI'
 cd ..
-for module in places nested; do
-  report "the module $module, with 1 GB and 20 s" 0 "$(ulimit -v 1000000 -t 20
+report 'the module alignment, with 300 MB' 'an alignment larger than the access' \
+  "$(ulimit -v 300000; "$top/tools/wasm2asm" refused/alignment.wasm 2>&1 | grep -o 'an alignment larger than the access')"
+for module in places nested functions; do
+  report "the module $module, with 1 GB and 8 s" 0 "$(ulimit -v 1000000 -t 8
     "$top/tools/cc" "refused/$module.wasm" -o "$module.obj" 2>said >&2; echo $?)"
 done
 refuses 'a module without the requested entry' \

@@ -88,7 +88,7 @@ ended() {
   kill -"$signal" "$run"
   wait "$run" 2>errors
   report "no lines of a run that $signal ends" '' "$(head -n 1 written)"
-  [ "$signal" = KILL ] || report 'nothing keeps running' '' "$(pgrep -f "^bash $work/watched")"
+  [ "$signal" = KILL ] || report 'nothing keeps running' '' "$(running "$work/watched")"
   rm waits
   TALFT=$work/watched campaign 0 "the campaign after $signal" --engine "$engine" --dir "$signal.$engine"
   report "the first part is not run again after $signal" '000000.faults 1 000002.faults 1' \
@@ -108,7 +108,9 @@ fills() {
   mount -o remount,size=1m full
   campaign 0 'the campaign once there is room again' --dir full/kept
 }
-if unshare -rm mount -t tmpfs none full 2>errors; then
+if ! has unshare 'a disk that fills'; then
+  :
+elif unshare -rm mount -t tmpfs none full 2>errors; then
   export -f fills campaign report
   export top work most
   report 'a disk that fills, and room again' '4 passed, 0 failed' \
@@ -260,10 +262,10 @@ echo precious >victim
 rm linked/lock && ln -s ../victim linked/lock
 refuses 'a link in the folder' 'talft-campaign: linked/lock: is a link, which a campaign never makes: give another --dir' \
   campaign fibonacci.obj --faults list --steps "$most" --dir linked
-mkdir linked.new && ln -s ../victim linked.new/000000.faults.new
+mkdir linked.empty && ln -s ../victim linked.empty/000000.faults.new
 refuses 'a link in a folder without a campaign' \
-  'talft-campaign: linked.new/000000.faults.new: is a link, which a campaign never makes: give another --dir' \
-  campaign fibonacci.obj --faults list --steps "$most" --dir linked.new
+  'talft-campaign: linked.empty/000000.faults.new: is a link, which a campaign never makes: give another --dir' \
+  campaign fibonacci.obj --faults list --steps "$most" --dir linked.empty
 report 'the files that the links lead to' precious "$(cat victim)"
 mkdir letters && echo Dear >letters/mother
 refuses 'a folder of something else' "talft-campaign: letters: is not a campaign's folder: it holds \`mother\`: give another --dir" \

@@ -104,12 +104,12 @@ killed=$!
 exec 7>typed
 echo continue >&7
 sleep 2
-for ((n = 0; n < 100; n++)); do call=$(pgrep -P "$killed" talft) && break; sleep 0.1; done
+for ((n = 0; n < 100; n++)); do call=$(child "$killed" talft) && [ -n "$call" ] && break; sleep 0.1; done
 kill -KILL "$killed"
 { wait "$killed"; } 2>/dev/null
 exec 7>&-
 sleep 0.5
-report 'a killed tool leaves nothing running' 'found ' "${call:+found} $(ps -o stat= -p "${call:-0}" | grep -v Z)"
+report 'a killed tool leaves nothing running' 'found ' "${call:+found} $(state "${call:-0}" | grep -v '^Z')"
 report 'ten million steps' 'at 10000000 running' "$(session endless.obj 'goto 10000000' | grep '^at 1')"
 
 # `says NAME COMMANDS SAID` runs commands over $program, and compares the last line that the prompt writes. The line
@@ -257,6 +257,8 @@ report 'invisible characters of a source' '1: cell out = 0; # ?[2J?2J?|2: out = 
   "$("$top/tools/lines" escape.src | grep '^[12]: ' | paste -sd '|')"
 "$top/tools/explain" escape.src --fault 4:r1:4 >explained
 report 'invisible characters in an explanation' '0 1' "$(grep -c $'\e' explained) $(grep -c '2: out = 5; # ?]0;x?' explained)"
+session escape.src disassemble 'goto 4' 'zap r1 4' finish explain >explained
+report 'invisible characters at the prompt' '0 2' "$(grep -c $'[\e\a]' explained) $(grep -cF '2: out = 5; # ?]0;x?' explained)"
 report 'no lines of an object' 'at 12 running|the next step fetches st_B r32 r33  (block 0 index 5)' \
   "$(session "$five" 'zap r1 9' 'goto 10' | tail -n 2 | sed 's/^at 10/at 12/' | paste -sd '|')"
 report 'pairs that differ by a strike, and without one' '~ r0 G 1048576 out r32 G 0|* r0 G 7 r32 G 0' \
@@ -384,13 +386,13 @@ if has tmux 'the screen and the prompt in a terminal'; then
   report 'completion of registers' 1 "$(grep '^r3 .*r39' <<<"$screen" | sort -u | wc -l)"
   report 'an empty line steps again' yes "$(grep -q '^at 2 running' <<<"$screen" && echo yes)"
   # Ctrl-C ends an endless run; closing the terminal during one leaves nothing running.
-  keyed="$top/tools/debugger endless.obj"
+  keyed="$top/tools/debugger $work/endless.obj"
   screen=$(on 'await (talft)' text:c Enter 'pause 2' C-c 'await interrupted' text:where Enter 'await pcb' shot text:c \
     Enter kill)
   report 'a run that is interrupted' \
     'at P running|interrupted: the run stays at P; `continue` resumes it|at P running' \
     "$(position=$(sed -n 's/.*the run stays at \([1-9][0-9]*\);.*/\1/p' <<<"$screen"); sed "s/^^C//; s/ pcg.*//
       s/\<$position\>/P/" <<<"$screen" | kept '^(interrupted|at P running)')"
-  for ((n = 0; n < 50; n++)); do pgrep -f 'debugger endless.obj' >written || break; sleep 0.1; done
-  report 'nothing is left running' '' "$(pgrep -f 'debugger endless.obj')"
+  for ((n = 0; n < 50; n++)); do [ -n "$(running "$work/endless.obj")" ] || break; sleep 0.1; done
+  report 'nothing is left running' '' "$(running "$work/endless.obj")"
 fi

@@ -20,12 +20,13 @@ report 'the files that the promises name' '' "$(named)"
 report 'the lists of what a change touches' '' "$(python3 "$top/docs/changing.py" | diff - "$top/docs/CHANGING.md")"
 report 'the table of limits' '' "$(python3 "$top/docs/limits.py" | diff - "$top/docs/LIMITS.md")"
 
-# README lists the packages with which the tests of the gate skip nothing. gcc and what comes with it is needed anyway.
+# README lists the packages with which the tests of the gate skip nothing. gcc and what comes with it is needed anyway; dpkg and
+# util-linux are in every Debian.
 needed() {
   {
-    grep -ohE "\bhas [a-z+-]+ '" "$top"/tests/cli.sh "$top"/tests/cli/*.sh "$top"/tests/speed.sh | cut -d ' ' -f 2
+    grep -ohE "\bhas [a-z+-]+ ['\"]" "$top"/tests/cli.sh "$top"/tests/cli/*.sh "$top"/tests/speed.sh | cut -d ' ' -f 2
     sed -n 's/^<!-- needs \(.*\) -->$/\1/p' "$top/docs/GUIDE.md" | tr ' ' '\n'
-  } | while read -r command; do package "$command"; done | sort -u | grep -vxE 'binutils|dpkg|g\+\+|gcc' | paste -sd ' '
+  } | while read -r command; do package "$command"; done | sort -u | grep -vxE 'binutils|dpkg|gcc|util-linux' | paste -sd ' '
 }
 report 'the packages that README lists' "$(needed)" "$(sed -n 's/^ *apt-get install //p' "$top/README.md")"
 

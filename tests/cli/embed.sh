@@ -4,7 +4,7 @@ embed=(-std=c99 -Wall -Wextra -Werror -pedantic -O2 -I"$top/include")
 library_made='`make library` makes crates/ft_c/out/library/libtalft.so: install it, or name it in TALFT_LIBRARY'
 # Without the library, Python's module cannot be imported either.
 imported() { TALFT_LIBRARY=$1 PYTHONPATH=$top/embed python3 -B -c 'import talft' 2>&1 | tail -n 1; }
-[ -e "$top/embed/libtalft.so" ] || ldconfig -p | grep -q libtalft.so || report 'no library for Python' \
+[ -e "$top/embed/libtalft.so" ] || ldconfig -p 2>/dev/null | grep -q libtalft.so || report 'no library for Python' \
   "ImportError: libtalft.so not found: $library_made" "$(imported '')"
 report 'a missing library' \
   "ImportError: $work/none.so not found: $library_made" "$(imported "$work/none.so")"
@@ -31,6 +31,10 @@ if has cc 'the C library' && has ar 'the C library'; then
   # The memory from one block, alone.
   cc "${embed[@]}" -Wconversion -I"$top/embed" "$top/tests/embed/blocks.c" "$top/embed/arena.c" -o embed_blocks 2>errors
   report 'blocks of one arena' 'all blocks are right' "$(./embed_blocks 3000 7)"
+  report 'many blocks of one arena, in 10 s' 'all blocks are right' "$(ulimit -t 10; ./embed_blocks many 400000)"
+  cc "${embed[@]}" "$top/tests/embed/arena.c" "$top/embed/arena.c" "$library/libft_c.a" -o embed_arena 2>errors
+  report 'the block that EMBEDDING.md calls enough' "$(sed -n 's/.* A block of \([0-9]*\) KiB .*/\1/p' "$top/docs/EMBEDDING.md")" \
+    "$(./embed_arena "$top"/tests/objects/*.obj | awk '{ if ($(NF - 1) > most) most = $(NF - 1) } END { print most / 1024 }')"
   mkdir embed_objects
   for source in "$top"/examples/*.src; do
     "$top/talft" compile "$source" >"embed_objects/$(basename "$source" .src).obj" 2>/dev/null || rm "embed_objects/$(basename "$source" .src).obj"

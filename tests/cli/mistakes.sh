@@ -131,6 +131,8 @@ done <<END
 1|wasm2asm one.c|talft-wasm2asm: one.c: offset 0x0: is not a WebAssembly module of version 1; give the output of wasm-ld; \`talft-cc\` takes C
 2|cc|talft-cc: missing FILE and \`-o OBJECT\`
 2|cc one.c -o x.obj --stack 7|talft-cc: \`--stack\`: invalid number \`7\`: expected a multiple of 16 from 16 to 65536
+2|cc one.c|talft-cc: missing \`-o OBJECT\`, as in \`talft-cc one.c -o one.obj\`
+2|cc one.c -o x.obj -Wl,-z,stack-size=4096|talft-cc: \`-Wl,-z,stack-size=4096\`: use \`--stack BYTES\`
 2|cc one.c -o x.obj -lm|talft-cc: unknown option \`-lm\`: there are no libraries; \`talft-cc\` makes talft objects; for a program of this machine use gcc or cc
 2|cc one.c -o x.obj --stak 16|talft-cc: unknown option \`--stak\`; did you mean \`--stack\`?
 1|cc one.c one.c -o x.obj|talft-cc: one.c: is given twice
@@ -214,6 +216,17 @@ if has clang 'the functions of a C file' && has wasm-ld 'the functions of a C fi
   tool 'an array that is larger than the stack' 0 '' cc large.c --steps 1000 -o large.obj
   report 'the message about an array that is larger than the stack' 'if the stack is too small, raise --stack (512)' \
     "$(tail -n 1 said | sed 's/.*; //')"
+  printf 'void run(void) { *(volatile long long *)65536 = 5; }\n' >constant.c
+  refuses 'a constant address' 'cc: constant.c: uses no global variable; a constant address is not a cell: declare a global variable for '\
+'each input and output' cc constant.c -o x.obj
+  printf 'long long x;\nvoid run(void) { x = 6 * 7; }\n' >constants.c
+  tool 'an object that stores constants' 0 '' cc constants.c -o constants.obj
+  report 'the message about it' 'cc: note: constants.obj: reads no cell, so each run has the same outputs: if clang computed them, make the '\
+'inputs volatile (docs/C.md)' "$(grep note said)"
+  printf 'volatile int n = 100, y;\n__attribute__((noinline)) int f(int k) { return k < 2 ? y : f(k - 1) ^ f(k - 2); }\nvoid run(void) { y = f(n); }\n' >deep.c
+  tool 'calls that nest too deeply' 0 '' cc deep.c -o deep.obj
+  report 'the message about calls that nest too deeply' 'the stack is full; recursive calls may be nested 64 deep: recurse less deeply, '\
+'or use a loop' "$(tail -n 1 said | grep -o 'the stack is full.*')"
   echo 'int x; void run() { x = 1; }' >plus.cpp
   refuses 'a C++ file' 'talft-cc: plus.cpp: defines no function `run` or `main`; use --entry with `_Z3runv`' cc plus.cpp -o x.obj
   refuses 'a C file without a function' \

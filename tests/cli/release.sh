@@ -1,11 +1,12 @@
 # Releases of the proved program and the C library: they have the right files, have the same bytes when made twice, name
 # their build, run the guide when installed in a clean root, and build and run a loader in C; and the package can be
 # removed.
+has xz 'the releases' || return 0
 release=$work/release
 program=$top/crates/talft/out/talft
 mkdir "$release"
 bash "$top/build/library.sh" >"$release/said" 2>&1 || cat "$release/said"
-report 'the bytes of a release made twice' \
+! has dpkg-deb 'the bytes of a release made twice' || report 'the bytes of a release made twice' \
   "$(printf 'same: %s\n' "talft-$(cat "$top/VERSION")-linux-$(uname -m).tar.xz" "talft_$(cat "$top/VERSION")_amd64.deb" talft \
     libft_c.a libtalft.a libtalft.so)" "$(bash "$top/tests/same_bytes.sh" --packages "$program" 2>&1)"
 
@@ -86,13 +87,13 @@ says_its_build 'the tarball' "$unpacked"
 runs_guide 'the tarball' "$unpacked"
 library_runs 'the tarball' "$unpacked"
 
-if has dpkg-deb 'the Debian package'; then
+as=
+[ "$(id -u)" = 0 ] || as=fakeroot
+if has dpkg-deb 'the Debian package' && { [ -z "$as" ] || has fakeroot 'the Debian package'; }; then
   package=$(bash "$top/build/dist.sh" deb "$release" "$program")
   root=$release/root
   mkdir -p "$root/var/lib/dpkg/info" "$root/var/lib/dpkg/updates"
   : >"$root/var/lib/dpkg/status"
-  as=
-  [ "$(id -u)" = 0 ] || as=fakeroot
   # The root is empty, so the host's C library stands in for the one that the package depends on.
   debian() { $as dpkg --root="$root" --force-depends --force-not-root --log=/dev/null "$@" >"$release/said" 2>&1; }
   debian --install "$package"

@@ -14,6 +14,8 @@ shift 2
 tmux -L "$server" -f /dev/null new-session -d -s it -x "$width" -y "$height" "$*" || exit 1
 trap 'tmux -L "$server" kill-server 2>/dev/null' EXIT
 screen() { tmux -L "$server" capture-pane -p -t it 2>/dev/null; }
+# Prints the numbers of the processes that a process has started.
+started_by() { grep -ls "^PPid:[[:space:]]*$1\$" /proc/[0-9]*/status | cut -d / -f 3; }
 # Waits until the screen stays the same.
 settled() {
   local last now=none n
@@ -30,7 +32,7 @@ while IFS= read -r line; do
     await\ *) for ((n = 0; n < 600; n++)); do screen | grep -qF -- "${line#await }" && break; sleep 0.1; done ;;
     pause\ *) sleep "${line#pause }" ;;
     size\ *) read -r _ width height <<<"$line"; tmux -L "$server" resize-window -t it -x "$width" -y "$height" ;;
-    terminate) pkill -TERM -P "$(tmux -L "$server" list-panes -t it -F '#{pane_pid}')" ;;
+    terminate) kill -TERM $(started_by "$(tmux -L "$server" list-panes -t it -F '#{pane_pid}')") ;;
     kill) tmux -L "$server" kill-session -t it; sleep 0.3 ;;
     text:*) tmux -L "$server" send-keys -t it -l "${line#text:}" ;;
     *) tmux -L "$server" send-keys -t it "$line" ;;

@@ -1,4 +1,4 @@
-/* Runs objects with the library that takes its memory from one block of the caller. Doubles the block until a run
+/* Runs objects with the library that takes its memory from one block of the caller. Enlarges the block by 1 KiB until a run
  * returns something other than status 5, and checks that repeated runs in this block end the same way.
  *
  *     arena FILE..
@@ -17,13 +17,13 @@ int main(int argc, char **argv)
         talft_output outputs[64] = {{0, 0}};
         talft_ran ran = {0, 0, 0, 0};
         FILE *file = fopen(argv[i], "rb");
-        size_t len = file != NULL ? fread(bytes, 1, sizeof bytes, file) : 0, size = 64;
+        size_t len = file != NULL ? fread(bytes, 1, sizeof bytes, file) : 0, size = 0;
         uint32_t verdict, first = 0;
 
         if (file == NULL || fclose(file) != 0)
             return 3;
         do {
-            size *= 2;
+            size += 1024;
             if (size > sizeof block)
                 return 5;
             talft_arena(block + 1, size);

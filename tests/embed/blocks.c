@@ -4,6 +4,7 @@
  * more than what is asked; and that all of it is one free block again at the end.
  *
  *     blocks TURNS SEED
+ *     blocks many COUNT      so many blocks that a search through them would take minutes
  */
 #include "rattle.h"
 #include "talft.h"
@@ -86,11 +87,41 @@ static const char *turn(size_t i)
     return NULL;
 }
 
+/* Allocates small blocks, frees every second of them, and allocates larger ones, which fit into none of the gaps. */
+static int many(size_t count)
+{
+    size_t size = count * 160;
+    unsigned char *memory = malloc(size);
+    void **small = malloc(count * sizeof *small);
+
+    if (memory == NULL || small == NULL)
+        return failed("there is no memory for the arena");
+    talft_arena(memory, size);
+    for (size_t i = 0; i < count; i++) {
+        struct tried got = rattle_alloc(32, 16);
+
+        if (!got.ok)
+            return failed("a small block is refused");
+        small[i] = got.p;
+    }
+    for (size_t i = 0; i < count; i += 2)
+        rattle_dealloc(small[i]);
+    for (size_t i = 0; i < count / 2; i++)
+        if (!rattle_alloc(64, 16).ok)
+            return failed("a larger block is refused");
+    puts("all blocks are right");
+    free(small);
+    free(memory);
+    return 0;
+}
+
 int main(int argc, char **argv)
 {
     long turns = argc > 1 ? atol(argv[1]) : 1000;
     size_t taken = 0;
 
+    if (argc == 3 && strcmp(argv[1], "many") == 0)
+        return many(strtoull(argv[2], NULL, 10));
     state = argc > 2 ? strtoull(argv[2], NULL, 10) : 1;
     memset(arena, 0xA5, sizeof arena);
     /* An arena that is too small has no block. */
