@@ -36,7 +36,7 @@ report 'the cycle that is struck' 'struck: status 1 after 2 of 3 lines' "$(grep 
 
 # A variable with the name of the line that `recover` adds.
 sed 's/force/again/g' "$top/tests/c/control.wasm" >named.wasm
-refuses 'a variable called `again`' 'cc: named.obj: a variable called `again` would have the name of the line that `talft recover` adds to '\
+refuses 'a variable called `again`' 'talft-cc: named.obj: a variable called `again` would have the name of the line that `talft recover` adds to '\
 'those of the run: rename the variable' cc named.wasm -o named.obj
 
 # The initial words of cells.
