@@ -123,20 +123,22 @@ def shown(words, wide, high):
     """The debugger's screen once the key End was typed and the run is detected."""
     child, master = pty.fork()
     if child == 0:
+        fcntl.ioctl(0, termios.TIOCSWINSZ, struct.pack("HHHH", high, wide, 0, 0))
         os.environ.update(TERM="xterm-256color", LC_ALL="C.UTF-8")
         os.environ.pop("NO_COLOR", None)
-        time.sleep(0.3)
         os.execv(words[0], words)
-    fcntl.ioctl(master, termios.TIOCSWINSZ, struct.pack("HHHH", high, wide, 0, 0))
-    terminal, end, has_typed = Terminal(wide, high), time.monotonic() + 60, False
+    terminal, end, quiet, has_typed = Terminal(wide, high), time.monotonic() + 60, 0, False
     try:
         while time.monotonic() < end:
-            if select.select([master], [], [], 1.0)[0]:
+            if select.select([master], [], [], 0.5)[0]:
                 terminal.feed(os.read(master, 1 << 16))
-            elif not has_typed and any("q quit" in line for line in terminal.lines()):
-                os.write(master, b"\x1b[4~\x1bOF")
-                has_typed = True
-            elif any(" detected " in line for line in terminal.lines()):
+                quiet = 0
+                continue
+            quiet += 1
+            if not has_typed and quiet > 1 and any("q quit" in line for line in terminal.lines()):
+                os.write(master, b"\x1bOF")
+                has_typed, quiet = True, 0
+            elif quiet > 1 and any(" detected " in line for line in terminal.lines()):
                 break
     finally:
         os.kill(child, signal.SIGKILL)
