@@ -33,12 +33,15 @@ nav ul{list-style:none;margin:0;padding:0}nav [aria-current]{font-weight:bold}a{
 #menu,nav label{display:none}
 main{overflow-wrap:break-word}pre{background:var(--soft);padding:.7rem;overflow:auto;font-size:13px;line-height:1.45;
 white-space:pre-wrap;overflow-wrap:anywhere}pre.drawing{white-space:pre}code{font-size:.92em}pre code{font-size:1em}
-table{border-collapse:collapse;display:block;overflow-x:auto;margin:1rem 0}td,th{border:1px solid var(--line);padding:.25rem .5rem;vertical-align:top;text-align:left}
-blockquote{border-left:4px solid var(--line);margin-left:0;padding-left:1rem}blockquote:has(>pre:only-child){border:0;padding:0}img{max-width:100%;background:#fff}
+table{border-collapse:collapse;display:block;overflow-x:auto;margin:1rem 0}
+td,th{border:1px solid var(--line);padding:.25rem .5rem;vertical-align:top;text-align:left}
+blockquote{border-left:4px solid var(--line);margin-left:0;padding-left:1rem}
+blockquote:has(>pre:only-child){border:0;padding:0}img{max-width:100%;background:#fff}
 nav input[type=search]{font:inherit;width:100%;box-sizing:border-box}#found{font-size:.9rem;padding-left:1.7rem}
 @media(max-width:50rem){body,.wide body{display:block;padding:.7rem 1rem}nav{position:static;max-height:none}
 nav label{display:inline-block;float:right;padding:0 .6rem;border:1px solid var(--line);border-radius:4px;cursor:pointer}
-#menu{display:inline-block;position:absolute;opacity:0}#menu:focus-visible+label{outline:2px solid}#menu:not(:checked)~*:not(.home):not(label){display:none}
+#menu{display:inline-block;position:absolute;opacity:0}#menu:focus-visible+label{outline:2px solid}
+#menu:not(:checked)~*:not(.home):not(label){display:none}
 pre{font-size:12px}.wide table{display:block}.wide td{min-width:6rem}}
 """
 SCRIPT = """const box=document.getElementById("search"),found=document.getElementById("found");

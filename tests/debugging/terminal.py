@@ -63,7 +63,7 @@ class Terminal:
 
     def control(self, mark, numbers, final):
         """A control sequence."""
-        first, row = numbers[0] or 1, self.cells[self.row]
+        first = numbers[0] or 1
         if mark:
             return
         if final in b"Hf":
@@ -77,24 +77,30 @@ class Terminal:
             self.row, self.column = self.row + down * first, self.column + right * first
         elif final == b"b":
             self.write(self.last * first)
-        elif final == b"X":
-            row[self.column:self.column + first] = [(" ", PLAIN)] * min(first, self.wide - self.column)
-        elif final == b"P":
-            row[self.column:] = row[self.column + first:] + [(" ", PLAIN)] * min(first, self.wide - self.column)
-        elif final == b"@":
-            row[self.column:] = ([(" ", PLAIN)] * first + row[self.column:])[:self.wide - self.column]
-        elif final == b"K":
-            start, end = {0: (self.column, self.wide), 1: (0, self.column + 1), 2: (0, self.wide)}[numbers[0]]
-            row[start:end] = [(" ", PLAIN)] * (end - start)
-        elif final == b"J":
-            row[self.column:] = [(" ", PLAIN)] * (self.wide - self.column)
-            for below in range(self.row + 1 if numbers[0] == 0 else 0, self.high):
-                self.cells[below] = self.blank()
+        elif final in b"XP@KJ":
+            self.edit(self.cells[self.row], final, first, numbers[0])
         elif final == b"m":
             for number in numbers:
                 self.attribute(number)
         elif final not in b"rhlt":
             sys.exit(f"terminal.py: unknown sequence {numbers} {final}")
+
+    def edit(self, row, final, count, which):
+        """Erases, deletes or inserts cells."""
+        at, blank = self.column, [(" ", PLAIN)]
+        if final == b"X":
+            row[at:at + count] = blank * min(count, self.wide - at)
+        elif final == b"P":
+            row[at:] = row[at + count:] + blank * min(count, self.wide - at)
+        elif final == b"@":
+            row[at:] = (blank * count + row[at:])[:self.wide - at]
+        elif final == b"K":
+            start, end = {0: (at, self.wide), 1: (0, at + 1), 2: (0, self.wide)}[which]
+            row[start:end] = blank * (end - start)
+        else:
+            row[at:] = blank * (self.wide - at)
+            for below in range(self.row + 1 if which == 0 else 0, self.high):
+                self.cells[below] = self.blank()
 
     def attribute(self, number):
         """Changes the style of what follows."""
@@ -123,20 +129,22 @@ def shown(words, wide, high):
     """The debugger's screen once the key End was typed and the run is detected."""
     child, master = pty.fork()
     if child == 0:
+        fcntl.ioctl(0, termios.TIOCSWINSZ, struct.pack("HHHH", high, wide, 0, 0))
         os.environ.update(TERM="xterm-256color", LC_ALL="C.UTF-8")
         os.environ.pop("NO_COLOR", None)
-        time.sleep(0.3)
         os.execv(words[0], words)
-    fcntl.ioctl(master, termios.TIOCSWINSZ, struct.pack("HHHH", high, wide, 0, 0))
-    terminal, end, has_typed = Terminal(wide, high), time.monotonic() + 60, False
+    terminal, end, quiet, has_typed = Terminal(wide, high), time.monotonic() + 60, 0, False
     try:
         while time.monotonic() < end:
-            if select.select([master], [], [], 1.0)[0]:
+            if select.select([master], [], [], 0.5)[0]:
                 terminal.feed(os.read(master, 1 << 16))
-            elif not has_typed and any("q quit" in line for line in terminal.lines()):
-                os.write(master, b"\x1b[4~\x1bOF")
-                has_typed = True
-            elif any(" detected " in line for line in terminal.lines()):
+                quiet = 0
+                continue
+            quiet += 1
+            if not has_typed and quiet > 1 and any("q quit" in line for line in terminal.lines()):
+                os.write(master, b"\x1bOF")
+                has_typed, quiet = True, 0
+            elif quiet > 1 and any(" detected " in line for line in terminal.lines()):
                 break
     finally:
         os.kill(child, signal.SIGKILL)
