@@ -295,5 +295,5 @@ def passed_searches(n):
 
 
 chain("passed-products", "branches that each pass another of as many products of 64 monomials", passed_products, 512, "branches", power=2)
-chain("passed-searches", "branches that each pass another sum to as many searches through as many updates at sums of 64 terms", passed_searches, 256,
-      "branches", power=3)
+chain("passed-searches", "branches that each pass another sum to as many searches through as many updates at sums of 64 terms",
+      passed_searches, 256, "branches", power=3)
