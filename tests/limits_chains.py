@@ -247,33 +247,33 @@ def many_branches(n):
 chain("branches", "instructions, branches in one block with 60 register rows", many_branches, 65536, "instructions")
 
 
-def product(scope, first):
-    """Nodes from number `first` on, the last of which is a product with 64 monomials of up to four comparisons with variable 1.
-    Returns them and its number."""
-    nodes = [word(OUT + k, scope) for k in range(8)] + [operation(LTU, 1, first + k, scope) for k in range(8)] + [word(1, scope)]
+def product(first):
+    """Nodes from number `first` on, and the number of the last: a product with 64 monomials of up to four comparisons with
+    variable 1."""
+    nodes = [word(OUT + k, 1) for k in range(8)] + [operation(LTU, 1, first + k, 1) for k in range(8)] + [word(1, 1)]
     one, at = first + 16, first + 17
-    for atoms in (first + 8, first + 12):
-        nodes += [operation(ADD, atoms, one, scope), operation(ADD, atoms + 1, one, scope), operation(ADD, at + 1, atoms + 2, scope),
-                  operation(ADD, at + 2, atoms + 3, scope), operation(MUL, at, at + 3, scope)]
+    for atom in (first + 8, first + 12):
+        nodes += [operation(ADD, atom, one, 1), operation(ADD, atom + 1, one, 1), operation(ADD, at + 1, atom + 2, 1),
+                  operation(ADD, at + 2, atom + 3, 1), operation(MUL, at, at + 3, 1)]
         at += 5
-    return nodes + [operation(MUL, at - 6, at - 1, scope)], at
+    return nodes + [operation(MUL, at - 6, at - 1, 1)], at
 
 
-def passing(nodes, top, passed, memory=0):
-    """Block 1 jumps to itself in one branch for each node of `passed`, its variable. The registers hold a node minus itself, so
-    all branches are accepted; each computes the node anew."""
-    nodes = nodes + operation(SUB, top, top, 1)
+def passing(nodes, top, passed):
+    """Block 1 branches to itself once for each node of `passed`, which becomes its variable. The registers hold a node minus
+    itself, so all branches are accepted; each computes the node anew."""
+    nodes += operation(SUB, top, top, 1)
+    last, count = len(nodes) // 16 - 1, len(passed)
     head = mov(30, GREEN, 0) + mov(31, GREEN, 2, code(1)) + mov(62, BLUE, 0) + mov(63, BLUE, 2, code(1))
-    body = b"".join(branch(GREEN, 30, 31) + branch(BLUE, 62, 63, k, k + 1, memory) for k in range(len(passed)))
-    end = jump(GREEN, 31) + jump(BLUE, 63, len(passed), len(passed) + 1, memory)
-    last = len(nodes) // 16 - 1
-    return spell(nodes, HALT + head + body + end, code_type() + code_type(2, 0, memory, 1), pair(0, 0) + pair(1, 1),
+    body = b"".join(branch(GREEN, 30, 31) + branch(BLUE, 62, 63, k, k + 1) for k in range(count))
+    end = jump(GREEN, 31) + jump(BLUE, 63, count, count + 1)
+    return spell(nodes, HALT + head + body + end, code_type() + code_type(2, 0, 0, 1), pair(0, 0) + pair(1, 1),
                  regs=register_row(0, GREEN, last) + register_row(32, BLUE, last), substs=rows(passed + [1]))
 
 
 def passed_products(n):
     """As many branches as multiples of a product in a chain; each passes another of these."""
-    nodes, at = product(1, 2)
+    nodes, at = product(2)
     nodes = [variables(1), *nodes, word(3, 1), operation(MUL, at, at + 1, 1)]
     nodes += [operation(MUL, at + 2 + k, at + 1, 1) for k in range(n - 1)]
     return passing(b"".join(nodes), at + n + 1, [at + 2 + k for k in range(n)])
@@ -282,7 +282,7 @@ def passed_products(n):
 def passed_searches(n):
     """As many branches as updates, and as searches that pass all updates. Addresses are a product plus a word; each branch passes
     another sum for the variable."""
-    nodes, at = product(1, 2)
+    nodes, at = product(2)
     nodes += [operation(ADD, 1, 2, 1), operation(ADD, 1, 3, 1)]
     nodes += [word(3 * OUT + k, 1) for k in range(2 * n)]
     nodes += [operation(ADD, at, at + 3 + k, 1) for k in range(2 * n)]
@@ -295,5 +295,5 @@ def passed_searches(n):
 
 
 chain("passed-products", "branches that each pass another of as many products of 64 monomials", passed_products, 512, "branches", power=2)
-chain("passed-searches", "branches that each pass another sum to as many searches through as many updates at sums of 64 terms", passed_searches, 256,
-      "branches", power=3)
+chain("passed-searches", "branches that each pass another sum to as many searches through as many updates at sums of 64 terms",
+      passed_searches, 256, "branches", power=3)
