@@ -217,11 +217,11 @@ if has clang 'the functions of a C file' && has wasm-ld 'the functions of a C fi
   report 'the message about an array that is larger than the stack' 'if the stack is too small, raise --stack (512)' \
     "$(tail -n 1 said | sed 's/.*; //')"
   printf 'void run(void) { *(volatile long long *)65536 = 5; }\n' >constant.c
-  refuses 'a constant address' 'cc: constant.c: uses no global variable; a constant address is not a cell: declare a global variable for '\
+  refuses 'a constant address' 'talft-cc: constant.c: uses no global variable; a constant address is not a cell: declare a global variable for '\
 'each input and output' cc constant.c -o x.obj
   printf 'long long x;\nvoid run(void) { x = 6 * 7; }\n' >constants.c
   tool 'an object that stores constants' 0 '' cc constants.c -o constants.obj
-  report 'the message about it' 'cc: note: constants.obj: reads no cell, so each run has the same outputs: if clang computed them, make the '\
+  report 'the message about it' 'talft-cc: note: constants.obj: reads no cell, so each run has the same outputs: if clang computed them, make the '\
 'inputs volatile (docs/C.md)' "$(grep note said)"
   printf 'volatile int n = 100, y;\n__attribute__((noinline)) int f(int k) { return k < 2 ? y : f(k - 1) ^ f(k - 2); }\nvoid run(void) { y = f(n); }\n' >deep.c
   tool 'calls that nest too deeply' 0 '' cc deep.c -o deep.obj

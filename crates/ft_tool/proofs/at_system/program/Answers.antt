@@ -14,4 +14,5 @@ returns-clause-write_failure g c = λ a files agree rest left.
     (first_script _ c.args.script.now.reads c.tool.new.script.reads rest c.requires.script left)
 
 pub returns-clause-load_failure : goal.returns-clause-load_failure
-returns-clause-load_failure g c = λ three files agree. c.tool.ensures.load_failure three (Some files) (heard files refl agree)
+returns-clause-load_failure g c = λ three files agree.
+    c.tool.ensures.load_failure three (Some files) (heard files refl agree)
