@@ -39,7 +39,7 @@ def needed(*roots):
 
 def promising():
     """The crates that the program and the C library depend on, and the libraries beside them. The others hold tests."""
-    return needed("talft", "ft_c", "ft_flow", "ft_flight", "ft_riscv", "ft_legs", "ft_access")
+    return needed("talft", "ft_c", "ft_flow", "ft_flight", "ft_riscv", "ft_legs", "ft_classes")
 
 
 def exports(crate):

@@ -1,5 +1,5 @@
 -- Words that last keep their value.
-use Rattle.std.proofs.Common.{◌≡◌, ◌↔◌, ℕ, zero, suc, ◌<◌, true, false, cond, ◌==◌, List, [], ◌∷◌, length}
+use Rattle.std.proofs.Common.{◌≡◌, ℕ, zero, suc, true, false, cond, ◌==◌, List, [], ◌∷◌, length}
 use Rattle.std.proofs.Common.{drop, Option, None, refl, sym, ap, ◌∙◌, subst, arith}
 use Rattle.std.proofs.lemmas.Bool.{ltb-true, and_parts}
 use Rattle.std.proofs.lemmas.Bool.Decides.{nat_tests}
@@ -17,16 +17,13 @@ use Rattle.ft_semantics.specs.Step.{Stepping}
 use Rattle.ft_semantics.specs.Strike.{is_running, is_site, is_there}
 use Rattle.ft_semantics.specs.Run.{run, state_after, wild_after}
 use Rattle.ft_semantics.proofs.Held.{held-with_held}
-use Rattle.ft_campaign.specs.declared.verdict.Verdict.{Verdict}
-use Rattle.ft_campaign.specs.Verdicts.{IsVerdict}
 use Rattle.ft_access.specs.Access.{overwrites, site_after}
-use Rattle.ft_access.specs.Changed.{entry, word_at, change_at}
-use Rattle.ft_access.specs.Lasting.{Lasts, at_once, further, strike_at}
+use Rattle.ft_access.specs.Changed.{entry, word_at}
+use Rattle.ft_access.specs.Lasting.{Lasts, at_once, further}
 use Rattle.ft_access.proofs.Changes.{Change, fetches, detects, halts, puts, queues, commits_it, sets_d}
 use Rattle.ft_access.proofs.Changes.{transfers_to, act, touches, covers, moves}
 use Rattle.ft_access.proofs.Steps.{Suits, stops, ends, suits, DoSame, step_same}
 use Rattle.ft_access.proofs.Waiting.{lasts_there}
-use Rattle.ft_access.proofs.Classes.{verdict_waits, verdict_was}
 
 entry-drop : (q : Pending) (e : ℕ) → entry (drop 1 q) e ≡ entry q (suc e)
 entry-drop [] e = refl
@@ -94,14 +91,3 @@ lasts_same o w k x _ _ (further l y h r e go) =
     let there = lasts_there o w k x l y h in
     keeps_by y 0 s _ _ there (step_same o y 0 s (wild_after o None w l) there r) go e
     ∙ lasts_same o w k x l y h
-
--- so the same change of it gives the same verdict
-pub change_waits : (o : Object) (w : List Wild) (n : ℕ) (f : ℕ → ℕ) (k : ℕ) (x : Site) (l : ℕ) (y : Site) →
-    Lasts o w k x l y → l < n → (u : Verdict) → IsVerdict o (change_at o w f k x) w n u
-    ↔ IsVerdict o (change_at o w f l y) w n u
-change_waits o w n f k x l y h lt u =
-    subst (λ v. IsVerdict o (change_at o w f k x) w n u ↔ IsVerdict o (strike_at l y (f v)) w n u)
-    (sym (lasts_same o w k x l y h)) (
-      verdict_waits o w n k x (f (word_at x (state_after o None w k))) l y h lt u,
-      verdict_was o w n k x (f (word_at x (state_after o None w k))) l y h lt u,
-    )

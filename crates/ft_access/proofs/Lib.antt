@@ -3,10 +3,9 @@ pub mod Doings
 pub mod Steps
 pub mod Waiting
 pub mod Fated
-pub mod Classes
+pub mod Striking
 pub mod Changed
 pub mod Counters
-pub mod CounterVerdicts
-pub mod Whole
+pub mod StruckCounters
 pub mod Exact
 pub mod KeptFates

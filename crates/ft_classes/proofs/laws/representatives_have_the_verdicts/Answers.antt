@@ -1,5 +1,5 @@
-use Rattle.ft_access.proofs.Classes.{stands_some, stands_none}
-use Rattle.ft_access.proofs.laws.representatives_have_the_verdicts.Goals as goal
+use Rattle.ft_classes.proofs.Classes.{stands_some, stands_none}
+use Rattle.ft_classes.proofs.laws.representatives_have_the_verdicts.Goals as goal
 
 pub returns-clause-some : goal.returns-clause-some
 returns-clause-some c = stands_some

@@ -19,10 +19,11 @@ use Rattle.ft_campaign.specs.Verdicts.{IsVerdict}
 use Rattle.ft_campaign.proofs.Judged.{one_verdict}
 use Rattle.ft_access.specs.Access.{reads_site}
 use Rattle.ft_access.specs.Lasting.{fetched_at, strike_at}
-use Rattle.ft_access.specs.Counters.{is_counter, counter_of, adds_one, verdict_by}
+use Rattle.ft_access.specs.Counters.{is_counter, counter_of, adds_one}
 use Rattle.ft_access.proofs.Steps.{there_runs}
-use Rattle.ft_access.proofs.Classes.{none_corrupt}
-use Rattle.ft_access.proofs.CounterVerdicts.{counter_told, kept_masked}
+use Rattle.ft_classes.specs.CounterVerdicts.{verdict_by}
+use Rattle.ft_classes.proofs.Classes.{none_corrupt}
+use Rattle.ft_classes.proofs.CounterVerdicts.{counter_told, kept_masked}
 
 -- the verdict of a counter is never corrupt
 not_corrupt : (f : Option Instr) (s : State) (n k : ℕ) → verdict_by f s n k ≡ verdicts.Corrupt → ⊥

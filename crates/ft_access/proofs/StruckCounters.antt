@@ -1,10 +1,9 @@
--- The verdicts of struck counters.
-use Rattle.std.proofs.Common.{◌≡◌, ◌≢◌, ⊎_elim, ℕ, suc, ◌<◌, ◌≤◌, Bool, true, false, ◌&&◌, nat_lt}
-use Rattle.std.proofs.Common.{if◌then◌else◌, List, ◌++◌, Option, Some, None, refl, sym, ap, ◌∙◌, subst}
-use Rattle.std.proofs.Common.{arith, add-one, append-nil}
+-- Runs in which a counter is struck.
+use Rattle.std.proofs.Common.{◌≡◌, ◌≢◌, ⊎_elim, ℕ, suc, ◌<◌, ◌≤◌, true, ◌&&◌}
+use Rattle.std.proofs.Common.{if◌then◌else◌, List, ◌++◌, Some, None, refl, sym, ap, ◌∙◌, subst}
+use Rattle.std.proofs.Common.{arith, append-nil}
 use Rattle.std.specs.Option.{option_to_list}
-use Rattle.std.proofs.lemmas.Bool.{cases_eq, cases_lt, ltb-true, lt-ltb, ne_eqb}
-use Rattle.std.proofs.Common.{length, ◌^◌}
+use Rattle.std.proofs.lemmas.Bool.{cases_eq, cases_lt, ne_eqb}
 use Rattle.ft_isa.specs.Words.{IsWord}
 use Rattle.ft_isa.specs.declared.instr.Instr.{Instr}
 use Rattle.ft_isa.specs.declared.output.Output.{Output}
@@ -14,27 +13,23 @@ use Rattle.ft_isa.specs.declared.plan.Strike.{Strike}
 use Rattle.ft_isa.specs.declared.plan.Wild.{Wild}
 use Rattle.ft_types.specs.declared.object.Object.{Object}
 use Rattle.ft_types.specs.Objects.{instr_at}
-use Rattle.ft_semantics.specs.Agrees.{IsPrefix}
 use Rattle.ft_semantics.specs.declared.status.Status.TheVariants.{Running, Detected}
 use Rattle.ft_semantics.specs.State.{State}
 use Rattle.ft_semantics.specs.Step.{step, step_at, advance, fetch, detected, next}
 use Rattle.ft_semantics.specs.Strike.{is_running, is_there, with_word}
 use Rattle.ft_semantics.specs.Run.{Ran, extended, run, state_after, wild_after, outputs_after, status_after}
-use Rattle.ft_semantics.proofs.Runs.{HasStopped, run_stays, outputs_grow}
+use Rattle.ft_semantics.proofs.Runs.{HasStopped, run_stays}
 use Rattle.ft_semantics.proofs.Struck.{spared}
-use Rattle.ft_campaign.specs.declared.verdict.Verdict.TheVariants as verdicts
-use Rattle.ft_campaign.specs.Verdicts.{IsVerdict}
 use Rattle.ft_access.specs.Lasting.{fetched_at, at_once, strike_at, IsSameAfter}
-use Rattle.ft_access.specs.Counters.{is_counter, counter_of, adds_one, verdict_by, counter_verdict}
-use Rattle.ft_access.proofs.Changes.{Change, detects, halts, transfers_to, act, counts}
+use Rattle.ft_access.specs.Counters.{is_counter, counter_of}
+use Rattle.ft_access.proofs.Changes.{Change, transfers_to, act, counts}
 use Rattle.ft_access.proofs.Doings.{Doing, result, doing, execute_is, struck_is}
 use Rattle.ft_access.proofs.Steps.{same_status, same_fetched}
 use Rattle.ft_access.proofs.Waiting.{onwards, struck_free, ready_there, ready_later, same_on, same_upto, same_back}
 use Rattle.ft_access.proofs.Waiting.{same_both, same_run, same_stopped}
-use Rattle.ft_access.proofs.Classes.{verdict_follows, strikes}
-use Rattle.ft_access.proofs.Counters.{AreEqual, Turns, stops, ends, turns, goes, doing_turns, same_green, same_blue}
+use Rattle.ft_access.proofs.Counters.{AreEqual, same_green, same_blue}
 use Rattle.ft_access.proofs.Counters.{act_green, act_blue, act_green_next, act_blue_next, act_cleared, act_runs}
-use Rattle.ft_access.proofs.Counters.{are_equal, fetched_word}
+use Rattle.ft_access.proofs.Counters.{are_equal}
 
 -- EITHER COUNTER
 
@@ -60,7 +55,7 @@ transferred a PcB v s h = refl
 transferred a x v s h = cc
 
 -- the counters of a running machine are there
-counter_there : (x : Site) (s : State) → is_counter x ≡ true → s.status ≡ Running → is_there s x ≡ true
+pub counter_there : (x : Site) (s : State) → is_counter x ≡ true → s.status ≡ Running → is_there s x ≡ true
 counter_there PcG s h e = ap (λ v. is_running v && true) e
 counter_there PcB s h e = ap (λ v. is_running v && true) e
 counter_there x s h e = cc
@@ -84,7 +79,7 @@ fetch_fails o PcB v s w h e other =
 fetch_fails o x v s w h e other = cc
 
 -- different words have different successors
-next_other : (v p : ℕ) → IsWord v → IsWord p → v ≢ p → next v ≢ next p
+pub next_other : (v p : ℕ) → IsWord v → IsWord p → v ≢ p → next v ≢ next p
 next_other v p a b other e = other (omega (arith, a, b, e))
 
 -- RUNS
@@ -118,52 +113,39 @@ module _ (o : Object) (w : List Wild) (k : ℕ) (x : Site) (v : ℕ) (cx : is_co
   free_step = ap (λ u. extended (outputs_after o None w k) (step_at o u s (wild_after o None w k))) go
 
   -- at a fetch
-  module _ (n : ℕ) (lt : k < n) (nothing : fetched_at o w k ≡ None) (other : v ≢ counter_of x s)
-      (clean : status_after o None w n ≢ Detected) where
+  module _ (n : ℕ) (lt : k < n) (nothing : fetched_at o w k ≡ None) (other : v ≢ counter_of x s) where
     detected_then : run o (Some strike) w (suc k)
         ≡ extended (outputs_after o None w k) (detected (with_word x v s) (wild_after o None w k))
     detected_then = struck_step ∙ ap (extended (outputs_after o None w k)) (
         ap (λ f. advance o f (with_word x v s) (wild_after o None w k)) nothing
         ∙ fetch_fails o x v s (wild_after o None w k) cx (are_equal o w k) other)
 
-    is_detected : status_after o (Some strike) w (suc k) ≡ Detected
+    -- the fetch detects the strike
+    pub is_detected : status_after o (Some strike) w (suc k) ≡ Detected
     is_detected = ap (λ (r : Ran). r.state.status) detected_then
 
     stays : run o (Some strike) w n ≡ run o (Some strike) w (suc k)
     stays = run_stays o (Some strike) w (suc k) n (omega arith) (subst HasStopped (sym is_detected) tt)
 
-    last_status : status_after o (Some strike) w n ≡ Detected
+    -- so the struck run ends detected
+    pub last_status : status_after o (Some strike) w n ≡ Detected
     last_status = ap (λ (r : Ran). r.state.status) stays ∙ is_detected
 
-    last_outputs : outputs_after o (Some strike) w n ≡ outputs_after o None w k
+    -- with the outputs before the strike
+    pub last_outputs : outputs_after o (Some strike) w n ≡ outputs_after o None w k
     last_outputs = ap (λ (r : Ran). r.outputs) stays ∙ ap (λ (r : Ran). r.outputs) detected_then
         ∙ append-nil (outputs_after o None w k)
 
-    pub detected_at_once : IsVerdict o strike w n (verdicts.Detected k)
-    detected_at_once = (
-      strikes o w n k x v lt there,
-      (λ same. clean (sym same.1 ∙ last_status)),
-      (
-        last_status,
-        subst (λ os. IsPrefix os (outputs_after o None w n)) (sym last_outputs)
-            (outputs_grow o None w k n (omega arith)),
-      ),
-      (
-        (same_upto o w k x v k x (at_once there) k (omega arith)).status ∙ go,
-        subst (λ m. status_after o (Some strike) w m ≡ Detected) (sym (add-one k)) is_detected,
-      ),
-    )
-
 -- at an instruction, both runs do the same
-record DoBoth (o : Object) (w : List Wild) (k : ℕ) (x : Site) (v : ℕ) (c : Change) : Type 0 where
-  left : List Wild
-  outputs : List Output
-  free : run o None w (suc k) ≡ record { state = act c (state_after o None w k); wild = left; outputs = outputs }
-  struck : run o (Some (strike_at k x v)) w (suc k)
+pub record DoBoth (o : Object) (w : List Wild) (k : ℕ) (x : Site) (v : ℕ) (c : Change) : Type 0 where
+  pub left : List Wild
+  pub outputs : List Output
+  pub free : run o None w (suc k) ≡ record { state = act c (state_after o None w k); wild = left; outputs = outputs }
+  pub struck : run o (Some (strike_at k x v)) w (suc k)
       ≡ record { state = act c (with_word x v (state_after o None w k)); wild = left; outputs = outputs }
 
 -- the step of the struck run and that of the run without the strike do the same
-do_both : (o : Object) (w : List Wild) (k : ℕ) (x : Site) (v : ℕ) → is_counter x ≡ true → status_after o None w k
+pub do_both : (o : Object) (w : List Wild) (k : ℕ) (x : Site) (v : ℕ) → is_counter x ≡ true → status_after o None w k
     ≡ Running → (i : Instr) → fetched_at o w k ≡ Some i →
     DoBoth o w k x v (doing i (state_after o None w k) (wild_after o None w k)).change
 do_both o w k x v cx go i e =
@@ -184,7 +166,7 @@ do_both o w k x v cx go i e =
 module _ (o : Object) (w : List Wild) (k : ℕ) (x : Site) (v : ℕ) (cx : is_counter x ≡ true)
     (go : status_after o None w k ≡ Running) where
   -- if both stop
-  stopped_both : (c : Change) → DoBoth o w k x v c → HasStopped (act c (state_after o None w k)).status →
+  pub stopped_both : (c : Change) → DoBoth o w k x v c → HasStopped (act c (state_after o None w k)).status →
       (act c (with_word x v (state_after o None w k))).status ≡ (act c (state_after o None w k)).status → (n : ℕ) →
       k < n →
       IsSameAfter o (Some (strike_at k x v)) None w n
@@ -194,7 +176,7 @@ module _ (o : Object) (w : List Wild) (k : ℕ) (x : Site) (v : ℕ) (cx : is_co
   }) (subst HasStopped (sym (ap (λ (r : Ran). r.state.status) h.free)) stop) (omega arith)
 
   -- if control is transferred
-  transfers_both : (a : ℕ) → DoBoth o w k x v (transfers_to a) → (n : ℕ) → k < n →
+  pub transfers_both : (a : ℕ) → DoBoth o w k x v (transfers_to a) → (n : ℕ) → k < n →
       IsSameAfter o (Some (strike_at k x v)) None w n
   transfers_both a h n lt = same_run o _ None w n (same_on o (Some (strike_at k x v)) None w k (λ m s later.
       spared (strike_at k x v) m (λ e. omega arith) s) (h.struck ∙ ap (λ t. record {
@@ -211,13 +193,16 @@ module _ (o : Object) (w : List Wild) (k : ℕ) (x : Site) (v : ℕ) (cx : is_co
     state_is : state_after o None w (suc k) ≡ act c now
     state_is = ap (λ (r : Ran). r.state) h.free
 
-    runs_on : status_after o None w (suc k) ≡ Running
+    -- the machine runs on
+    pub runs_on : status_after o None w (suc k) ≡ Running
     runs_on = ap (λ (t : State). t.status) state_is ∙ act_runs c now f ∙ go
 
-    cleared : fetched_at o w (suc k) ≡ None
+    -- a fetch follows
+    pub cleared : fetched_at o w (suc k) ≡ None
     cleared = ap (λ (t : State). t.fetched) state_is ∙ act_cleared c now f
 
-    counter_is : counter_of x (state_after o None w (suc k)) ≡ next (counter_of x now)
+    -- the counter has one more
+    pub counter_is : counter_of x (state_after o None w (suc k)) ≡ next (counter_of x now)
     counter_is = ap (counter_of x) state_is ∙ counter_next c x now cx f
 
     -- the strike of the next word before the next step leaves the same state
@@ -230,7 +215,8 @@ module _ (o : Object) (w : List Wild) (k : ℕ) (x : Site) (v : ℕ) (cx : is_co
         (sym (struck_is (state_after o None w (suc k)) x (next v)
         (counter_there x (state_after o None w (suc k)) cx runs_on)))
 
-    same_at : IsSameAfter o (Some (strike_at k x v)) None w (suc k)
+    -- after this step, outputs and status are those without the strike
+    pub same_at : IsSameAfter o (Some (strike_at k x v)) None w (suc k)
     same_at = record {
       outputs = ap (λ (r : Ran). r.outputs) struck_next;
       status = ap (λ (r : Ran). r.state.status) h.struck
@@ -262,105 +248,24 @@ module _ (o : Object) (w : List Wild) (k : ℕ) (x : Site) (v : ℕ) (cx : is_co
         same_upto o w k x v k x (at_once (counter_there x (state_after o None w k) cx go)) m (omega arith))
         (cases_eq m (suc k))
 
-    always : (m : ℕ) → IsSameAfter o (Some (strike_at k x v)) (Some (strike_at (suc k) x (next v))) w m
+    -- the strike of the next word before the next step gives the same outputs and statuses
+    pub always : (m : ℕ) → IsSameAfter o (Some (strike_at k x v)) (Some (strike_at (suc k) x (next v))) w m
     always m =
         ⊎_elim
         (λ (lt : suc k < m). same_run o _ _ w m (next_same m lt))
         (λ (le : m ≤ suc k). same_both o _ None _ w m (upto m le) (same_back o _ _ w m (other_upto m le)))
         (cases_lt (suc k) m)
 
-    -- the next fetch detects it
-    detected_next : (n : ℕ) → suc k < n → IsWord v → IsWord (counter_of x now) → v ≢ counter_of x now →
-        status_after o None w n ≢ Detected → IsVerdict o (strike_at k x v) w n (verdicts.Detected (suc k))
-    detected_next n lt a b other clean =
-        verdict_follows o (strike_at (suc k) x (next v)) (strike_at k x v) w n (
-        strikes o w n k x v (omega arith) (counter_there x now cx go)
-        ∙ sym (strikes o w n (suc k) x (next v) lt (counter_there x (state_after o None w (suc k)) cx runs_on))
-        ) always (verdicts.Detected (suc k))
-        (detected_at_once o w (suc k) x (next v) cx runs_on n lt cleared
-        (λ e. next_other v (counter_of x now) a b other (e ∙ counter_is)) clean)
-
--- A strike of a counter has the verdict that the run without a fault tells.
-
 -- the word of either counter, if they are equal
-counter_word : (x : Site) (s : State) → s.pc_green ≡ s.pc_blue → IsWord s.pc_green → IsWord (counter_of x s)
+pub counter_word : (x : Site) (s : State) → s.pc_green ≡ s.pc_blue → IsWord s.pc_green → IsWord (counter_of x s)
 counter_word PcB s e h = subst IsWord e h
 counter_word PcG s e h = h
 counter_word x s e h = h
 
--- if no step follows before the end, this is the last
-not_past : (k n : ℕ) → k < n → nat_lt (suc k) n ≡ false → n ≡ suc k
-not_past k n lt h =
-    ⊎_elim
-    (λ (more : suc k < n). let t = lt-ltb (suc k) n more in let e : true ≡ false = sym t ∙ h in cc)
-    (λ (le : n ≤ suc k). omega arith)
-    (cases_lt (suc k) n)
-
--- runs with the same outputs and status are masked
-masked : (o : Object) (w : List Wild) (k : ℕ) (x : Site) (v n : ℕ) → is_counter x ≡ true → status_after o None w k
-    ≡ Running → k < n → IsSameAfter o (Some (strike_at k x v)) None w n →
-    IsVerdict o (strike_at k x v) w n verdicts.Masked
-masked o w k x v n cx go lt h = (
-  strikes o w n k x v lt (counter_there x (state_after o None w k) cx go),
-  (h.outputs, h.status),
-)
-
-module _ (o : Object) (w : List Wild) (n k : ℕ) (x : Site) (v : ℕ) (cx : is_counter x ≡ true) (lt : k < n)
-    (go : status_after o None w k ≡ Running) (clean : status_after o None w n ≢ Detected) (a : IsWord v)
-    (small : length o.instrs < 2 ^ 64) (other : v ≢ counter_of x (state_after o None w k)) where
-  detected_no : DoBoth o w k x v detects → ⊥
-  detected_no h = clean (ap (λ (r : Ran). r.state.status) (run_stays o None w (suc k) n (omega arith)
-      (subst HasStopped (sym (ap (λ (r : Ran). r.state.status) h.free)) tt)) ∙ ap (λ (r : Ran). r.state.status) h.free)
-
-  by_past : IsWord (counter_of x (state_after o None w k)) → (p : Bool) → nat_lt (suc k) n ≡ p → (c : Change) →
-      DoBoth o w k x v c → counts c ≡ true →
-      IsVerdict o (strike_at k x v) w n (if p then verdicts.Detected (suc k) else verdicts.Masked)
-  by_past b true e c h f = detected_next o w k x v cx go c h f n (ltb-true (suc k) n e) a b other clean
-  by_past b false e c h f = masked o w k x v n cx go lt (subst (IsSameAfter o (Some (strike_at k x v)) None w)
-      (sym (not_past k n lt e)) (same_at o w k x v cx go c h f))
-
-  -- the verdict, by whether the instruction adds one to the counters
-  abbrev Told : Bool → Type 0
-  Told t = IsVerdict o (strike_at k x v) w n (if t && nat_lt (suc k) n then verdicts.Detected (suc k)
-      else verdicts.Masked)
-
-  by_turn : IsWord (counter_of x (state_after o None w k)) → (d : ℕ) (t : Bool) (c : Change) → Turns d t c →
-      DoBoth o w k x v c → Told t
-  by_turn b d t _ stops h = absurd (detected_no h)
-  by_turn b d t _ (ends e) h = subst Told (sym e) (masked o w k x v n cx go lt
-      (stopped_both o w k x v cx go halts h tt refl n lt))
-  by_turn b d t _ (turns {a = a} e f) h = subst Told (sym e) (masked o w k x v n cx go lt
-      (transfers_both o w k x v cx go a h n lt))
-  by_turn b d t c (goes e f) h = subst Told (sym e) (by_past b (nat_lt (suc k) n) refl c h f)
-
-  by_fetched : (f : Option Instr) → fetched_at o w k ≡ f → IsVerdict o (strike_at k x v) w n
-      (verdict_by f (state_after o None w k) n k)
-  by_fetched None e = detected_at_once o w k x v cx go n lt e other clean
-  by_fetched (Some i) e = by_turn (counter_word x (state_after o None w k) (are_equal o w k)
-      (fetched_word o w k i small e)) (state_after o None w k).d (adds_one i (state_after o None w k)) _
-      (doing_turns i (state_after o None w k) (wild_after o None w k)) (do_both o w k x v cx go i e)
-
-  pub counter_told : IsVerdict o (strike_at k x v) w n (counter_verdict o w n k)
-  counter_told = by_fetched (fetched_at o w k) refl
-
 -- A STRIKE THAT WRITES THE WORD THAT IS THERE
 
 -- writing the word that is there changes nothing
-kept_word : (x : Site) (s : State) → is_counter x ≡ true → with_word x (counter_of x s) s ≡ s
+pub kept_word : (x : Site) (s : State) → is_counter x ≡ true → with_word x (counter_of x s) s ≡ s
 kept_word PcG s h = refl
 kept_word PcB s h = refl
 kept_word x s h = cc
-
--- so such a strike is masked
-pub kept_masked : (o : Object) (w : List Wild) (n k : ℕ) (x : Site) → is_counter x ≡ true → k < n →
-    status_after o None w k ≡ Running →
-    IsVerdict o (strike_at k x (counter_of x (state_after o None w k))) w n verdicts.Masked
-unfolding run
-kept_masked o w n k x cx lt go =
-    let s = state_after o None w k in
-    let v = counter_of x s in
-    masked o w k x v n cx go lt (same_run o _ None w n (same_on o (Some (strike_at k x v)) None w k (λ m t later.
-    spared (strike_at k x v) m (λ e. omega arith) t) (ap (onwards o) (
-    ready_there o w k x v
-    ∙ ap (λ t. record (run o None w k) { state = t }) (struck_is s x v (counter_there x s cx go) ∙ kept_word x s cx)))
-    n lt))

@@ -1,5 +1,5 @@
-use Rattle.ft_access.proofs.Classes.{verdict_waits, verdict_was, dead_masked}
-use Rattle.ft_access.proofs.laws.verdicts_wait.Goals as goal
+use Rattle.ft_classes.proofs.Classes.{verdict_waits, verdict_was, dead_masked}
+use Rattle.ft_classes.proofs.laws.verdicts_wait.Goals as goal
 
 pub returns-clause-lasting : goal.returns-clause-lasting
 returns-clause-lasting c o w n k x v l y h lt u =

@@ -1,25 +1,26 @@
 -- Verdicts of faults with the same fate.
-use Rattle.std.proofs.Common.{◌≡◌, ◌↔◌, ℕ, ◌+◌, ◌-◌, ◌<◌, true, nat_lt, List, Option, Some, None}
-use Rattle.std.proofs.Common.{sym, ap, ◌∙◌, subst, arith}
-use Rattle.std.proofs.lemmas.Bool.{ltb-true, lt-ltb, and_parts, and_from}
+use Rattle.std.proofs.Common.{◌≡◌, ◌↔◌, ℕ, ◌+◌, ◌-◌, ◌<◌, true, List, Option, Some, None}
+use Rattle.std.proofs.Common.{sym, ◌∙◌, subst, arith}
 use Rattle.ft_isa.specs.declared.plan.Site.{Site}
 use Rattle.ft_isa.specs.declared.plan.Strike.{Strike}
 use Rattle.ft_isa.specs.declared.plan.Wild.{Wild}
 use Rattle.ft_types.specs.declared.object.Object.{Object}
 use Rattle.ft_semantics.specs.Agrees.{IsPrefix}
 use Rattle.ft_semantics.specs.Strike.{is_there}
-use Rattle.ft_semantics.specs.Run.{Ran, state_after, outputs_after, is_struck}
-use Rattle.ft_tolerance.proofs.Masking.{before}
+use Rattle.ft_semantics.specs.Run.{state_after, outputs_after, is_struck}
 use Rattle.ft_campaign.specs.declared.verdict.Verdict.{Verdict}
 use Rattle.ft_campaign.specs.declared.verdict.Verdict.TheVariants as verdicts
 use Rattle.ft_campaign.specs.Verdicts.{IsVerdict}
 use Rattle.ft_access.specs.Access.{reads_site}
-use Rattle.ft_access.specs.Lasting.{fetched_at, Lasts, at_once, further, IsDead, unread, overwritten, at_stop}
+use Rattle.ft_access.specs.Lasting.{fetched_at, Lasts, IsDead}
 use Rattle.ft_access.specs.Lasting.{strike_at}
 use Rattle.ft_access.specs.Lasting.{IsSameAfter}
 use Rattle.ft_access.specs.Fates.{Fate, ReadAt, Unread, fate, fault_of, representative}
 use Rattle.ft_access.proofs.Waiting.{lasts_there, lasts_on, same_back, same_always, same_dead}
-use Rattle.ft_access.proofs.Fated.{Says, fate_says}
+use Rattle.ft_access.proofs.Fated.{Says}
+use Rattle.ft_access.proofs.Striking.{strikes, lasts_from, dead_there, strikes_then, says_of}
+use Rattle.ft_access.specs.Changed.{word_at, change_at}
+use Rattle.ft_access.proofs.Changed.{lasts_same}
 
 -- a verdict depends only on whether the fault strikes, and on outputs and statuses
 pub verdict_follows : (o : Object) (x z : Strike) (w : List Wild) (n : ℕ) → is_struck o (Some z) w n
@@ -47,23 +48,6 @@ verdict_follows o x z w n e same verdicts.Corrupt h = (
       ),
 )
 
--- before the strike, the site is there in the struck run if it is there in the run without a fault
-there_too : (o : Object) (x : Strike) (w : List Wild) → is_there (state_after o (Some x) w x.step) x.site
-    ≡ is_there (state_after o None w x.step) x.site
-there_too o x w = ap (λ (r : Ran). is_there r.state x.site) (sym (before o x w x.step (omega arith)))
-
--- a strike of a word that is there strikes
-pub strikes : (o : Object) (w : List Wild) (n k : ℕ) (x : Site) (v : ℕ) → k < n → is_there (state_after o None w k) x
-    ≡ true
-    → is_struck o (Some (strike_at k x v)) w n ≡ true
-strikes o w n k x v lt there = and_from (nat_lt k n) _ (lt-ltb k n lt) (there_too o (strike_at k x v) w ∙ there)
-
--- the site is there at the beginning
-lasts_from : (o : Object) (w : List Wild) (k : ℕ) (x : Site) (l : ℕ) (y : Site) → Lasts o w k x l y →
-    is_there (state_after o None w k) x ≡ true
-lasts_from o w k x _ _ (at_once there) = there
-lasts_from o w k x _ _ (further l y h r e go) = lasts_from o w k x l y h
-
 module _ (o : Object) (w : List Wild) (n k : ℕ) (x : Site) (v l : ℕ) (y : Site) (h : Lasts o w k x l y) (lt : l < n)
   where
     both_strike : is_struck o (Some (strike_at k x v)) w n ≡ is_struck o (Some (strike_at l y v)) w n
@@ -81,12 +65,16 @@ module _ (o : Object) (w : List Wild) (n k : ℕ) (x : Site) (v l : ℕ) (y : Si
     verdict_was = verdict_follows o (strike_at l y v) (strike_at k x v) w n both_strike (λ m.
         same_always o w k x v l y h m)
 
--- a word that is dead was there
-dead_there : (o : Object) (w : List Wild) (n k : ℕ) (x : Site) → IsDead o w n k x →
-    is_there (state_after o None w k) x ≡ true
-dead_there o w n k x (unread l y h past) = lasts_from o w k x l y h
-dead_there o w n k x (overwritten l y h r e) = lasts_from o w k x l y h
-dead_there o w n k x (at_stop l y h r stop) = lasts_from o w k x l y h
+-- the same change of a word that lasts gives the same verdict
+pub change_waits : (o : Object) (w : List Wild) (n : ℕ) (f : ℕ → ℕ) (k : ℕ) (x : Site) (l : ℕ) (y : Site) →
+    Lasts o w k x l y → l < n → (u : Verdict) → IsVerdict o (change_at o w f k x) w n u
+    ↔ IsVerdict o (change_at o w f l y) w n u
+change_waits o w n f k x l y h lt u =
+    subst (λ v. IsVerdict o (change_at o w f k x) w n u ↔ IsVerdict o (strike_at l y (f v)) w n u)
+    (sym (lasts_same o w k x l y h)) (
+      verdict_waits o w n k x (f (word_at x (state_after o None w k))) l y h lt u,
+      verdict_was o w n k x (f (word_at x (state_after o None w k))) l y h lt u,
+    )
 
 -- a strike of a word that is never read is masked
 pub dead_masked : (o : Object) (w : List Wild) (n k : ℕ) (x : Site) (v : ℕ) → IsDead o w n k x → k < n →
@@ -110,22 +98,6 @@ stands_by o w n x (ReadAt l y) lt h = λ u. (
   verdict_was o w n x.step x.site x.value l y h.lasts h.within u,
 )
 stands_by o w n x Unread lt h = dead_masked o w n x.step x.site x.value h lt
-
--- a fault that strikes
-record Strikes (o : Object) (w : List Wild) (n : ℕ) (x : Strike) : Type 0 where
-  within : x.step < n
-  there : is_there (state_after o None w x.step) x.site ≡ true
-
--- a fault that strikes does so at a site that is there
-strikes_then : (o : Object) (w : List Wild) (n : ℕ) (x : Strike) → is_struck o (Some x) w n ≡ true → Strikes o w n x
-strikes_then o w n x h =
-    let p = and_parts (nat_lt x.step n) (is_there (state_after o (Some x) w x.step) x.site) h in
-    record { within = ltb-true x.step n p.0; there = sym (there_too o x w) ∙ p.1 }
-
--- what the fate of a fault says
-says_of : (o : Object) (w : List Wild) (n : ℕ) (x : Strike) → Strikes o w n x →
-    Says o w n x.step x.site (fate o w (n - x.step) x.step x.site)
-says_of o w n x h = let lt = h.within in fate_says o w n (n - x.step) x.step x.site (omega (arith, lt)) h.there
 
 -- the representative stands for a fault that strikes
 pub stands : (o : Object) (w : List Wild) (n : ℕ) (x : Strike) → is_struck o (Some x) w n ≡ true →
