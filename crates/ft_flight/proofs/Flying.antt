@@ -30,7 +30,8 @@ use Rattle.ft_flight.specs.declared.flown.CellOutput.{CellOutput}
 use Rattle.ft_flight.specs.declared.flown.FlightEnd.{FlightEnd}
 use Rattle.ft_flight.specs.States.{state_in}
 use Rattle.ft_flight.specs.Steps.{Took, Ends, done, detected, cut, full, cell_output, outputs_from, status_from}
-use Rattle.ft_flight.specs.Flights.{object_with_words, IsBy, IsFlight, HandedOut, HandsOn, IsWhole}
+use Rattle.ft_types.specs.InitialWords.{object_with_words}
+use Rattle.ft_flight.specs.Flights.{IsBy, IsFlight, HandedOut, HandsOn, IsWhole}
 use Rattle.ft_recover.proofs.Restarts.{begins}
 use Rattle.ft_flight.proofs.NoAnswers.{no_words, none_after}
 use Rattle.ft_flight.proofs.Overlaps.{past, past_long}

@@ -13,7 +13,8 @@ use Rattle.ft_typing.specs.TypedWord.{HasType}
 use Rattle.ft_typing.specs.Context.{Context}
 use Rattle.ft_typing.specs.Accepted.{Applies, IsAccepted}
 use Rattle.ft_typing.proofs.SameTables.{has_over, start_same, applies_same}
-use Rattle.ft_flight.specs.Flights.{object_with_words, cells_with_words, MayHold, HasIntCells}
+use Rattle.ft_types.specs.InitialWords.{object_with_words, cells_with_words}
+use Rattle.ft_flight.specs.Flights.{MayHold, HasIntCells}
 use Rattle.ft_flight.proofs.Started.{as_long}
 
 names_with : (cs : List Cell) (ws : List ℕ) → map name_of (cells_with_words cs ws) ≡ map name_of cs

@@ -25,7 +25,7 @@ use Rattle.ft_isa.specs.declared.plan.Site.{Site}
 use Rattle.ft_isa.specs.declared.plan.Site.TheVariants.{R, D, PcG, PcB, QAddr, QVal}
 use Rattle.ft_semantics.specs.Strike.{is_there, struck_state, with_word}
 use Rattle.ft_flight.specs.declared.state.FlightState.{FlightState}
-use Rattle.ft_flight.specs.Flights.{object_with_words, cells_with_words}
+use Rattle.ft_types.specs.InitialWords.{object_with_words, cells_with_words}
 
 module _ (o : Object) (ws : List ℕ) where
   same_instr : (pc : ℕ) → instr_at (object_with_words o ws) pc ≡ instr_at o pc

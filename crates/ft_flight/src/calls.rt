@@ -5,7 +5,8 @@ ghost use Rattle.ft_isa.specs.declared.plan.Strike.{Strike};
 ghost use Rattle.ft_format.specs.Broken.{broken, object_of};
 ghost use Rattle.ft_typing.specs.Accepted.{IsAccepted};
 ghost use Rattle.ft_semantics.specs.State.{start};
-ghost use Rattle.ft_flight.specs.Flights.{HandedOut, HandsOn, IsFlight, IsWhole, MayHold, object_with_words};
+ghost use Rattle.ft_types.specs.InitialWords.{object_with_words};
+ghost use Rattle.ft_flight.specs.Flights.{HandedOut, HandsOn, IsFlight, IsWhole, MayHold};
 ghost use Rattle.ft_flight.specs.States.{state_in};
 ghost use Rattle.ft_flight.specs.Steps.{Took};
 

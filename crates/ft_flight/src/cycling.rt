@@ -7,7 +7,8 @@ ghost use Rattle.ft_typing.specs.Accepted.{IsAccepted};
 ghost use Rattle.ft_semantics.specs.State.{start};
 ghost use Rattle.ft_semantics.specs.Strike.{is_there, struck_state};
 ghost use Rattle.ft_machine.specs.Arrays.{cells_of};
-ghost use Rattle.ft_flight.specs.Flights.{HandedOut, IsFlight, MayHold, object_with_words};
+ghost use Rattle.ft_types.specs.InitialWords.{object_with_words};
+ghost use Rattle.ft_flight.specs.Flights.{HandedOut, IsFlight, MayHold};
 ghost use Rattle.ft_flight.specs.States.{state_in};
 
 use crate::plain_queue::PlainQueue;

@@ -3,7 +3,8 @@ ghost use Rattle.std.specs.Prelude.{◌≡◌, ◌≢◌, ◌≤◌, ◌<◌, �
 ghost use Rattle.ft_isa.specs.declared.output.Output.{Output};
 ghost use Rattle.ft_isa.specs.declared.plan.Strike.{Strike};
 ghost use Rattle.ft_types.specs.Spellable.{IsSpellable};
-ghost use Rattle.ft_flight.specs.Flights.{HandedOut, HandsOn, IsFlight, IsWhole, object_with_words};
+ghost use Rattle.ft_types.specs.InitialWords.{object_with_words};
+ghost use Rattle.ft_flight.specs.Flights.{HandedOut, HandsOn, IsFlight, IsWhole};
 ghost use Rattle.ft_flight.specs.Steps.{Ends, IsLimit, Took};
 
 use crate::flown::{CellOutput, FlightEnd, Flown};

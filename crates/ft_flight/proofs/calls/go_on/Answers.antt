@@ -3,7 +3,8 @@ use Rattle.ft_types.specs.Spellable.{IsSpellable}
 use Rattle.ft_format.specs.Broken.{object_of}
 use Rattle.ft_format.proofs.ReadWhole.{read_spells}
 use Rattle.ft_flight.specs.declared.flown.FlightEnd.TheVariants as end
-use Rattle.ft_flight.specs.Flights.{HandedOut, IsFlight, IsWhole, object_with_words}
+use Rattle.ft_types.specs.InitialWords.{object_with_words}
+use Rattle.ft_flight.specs.Flights.{HandedOut, IsFlight, IsWhole}
 use Rattle.ft_flight.proofs.calls.go_on.Goals as goal
 
 pub go-requires : goal.go-requires
