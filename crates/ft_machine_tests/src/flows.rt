@@ -1,17 +1,14 @@
 //! Flows that are compiled, checked and run.
-ghost use Rattle.std.specs.Prelude.{◌≡◌, ◌<◌};
 ghost use Rattle.ft_types.specs.Spellable.{IsSpellable};
 
-use ft_checker::check;
+use ft_checker::check_uncounted;
 use ft_edge::MemSink;
 use ft_flow::{FlowError, Rule, compile_text};
-use ft_isa::{Plan, Steps};
+use ft_isa::Plan;
 use ft_machine::RunEnd;
 use ft_runs::{Clean, run};
 use ft_types::Object;
 use std::alloc::Global;
-use std::marker::Brand;
-use std::sync::ledger::{Blank, Ledger};
 use std::test::Fail;
 
 /// The larger of two cells: a branch. As `examples/flows/larger.flow`.
@@ -108,19 +105,10 @@ const FLOWS: &[(&str, &str)] = &[
 const STEPS: u64 = 10_000;
 
 /// Checks an object and runs it.
-fn run_checked<L: Ledger>(
-    alloc: Global,
-    object: &Object,
-    blank: Blank,
-    sink: &mut MemSink,
-) -> Result<RunEnd, Fail>
-    requires name { blank.name ≡ L.name }
-    requires parts { blank.parts ≡ L.parts }
-    requires some { 0 < L.parts }
-    requires spellable { IsSpellable object.now }
+fn run_checked(alloc: Global, object: &Object, sink: &mut MemSink) -> Result<RunEnd, Fail>
+    requires { IsSpellable object.now }
 {
-    let mut steps = Steps::<L>::new(blank);
-    let checked = check(alloc, object, &mut steps)?;
+    let checked = check_uncounted(alloc, object)?;
     let start = Clean::start(alloc, &checked)?;
     let plan = Plan {
         strike: None,
@@ -135,7 +123,7 @@ fn writes(alloc: Global, text: &[u8], lines: &[u8]) -> Result<bool, Fail> {
         return Ok(false);
     };
     let mut sink = MemSink::new(alloc, lines.len())?;
-    let end = run_checked::<Brand>(alloc, &object, Blank::new(1), &mut sink)?;
+    let end = run_checked(alloc, &object, &mut sink)?;
     Ok(matches!(end, RunEnd::Done) && sink.written() == lines)
 }
 
