@@ -110,18 +110,17 @@ class Trial:
 
     def choose(self, program):
         """Chooses other words. If those of each array are alike, they stand in the declarations of the changed text. If not,
-        it assigns them to the arrays before its first statement, which adds as many lines."""
+        it assigns them to the arrays before its first statement, which adds lines."""
         self.alike = self.random.random() < 0.5 or all(length in (None, 1) for length in program.lengths.values())
         shared = {name: some_word(self.random) for name in program.words}
-        plain, first = dict(shared), []
+        plain, self.first_lines = dict(shared), []
         self.words = {}
         for cell, name in program.cells():
             self.words[cell] = shared[name] if name == cell or self.alike else some_word(self.random)
             if name != cell and not self.alike:
-                first += [f"{cell}={self.words[cell]};"]
+                self.first_lines.append(f"{cell} {self.words[cell]}")
                 plain.pop(name, None)
-        self.first_lines = len(first)
-        self.changed = self.source.text(plain, first)
+        self.changed = self.source.text(plain, [line.replace(" ", "=") + ";" for line in self.first_lines])
         self.put("changed", self.changed)
         self.counts["in declarations"] += self.alike
 
@@ -170,8 +169,7 @@ class Trial:
         status, output = self.call("mean", self.path("changed"), "--turns", str(turns), keep="mean")
         if not self.parsed(self.changed, "mean", status, output):
             return
-        written = output.splitlines(keepends=True)[self.first_lines:]
-        self.same("mean", (ENDED if meaning.ended else CUT, self.joined(lines)), (status, b"".join(written)))
+        self.same("mean", (ENDED if meaning.ended else CUT, self.joined(self.first_lines + lines)), (status, output))
         self.counts["means"] += 1
 
     @staticmethod
