@@ -1,10 +1,10 @@
 #!/usr/bin/env bash
 # Tests the tools at full scale: 1,000,000 faults of two programs, with their pictures and pages; machines over ssh, one of
 # which disappears; Slurm; programs in C; long walks of the debugger, and Emacs as its client; the C library; and the scripts of
-# the gate on a machine that lacks what the tests can do without. It starts its own servers, for this test only. It is not
-# part of the gate.
+# the gate on a machine that lacks what the tests can do without; and random sources with other words in their cells. It
+# starts its own servers, for this test only. It is not part of the gate.
 #
-#     bash tests/long.sh [large | ssh | slurm | c | debugger | editor | embed | fresh ..]
+#     bash tests/long.sh [large | ssh | slurm | c | debugger | editor | embed | fresh | words ..]
 #
 # Missing programs are named, and what needs them is skipped. With KEEP=FOLDER the pictures and pages are kept there.
 set -u
@@ -362,6 +362,13 @@ fresh() {
   report 'a fresh machine' 0 $status
 }
 
+# Objects whose cells begin with other words, against what their sources mean with these words.
+words() {
+  python3 -B "$top/tests/meaning/other_words.py" "$top/crates/talft/out/talft" --sources 10000 --seed 2 --jobs "$(nproc)" \
+    ${KEEP:+--keep "$KEEP/other-words"} | tee said >&3
+  report 'other words in the objects of 10,000 random sources' '10000 sources: 0 differ' "$(tail -n 1 said)"
+}
+
 for part in "${@:-all}"; do
   case $part in
     large) large ;;
@@ -372,7 +379,8 @@ for part in "${@:-all}"; do
     editor) editor ;;
     embed) embed ;;
     fresh) fresh ;;
-    *) large; over_ssh; over_slurm; in_c; debugger; editor; embed; fresh ;;
+    words) words ;;
+    *) large; over_ssh; over_slurm; in_c; debugger; editor; embed; fresh; words ;;
   esac
 done
 close
