@@ -15,17 +15,7 @@ use Rattle.ft_typing.specs.Accepted.{Applies, IsAccepted}
 use Rattle.ft_typing.proofs.SameTables.{has_over, start_same, applies_same}
 use Rattle.ft_types.specs.InitialWords.{object_with_words, cells_with_words}
 use Rattle.ft_flight.specs.Flights.{MayHold, HasIntCells}
-use Rattle.ft_flight.proofs.Started.{as_long}
-
-names_with : (cs : List Cell) (ws : List ℕ) → map name_of (cells_with_words cs ws) ≡ map name_of cs
-names_with [] ws = refl
-names_with (c ∷ cs) [] = refl
-names_with (c ∷ cs) (w ∷ ws) = ap (λ l. c.name ∷ l) (names_with cs ws)
-
-types_with : (cs : List Cell) (ws : List ℕ) → map basic_of (cells_with_words cs ws) ≡ map basic_of cs
-types_with [] ws = refl
-types_with (c ∷ cs) [] = refl
-types_with (c ∷ cs) (w ∷ ws) = ap (λ l. c.basic ∷ l) (types_with cs ws)
+use Rattle.ft_flight.proofs.Started.{kept_with, as_long}
 
 cells_with : (n : ℕ) (cs : List Cell) (ws : List ℕ) → All IsWord ws → All (IsCell n) cs →
     All (IsCell n) (cells_with_words cs ws)
@@ -39,11 +29,11 @@ cells_with n (c ∷ cs) (w ∷ ws) fit h =
 
 pub spellable_with : (o : Object) (ws : List ℕ) → MayHold o ws → IsSpellable o → IsSpellable (object_with_words o ws)
 spellable_with o ws m h =
-    let long = as_long o.cells ws in
+    let long = as_long o ws in
     record {
       few_cells = subst (λ n. n ≤ 1024) (sym long) h.few_cells;
       cells = cells_with (length o.types) o.cells ws m.fit h.cells;
-      names_differ = subst (λ ns. AllPairs (λ x y. x ≡ y → ⊥) ns) (sym (names_with o.cells ws)) h.names_differ;
+      names_differ = subst (λ ns. AllPairs (λ x y. x ≡ y → ⊥) ns) (sym (kept_with name_of (λ c w. refl) o.cells ws)) h.names_differ;
       nodes = h.nodes;
       some_type = h.some_type;
       few_types = h.few_types;
@@ -66,7 +56,7 @@ spellable_with o ws m h =
 pub accepted_with : (o : Object) (ws : List ℕ) → MayHold o ws → IsAccepted o → IsAccepted (object_with_words o ws)
 accepted_with o ws m acc =
     let cs = cells_with_words o.cells ws in
-    let same = types_with o.cells ws in
+    let same = kept_with basic_of (λ c w. refl) o.cells ws in
     record {
       entry = record {
         ints = acc.entry.ints;

@@ -3,7 +3,7 @@ use Rattle.std.proofs.Common.{◌≡◌, ℕ, zero, suc, ◌+◌, ◌<◌, ◌==
 use Rattle.std.proofs.Common.{true, false, Option, Some, None, refl, ap, sym, subst, ◌∙◌, arith, get_or, slice_get}
 use Rattle.std.proofs.Common.{replicate}
 use Rattle.std.specs.Option.{option_map}
-use Rattle.std.proofs.lemmas.List.{get_or-replicate}
+use Rattle.std.proofs.lemmas.List.{get_or-replicate, length-map}
 use Rattle.ft_isa.specs.Words.{cell_address}
 use Rattle.ft_isa.specs.Pending.{Pending}
 use Rattle.ft_isa.specs.declared.colour.Colour.TheVariants.{Green}
@@ -11,7 +11,7 @@ use Rattle.ft_isa.specs.declared.instr.Instr.{Instr}
 use Rattle.ft_isa.specs.declared.plan.Wild.{Wild}
 use Rattle.ft_types.specs.declared.object.Object.{Object}
 use Rattle.ft_types.specs.declared.object.Cell.{Cell}
-use Rattle.ft_types.specs.Objects.{instr_at, init_of, init_or_zero, cell_head_of, entry_address}
+use Rattle.ft_types.specs.Objects.{name_of, instr_at, init_of, init_or_zero, cell_head_of, entry_address}
 use Rattle.ft_semantics.specs.declared.status.Status.{Status}
 use Rattle.ft_semantics.specs.declared.status.Status.TheVariants as status
 use Rattle.ft_semantics.specs.State.{State, Registers, Cells, tabulate, start, green_zero}
@@ -25,7 +25,7 @@ use Rattle.ft_isa.specs.declared.plan.Site.{Site}
 use Rattle.ft_isa.specs.declared.plan.Site.TheVariants.{R, D, PcG, PcB, QAddr, QVal}
 use Rattle.ft_semantics.specs.Strike.{is_there, struck_state, with_word}
 use Rattle.ft_flight.specs.declared.state.FlightState.{FlightState}
-use Rattle.ft_types.specs.InitialWords.{object_with_words, cells_with_words}
+use Rattle.ft_types.specs.InitialWords.{begun_with, object_with_words, cells_with_words}
 
 module _ (o : Object) (ws : List ℕ) where
   same_instr : (pc : ℕ) → instr_at (object_with_words o ws) pc ≡ instr_at o pc
@@ -52,10 +52,20 @@ module _ (o : Object) (ws : List ℕ) where
       ∙ ap (extended (span o n s w).outputs) (same_step (span o n s w).state.status (span o n s w).state
       (span o n s w).wild)
 
-pub as_long : (cs : List Cell) (ws : List ℕ) → length (cells_with_words cs ws) ≡ length cs
-as_long [] ws = refl
-as_long (c ∷ cs) [] = refl
-as_long (c ∷ cs) (w ∷ ws) = ap suc (as_long cs ws)
+-- what does not depend on the initial words stays the same
+pub kept_with : {A : Type 0} (f : Cell → A) → ((c : Cell) (w : ℕ) → f (begun_with c w) ≡ f c) → (cs : List Cell)
+    (ws : List ℕ) → map f (cells_with_words cs ws) ≡ map f cs
+kept_with f same [] ws = refl
+kept_with f same (c ∷ cs) [] = refl
+kept_with f same (c ∷ cs) (w ∷ ws) =
+    ap (λ a. a ∷ map f (cells_with_words cs ws)) (same c w) ∙ ap (λ l. f c ∷ l) (kept_with f same cs ws)
+
+-- so does the number of cells
+pub as_long : (o : Object) (ws : List ℕ) → length (object_with_words o ws).cells ≡ length o.cells
+as_long o ws =
+    sym (length-map (cells_with_words o.cells ws) name_of)
+    ∙ ap length (kept_with name_of (λ c w. refl) o.cells ws)
+    ∙ length-map o.cells name_of
 
 word_at : (cs : List Cell) (ws : List ℕ) (i : ℕ) → length ws ≡ length cs → i < length ws
     → get_or ws i 0 ≡ init_or_zero (option_map cell_head_of (slice_get (cells_with_words cs ws) i))
@@ -70,7 +80,7 @@ pub cells_start : (o : Object) (ws : List ℕ) → length ws ≡ length o.cells
     → cells_of ws ≡ tabulate (length (cells_with_words o.cells ws)) cell_address (init_of (object_with_words o ws))
 cells_start o ws e = filled ws (length ws) (length (cells_with_words o.cells ws)) (init_of (object_with_words o ws))
     refl
-    (e ∙ sym (as_long o.cells ws)) (λ i below. word_at o.cells ws i e below)
+    (e ∙ sym (as_long o ws)) (λ i below. word_at o.cells ws i e below)
 
 -- words 0 and colours 0 are green 0 in each register
 pub registers_start : registers_in (replicate 64 0) (replicate 64 0) ≡ tabulate 64 (λ r. r) (λ _. green_zero)
