@@ -33,7 +33,8 @@ spellable_with o ws m h =
     record {
       few_cells = subst (λ n. n ≤ 1024) (sym long) h.few_cells;
       cells = cells_with (length o.types) o.cells ws m.fit h.cells;
-      names_differ = subst (λ ns. AllPairs (λ x y. x ≡ y → ⊥) ns) (sym (kept_with name_of (λ c w. refl) o.cells ws)) h.names_differ;
+      names_differ = subst (λ ns. AllPairs (λ x y. x ≡ y → ⊥) ns) (sym (kept_with name_of (λ c w. refl) o.cells ws))
+          h.names_differ;
       nodes = h.nodes;
       some_type = h.some_type;
       few_types = h.few_types;
