@@ -10,6 +10,7 @@ import os
 import re
 
 from common import Refused, put
+from kinds import kind_of_path
 from messages import named
 
 HEAD = re.compile(r"\[([a-z]+)\] ([0-9a-f]{64})")
@@ -40,7 +41,9 @@ def sections_of(path):
                 lines = []
                 found[match[1]] = match[2], lines
             elif lines is None:
-                raise Refused(f"{named(path)}:{number}: expected a section, as `[types] SUM`")
+                kind = kind_of_path(path)
+                told = f"this is {kind}: " if kind else ""
+                raise Refused(f"{named(path)}:{number}: {told}expected a section, as `[types] SUM`")
             else:
                 lines.append(line)
     return found
@@ -61,6 +64,13 @@ def types_of(lines, path):
             raise Refused(f"{named(path)}: a line of [types] is damaged: {named(line)}")
         found.setdefault(match[1], []).append(Part(int(match[2]), int(match[3]), match[4], match[5]))
     return found
+
+
+def types_beside(object_file, data):
+    """The parts of each cell's word by the text beside an object; empty if there is no such text about it."""
+    path = path_of(object_file)
+    total, lines = sections_of(path).get("types", (None, [])) if os.path.isfile(path) else (None, [])
+    return types_of(lines, path) if total == sum_of(data) else {}
 
 
 def carried(object_file, data, new_file, new_data):

@@ -1,6 +1,6 @@
 """The cells of an object, read from its bytes."""
 from common import MAGIC, Refused
-from messages import named
+from messages import named, quoted
 
 HEADER, CELL = 48, 16
 VERSIONS = 1, 2
@@ -27,6 +27,11 @@ def cells_of(path, data):
         found[data[names + start:names + end].decode("latin-1")] = at + 8
         start = end
     return found
+
+
+def no_cell(name):
+    """What to say about a line of a cell that the object does not have."""
+    return f"the object has no cell {quoted(name)}; give the lines of a run of this object"
 
 
 def told_of_again(path):

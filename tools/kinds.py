@@ -11,7 +11,8 @@ MAGICS = ((b"TALFT", "an object"), (b"\0asm", "a WebAssembly module"), (b"\xff\x
 # What a text is, by its first line that is neither blank nor a comment.
 LINES = ((STRIKE, "a fault list"),
          (STRIKE + r" (masked|idle|corrupt|detected \d+)|faults \d+ masked .*", "the output of a campaign"),
-         (r"module \S+", "a link map"),
+         (r"module \S+", "a link map"), (r'\{"of": \{.*', "the file of `talft-faults --about`"),
+         (r"\[[a-z]+\] [0-9a-f]{64}", "a text about an object (NAME.about)"),
          (r"(step|go|back) \d+|zap \S+ \S+|break \d+ \d+|where", "a debugger script"),
          (r"cell \S+ (ref:)*(int|code:\d+) \d+|node \d+ .*|(type|block|entry) \d.*", "an assembly text"),
          (r"(cell|var)\s+\w+\s*[=;\[].*|(while|if)\s*\(.*|\w+\s*[=\[].*", "a source"),

@@ -34,12 +34,15 @@ CASES = {
     "reference": module(b"\xD0\x70\x1A"),
     "element": module(const(I32, 0) + b"\x25\x00\x1A", table=section(4, b"\x01\x70\x00\x01")),
     "import": module(before=section(2, many([b"\x03env\x05reach\x00\x00"])), exports=(b"\x03run\x00\x01",)),
+    "unlinked": module(before=section(2, many([b"\x03env\x0F__linear_memory\x02\x00\x00"]))),
     "parameter": module(params=(I32,)),
     "without": module(exports=()),
     "two": module(exports=(RUN, b"\x04step\x00\x00")),
     "endless": module(end=None),
     "alignment": module(const(I32, 1024) + b"\x28" + unsigned(2 ** 32 - 1) + b"\x00\x1A"),
     "large": module(end=1024 + 8 * 1025),
+    "full": module(const(I32, 5), results=(I32,), end=1024 + 8 * 1024),
+    "deep": module(const(I32, 1024) + b"\x28\x02\x00\x04\x40\x10\x00\x0B", end=1024 + 8 * 1024),
 }
 
 
@@ -51,10 +54,12 @@ def functions(count):
 
 
 # Modules that are not refused, and whose sizes must not be taken at their word: a table of 2^32 - 1 places, six times loops
-# that nest as deep as they may, and functions that nothing calls.
+# that nest as deep as they may, and functions that nothing calls. Two run for ever, one of them in a trap.
 SIZES = {
     "functions": functions(100_000),
     "places": module(table=section(4, b"\x01\x70\x00" + unsigned(2 ** 32 - 1))),
+    "looping": module(b"\x03\x40\x0C\x00\x0B"),
+    "trapped": module(b"\x00"),
     "nested": module((b"\x03\x40" * 4990 + b"\x0B" * 4990) * 6),
 }
 

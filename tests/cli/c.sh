@@ -68,8 +68,19 @@ refuses 'a text instead of an object' 'talft-set: control.asm: is an assembly te
   set control.asm goal=1
 cp "$top/examples/mixed.obj" .
 refuses 'an object that is not accepted' \
-  'talft-set: mixed.obj: not accepted with these words: check block 0 index 3 premise 2' \
+  'talft-set: mixed.obj: the object itself is not accepted: check block 0 index 3 premise 2' \
   set mixed.obj out=1
+# The address of the first cell is 1048576.
+sed 's/^cell out int 0$/&\ncell place ref:int 1048576/' "$top/examples/five.asm" >place.asm
+"$top/talft" asm place.asm >place.obj
+refuses 'a word that is not of the type of its cell' 'talft-set: place.obj: not accepted with these words: check cell 1' set place.obj place=7
+echo 'goal=1' >equals
+refuses 'a line with an equals sign' \
+  'talft-set: equals:1: unexpected `goal=1`: expected NAME VALUE, as `talft run` writes it; write a space for `=`' set control.obj --from equals
+: >nothing
+tool 'lines of no run' 0 '' set control.obj --from nothing -o x.obj
+report 'the note about them' 'talft-set: note: nothing: has no line of a cell, so no word is taken from it' "$(cat said)"
+misused 'a list and an object' 'talft-set: --list and -o exclude each other: --list writes no object' set control.obj --list -o x.obj
 
 # How runs end.
 five=$top/examples/five.obj
@@ -106,6 +117,13 @@ tool 'a loop on itself' 1 'running after 1000 steps: block 1 jumps to itself, as
   ending loop.obj --steps 1000
 sed 's/^jmp_G r0$/mov r1 G 7 int\nmov r33 B 7 int\n&/' trap.asm | sed 's/ 5 code:1/ 7 code:1/; s/word 5/word 7/' >longer.asm
 "$top/talft" asm longer.asm >longer.obj
+"$top/tools/faults" loop.obj --most 1000 --sites r5 --steps 998:1000 >loop.list 2>said
+report 'faults of a loop in place' 'talft-faults: the run is still running after 1000 steps, and for ever: it loops in place, as after a trap; '\
+'`talft-ending` says where' "$(head -n 1 said)"
+"$top/tools/campaign" loop.obj --faults loop.list --steps 1000 >loop.lines 2>said
+report 'a campaign of a loop in place' 'talft-campaign: the run without a fault is still running after 1000 steps, and for ever: it loops in place, '\
+'as after a trap; `talft-ending` says where
+talft-campaign: 2 struck runs were still running after 1,000 steps: the run without a fault never ends' "$(sed '/of 2 faults/d' said)"
 tool 'a trap of four instructions' 1 'trapped within 1000 steps: function run: offset 0x4b: division by zero\n' \
   ending longer.obj --text longer.asm --steps 1000
 tool 'a trap' 1 'trapped within 1000 steps: function run: offset 0x4b: division by zero\n' \
@@ -132,11 +150,26 @@ place = 0x408, colour = 0
 place = 0x408, colour = -1
 inside = 5, second = 4
 ' show types.obj types.lines
-echo 'spill[0] 7' >>types.lines
+echo 'again 7' >>types.lines
 report 'lines by type, as JSON' '{"cell": "wide", "word": 4609434218613702656, "values": {"wide": 1.5}}
-{"cell": "spill[0]", "word": 7, "values": {}}' "$("$top/tools/show" types.obj types.lines --json | grep -e wide -e spill)"
-report 'a line without a type' '[spill[0] 7]' "$("$top/tools/show" types.obj types.lines | tail -n 1)"
+{"cell": "again", "word": 7, "values": {}}' "$("$top/tools/show" types.obj types.lines --json | grep -e wide -e again)"
+report 'a line without a type' '[again 7]' "$("$top/tools/show" types.obj types.lines | tail -n 1)"
+refuses 'lines of another object' 'talft-show: lines:1: the object has no cell `force`; give the lines of a run of this object' \
+  show types.obj lines
+report 'what is given as --about' 'an object; the output of a run; an assembly text; ' "$(
+  for other in "$top/examples/five.obj" types.lines "$top/examples/five.asm"; do
+    "$top/tools/show" types.obj types.lines --about "$other" 2>&1 | sed -n 's/.*: this is \(.*\): expected a section, as `\[types\] SUM`$/\1/p'
+  done | sed 's/$/; /' | tr -d '\n')"
 tool 'another initial word' 0 '' set types.obj whole=5 -o types.set.obj
+report 'no note about a variable of its own' '' "$(cat said)"
+# 2.5 is 1.25 times 2, so its bits are 0x400 and a quarter.
+tool 'a number for a variable of type double' 0 '' set types.obj wide=2.5 -o types.wide.obj
+report 'its bits' "wide $((0x4004000000000000))" "$("$top/tools/set" types.wide.obj --list | grep wide)"
+misused 'such a number for an integer' 'talft-set: `whole`: invalid number `2.5`: expected decimal digits, or hex after 0x' set types.obj whole=2.5
+tool 'a word that two variables share' 0 '' set types.obj 'path[2]=5' -o types.path.obj
+report 'the note about it' 'talft-set: note: the cell `path[2]` holds `path[1].x` and `path[1].y` of the C program' "$(cat said)"
+refuses 'a variable that is half a word' 'talft-set: types.obj: unknown cell `path[1].y`; the cell `path[2]` holds `path[1].x` and `path[1].y` of '\
+'the C program: set the whole word; --list lists the cells' set types.obj 'path[1].y=5'
 tool 'its lines by type' 0 "$("$top/tools/show" types.obj types.lines)\n" show types.set.obj types.lines
 "$top/talft" schedule types.obj >types.later.obj
 cp types.about types.later.about
@@ -145,8 +178,13 @@ refuses 'types of another object' \
 '--fits if the cells are the same, as after `talft schedule`' show types.later.obj types.lines
 tool 'types of an object with the same cells' 0 "$("$top/tools/show" types.obj types.lines)\n" show types.later.obj types.lines --fits
 refuses 'an object without types' \
-  'talft-show: control.about: no such file: `talft-cc` writes it beside the object; the lines of other objects have '\
-'no types' show control.obj lines
+  'talft-show: control.about: no such file: `talft-cc` writes it beside an object whose module names types; for a scheduled object, give '\
+'that of the first with `--about FILE --fits`' show control.obj lines
+cp "$top/tests/c/results.wasm" results
+tool 'a module by its first bytes' 0 '' cc results -o again.obj
+report 'its object' 'the same object' "$(cmp results.obj again.obj && echo the same object)"
+report 'what is said if it names no types' \
+  "talft-cc: note: again.obj: the module names no types, so \`talft-show\` has none; clang's -gdwarf-4 names them" "$(grep note: said)"
 
 # Each kind of trap, in objects that trap as their modules do, and in objects that do not.
 report 'each kind of trap' "$(while read -r kind; do
@@ -192,6 +230,11 @@ said_of reference \
 said_of element \
   'function run: offset 0x43: an instruction on references (table.get); compile without -mreference-types'
 said_of import 'offset 0x11: imports the function env.reach; define it in C, and link without --allow-undefined'
+said_of unlinked 'is not linked; use wasm-ld or `talft-cc`'
+said_of full 'needs 1025 cells, 0 of them for spills, more than 1024; use less memory or a smaller -Wl,-z,stack-size=, or --exact'
+# Two calls have two words and two return addresses.
+said_of deep 'needs 1028 cells, 0 of them for spills and 4 for two nested calls, more than 1024; use less memory or a smaller '\
+'-Wl,-z,stack-size=, or --exact'
 said_of parameter 'exports no function without parameters; link with -Wl,--export=NAME'
 said_of without 'exports no function without parameters; link with -Wl,--export=NAME'
 said_of two 'exports 2 functions without parameters (run, step); use --entry NAME'
@@ -210,6 +253,14 @@ done
 refuses 'a module without the requested entry' \
   'talft-cc: refused/two.wasm: exports no function `walk`; use --entry with `run` or `step`' \
   cc refused/two.wasm --entry walk -o two.obj
+refuses 'an entry in another case' 'talft-wasm2asm: refused/two.wasm: exports no function `Run`; did you mean `run`?' \
+  wasm2asm refused/two.wasm --entry Run
+refuses 'a module that is too large for the tool for C' 'talft-cc: refused/full.wasm: needs 1025 cells, 0 of them for spills, more than 1024; use '\
+'less memory or a smaller -Wl,-z,stack-size=' cc refused/full.wasm -o x.obj
+tool 'a module that loops for ever' 0 '' cc refused/looping.wasm -o looping.obj
+report 'how far it is run' 'talft-cc: looping.obj: running after 10000 steps: block 1 jumps to itself' "$(tail -n 1 said)"
+tool 'a module that traps' 0 '' cc refused/trapped.wasm -o trapped.obj
+report 'its trap' 'talft-cc: trapped.obj: trapped within 10000 steps: function run: offset 0x3b: unreachable' "$(tail -n 1 said)"
 CLANG=nowhere refuses 'C without clang' 'talft-cc: nowhere: not found; install clang and lld, or set $CLANG to the path of clang' \
   cc "$top/examples/c/pid.c" -o none.obj
 report 'nothing is made' '' "$(ls two.obj none.obj 2>errors)"

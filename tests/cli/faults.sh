@@ -11,6 +11,8 @@ tool 'faults that flip given bits' 0 '4:r1:4\n4:r1:7\n4:r1:9223372036854775813\n
 tool 'faults of d and of the counters' 0 '2:d:1\n2:pcg:3\n2:pcb:3\n' faults "$five" --steps 2:3 --sites d,pcg,pcb
 # 14 steps with 67 sites each; before two of them, a pair is pending.
 tool 'the number of faults' 0 '942\n' faults "$five" --count
+tool 'no faults, before any pair is pending' 0 '' faults "$five" --sites qa0 --steps 0:2
+report 'the note about them' 'talft-faults: note: no such store is pending before these steps' "$(head -n 1 said)"
 tool 'the number of faults that flip each bit' 0 '60288\n' faults "$five" --count --flip all
 
 "$top/tools/faults" "$five" --flip all >five.all 2>said

@@ -15,6 +15,8 @@ cat lines lines >twice
 head -n 1 lines >cut
 : >empty
 echo 'int x; void run(void) { x = 1; }' >one.c
+"$top/tools/faults" five.obj --sample 1 --about list.about >one.list 2>said
+printf '# Facts.\n[types] %064d\n' 0 >types.about
 mkdir folder kept
 echo '{' >kept/campaign.json
 five_sites='r0 to r63, d, pcg, pcb, qa0 to qa7 and qv0 to qv7'
@@ -66,6 +68,9 @@ done <<END
 1|faults list|talft-faults: list: is a fault list; expected an object
 2|faults five.obj --sample -1|talft-faults: \`--sample\`: invalid number \`-1\`: expected a whole number, at least 0
 2|faults five.obj --sample 1 --sample 2|talft-faults: \`--sample\` is given twice
+2|faults five.obj --count --about x|talft-faults: --count and --about cannot be combined: --count writes no list
+1|campaign five.obj --faults list.about|talft-campaign: list.about: is the file of \`talft-faults --about\`; expected a fault list
+1|campaign five.obj --faults types.about|talft-campaign: types.about: is a text about an object (NAME.about); expected a fault list
 1|faults five.obj --about five.obj|talft-faults: five.obj: is an input; give the output another name
 1|campaign five.obj --faults list --database five.asm|talft-campaign: --database: five.asm: is not an SQLite database; give another file
 1|campaign five.obj --faults list --database nofolder/x|talft-campaign: nofolder/x: there is no folder \`nofolder\`
@@ -100,6 +105,8 @@ done <<END
 1|report none --object five.obj|talft-report: none: has no faults to show: its campaign had an empty list
 1|report lines --object five.obj --out folder|talft-report: folder: is a folder; give the output a file name
 1|report lines --object five.obj --source one.src|talft-report: one.src: is not the source of five.obj: the instructions differ
+1|plot lines --object other.obj|talft-plot: lines:1: \`4:r1:6 detected 11\`: on other.obj this fault is masked; give the object of this campaign, and the same --wild
+2|plot lines --wild stop|talft-plot: --wild needs --object
 1|report lines --object other.obj|talft-report: lines:1: \`4:r1:6 detected 11\`: on other.obj this fault is masked; give the object of this campaign, and the same --wild
 2|explain five.obj|talft-explain: missing \`--fault STEP:SITE:WORD\`
 1|explain folder --fault 4:r1:6|talft-explain: folder: is a folder
@@ -134,6 +141,7 @@ done <<END
 2|cc one.c|talft-cc: missing \`-o OBJECT\`, as in \`talft-cc one.c -o one.obj\`
 2|cc one.c -o x.obj -Wl,-z,stack-size=4096|talft-cc: \`-Wl,-z,stack-size=4096\`: use \`--stack BYTES\`
 2|cc one.c -o x.obj -lm|talft-cc: unknown option \`-lm\`: there are no libraries; \`talft-cc\` makes talft objects; for a program of this machine use gcc or cc
+2|cc one.c -o x.obj --target=x86|talft-cc: unknown option \`--target\`: the target is always wasm32
 2|cc one.c -o x.obj --stak 16|talft-cc: unknown option \`--stak\`; did you mean \`--stack\`?
 1|cc one.c one.c -o x.obj|talft-cc: one.c: is given twice
 1|cc one.c -o nofolder/x.obj|talft-cc: nofolder/x.obj: there is no folder \`nofolder\`
@@ -181,9 +189,25 @@ CLANG=$PWD/clang CLANG_SAYS=$PWD/unable TMPDIR=/nonexistent refuses 'a missing T
   'talft-cc: clang cannot make a temporary file: TMPDIR is `/nonexistent`: set it to a writable folder' cc one.c -o x.obj
 CLANG=$PWD/clang CLANG_SAYS=$PWD/unable TMPDIR='' TMP='' TEMP='' TEMPDIR='' refuses '/tmp, which cannot be written' \
   'talft-cc: clang cannot make a temporary file: /tmp cannot be written: set TMPDIR to a writable folder' cc one.c -o x.obj
+printf '#!/bin/sh\ncase $* in *print-resource-dir) echo /nonexistent;; *) echo "error: a.o: undefined symbol: $SYMBOL" >&2; exit 1;; esac\n' >linker
+chmod +x linker
+for symbol in __multi3 __udivti3 __addtf3 __floattidf; do
+  SYMBOL=$symbol CLANG=$PWD/linker refuses "$symbol without compiler-rt" "talft-cc: operations on 128 bits ($symbol) need compiler-rt for wasm32: \
+install libclang-rt-14-dev-wasm32 (for clang 14), or use integers of at most 64 bits" cc one.c -o x.obj
+done
+SYMBOL=__timer CLANG=$PWD/linker refuses 'a function that is not of compiler-rt' 'talft-cc: clang cannot compile or link one.c: its messages are '\
+'above; `__timer` is not defined: add the C file that defines it, or do without: there is no C library (docs/C.md)' cc one.c -o x.obj
+"$top/tools/build" five.asm -o given.obj >redirected 2>said
+report 'nothing to say about an object with a name' '' "$(cat said)"
+"$top/tools/build" five.asm >redirected 2>said
+report 'the object that is written' 'talft-build: wrote five.obj, and nothing to standard output' "$(cat said)"
 if has clang 'the functions of a C file' && has wasm-ld 'the functions of a C file'; then
   printf 'int x;\nint foo(void) { return x + 1; }\nvoid step(int a) { x = a; }\n' >two.c
   echo 'static int x;' >nothing.c
+  printf '#include "five.h"\nvolatile long long x;\nvoid run(void) { x = FIVE + ONE; }\n' >parted.c
+  echo '#define FIVE 5' >folder/five.h
+  tool 'options of clang in two words' 0 '' cc -I folder -D ONE=1 parted.c -o parted.obj
+  expect 'what they say' 0 'x 6\n' run parted.obj
   TMPDIR=/nonexistent refuses 'a TMPDIR that clang does not find' \
     'talft-cc: clang cannot make a temporary file: TMPDIR is `/nonexistent`: set it to a writable folder' cc two.c -o x.obj
   refuses 'a C file without an entry' 'talft-cc: two.c: defines no function `run` or `main`; use --entry with `foo` or `step`' \

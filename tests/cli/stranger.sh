@@ -604,7 +604,7 @@ set \$TALFT; otherwise report it" \
 # On a terminal, a tool that reads standard input says so.
 if has script 'tools that read from a terminal'; then
   report 'the lines of a run from a terminal' 'talft-set: reading the lines of a run from standard input, until Ctrl-D' \
-    "$(timeout 60 script -qec "$top/tools/set five.obj --from - --list" /dev/null </dev/null | tr -d '\r' | grep '^talft-set')"
+    "$(timeout 60 script -qec "$top/tools/set five.obj --from - --list" /dev/null </dev/null | tr -d '\r' | grep -m 1 '^talft-set')"
   report 'the adapter on a terminal' "talft-dap: waiting for an editor's requests on standard input; Ctrl-C ends it" \
     "$(timeout 60 script -qec "timeout 2 $top/tools/dap" /dev/null </dev/null | tr -d '\r' | grep '^talft-dap: waiting')"
 fi

@@ -88,6 +88,8 @@ class Module:
         module, name, what = part.name(), part.name(), part.byte()
         if what not in IMPORTS:
             part.refuse("an import of an unknown kind", here)
+        if name == "__linear_memory":
+            raise Refused("is not linked", "use wasm-ld or `talft-cc`")
         raise Refused(f"imports the {IMPORTS[what][0]} {plain(module + '.' + name)}", IMPORTS[what][1], offset=here)
 
     def func(self, part, i):

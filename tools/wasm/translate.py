@@ -2,6 +2,8 @@
 import gc
 import os
 
+from messages import near
+
 from .bits import optimise
 from .build import Builder
 from .called import callees
@@ -19,6 +21,8 @@ from .text import Text, return_name
 
 
 NO_END = "does not say where its data ends"
+# Advice for tools/wasm2asm alone.
+NOT_PADDED = ", or --exact"
 
 
 class Options:
@@ -56,7 +60,8 @@ def choose_entry(module, name):
             raise Refused("exports no function without parameters", "link with -Wl,--export=NAME")
         name = found[0]
     if name not in exported:
-        raise Refused(f"exports no function `{plain(name)}`", "link with -Wl,--export=" + plain(name))
+        meant = near(name, exported)
+        raise Refused(f"exports no function `{plain(name)}`{meant}", "" if meant else "link with -Wl,--export=" + plain(name))
     func = exported[name]
     if func.params:
         raise Refused(f"the entry takes {counted(len(func.params), 'parameter')}",
@@ -197,8 +202,10 @@ def translated(path, data, options):
     if program.recursive:
         program.take_cells(cells + program.cells, room)
     if room < 0 or program.recursive and program.most < 2:
-        raise Refused(f"needs {cells + program.cells} cells, {program.cells} of them for spills, more than "
-                      f"{MOST_CELLS}", "use less memory, or --exact")
+        nested = 2 * (program.frame + len(program.recursive)) if program.recursive else 0
+        calls = f" and {nested} for two nested calls" if nested else ""
+        raise Refused(f"needs {cells + program.cells + nested} cells, {program.cells} of them for spills{calls}, more than "
+                      f"{MOST_CELLS}", "use less memory or a smaller -Wl,-z,stack-size=" + NOT_PADDED)
     emitter = emitted(program, memory, cells, options)
     table, result = table_of(memory, bool(entry.results), program.cells, program.most * program.frame)
     text = Text(emitter, [(name, word) for name, word, _ in table])

@@ -24,11 +24,11 @@ def traps_of(text):
     return {int(match[1]): match[2] for match in map(TRAP.fullmatch, text.splitlines()) if match}
 
 
-def ending(object_file, most, strikes=()):
+def ending(object_file, most, strikes=(), wild=None):
     """Runs the object for at most this many steps. Its run stays where it is if a whole state recurs within the next
     steps, in one block and without an output."""
     script, state = path(strikes, 0, most), [*(f"reg {name}" for name in REGISTERS), "queue", "where"]
-    answers = ask(object_file, [*script, *state, *(["step 2", *state] * MOST_STAYING)])
+    answers = ask(object_file, [*script, *state, *(["step 2", *state] * MOST_STAYING)], wild)
     outputs, made = answers.path(script)
     if not all(made):
         raise Refused("nothing was struck: the run had ended, or the queue has no such entry at that step")
@@ -37,6 +37,13 @@ def ending(object_file, most, strikes=()):
     if how == "running" and first.block is not None and recurs(answers, first):
         how = "staying"
     return Ending(how, first.position, first.block, outputs.splitlines())
+
+
+def in_place(object_file, steps, wild=None):
+    """What to say of a run without a fault that has not ended after so many steps, if it loops in place; else None."""
+    if ending(object_file, steps, wild=wild).how != "staying":
+        return None
+    return f"is still running after {steps} steps, and for ever: it loops in place, as after a trap; `talft-ending` says where"
 
 
 def recurs(answers, first):
