@@ -170,7 +170,7 @@ class Session:
                 stop = find(max(start, here - 1), end, every)
                 # `find` has looked at a whole turn of a loop that had begun by then.
                 if stop.reason == "limit" and not breaks.are_counted(every) and (turn := self.turn(end - MOST_TURN)):
-                    stop = runs.Stop(self.loop_start(here, end), "running", "loop", turn)
+                    stop = runs.Stop(self.loop_start(max(start, here - MOST_TURN), end), "running", "loop", turn)
                 if stop.reason != "limit":
                     return self.arrive(stop, again)
                 here = end
