@@ -102,7 +102,7 @@ mkfifo typed
 "$top/tools/debugger" quiet.src <typed >written 2>&1 &
 killed=$!
 exec 7>typed
-echo continue >&7
+echo goto 3000000000 >&7
 sleep 2
 for ((n = 0; n < 100; n++)); do call=$(child "$killed" talft) && [ -n "$call" ] && break; sleep 0.1; done
 kill -KILL "$killed"
@@ -238,9 +238,33 @@ says 'the meaning of d' 'help d' \
   'the machine stops itself: detected. So a strike that changes d is detected by the next jump or branch.'
 program=endless.obj
 says 'a run without an end' end 'the run has not ended after 1,000,000 more steps: `end` continues'
+goes_on='nothing halts the run in 1,000,000 more steps: the same command goes on'
+says 'continue stops after as many steps' continue "$goes_on"
+says 'and goes on' 'continue\nbreak 0:0\ncontinue' "$goes_on"
+says 'likewise until' 'until 0:0' "$goes_on"
+report 'where it stops' 'at 1000000 running|at 2000000 running' "$(session endless.obj c c | kept '^at [1-9]')"
 says 'no lines of an object alone' line \
   'no source lines are known: `next` executes an instruction; `talft-debugger OBJECT --source SOURCE` names the source of an '\
 'object'
+# A turn has four instructions. Once both registers are set, at 4, each turn is as the one before.
+printf '%s\n' 'node 0 memory' 'type 0 0' 'block 0' 'mov r2 G 1 code:0' 'mov r34 B 1 code:0' 'jmp_G r2' 'jmp_B r34 0' 'entry 0' \
+  >trap.asm
+loop='the run is in an endless loop: every 8 steps all is as before, and nothing is stored (a trap is such a loop: '\
+'`talft-ending` names it)'
+program=trap.asm
+report 'continue stops where an endless loop begins' "at 4 running|$loop" "$(session trap.asm 'break 0:0' 'goto 3' 'delete' c |
+  kept '^(at 4|the run is)')"
+says 'end says so' end "$loop"
+program=quiet.src
+says 'a line that never ends' 'goto 100\nline' "${loop/every 8/every 36}"
+program=$five
+says 'a strike that was not made' 'plan 4:qa0:6\nend' 'the strike 4:qa0:6 was not made: nothing was there'
+says 'explain says so' 'plan 4:qa0:6\nend\nexplain' 'the strike 4:qa0:6 was not made: nothing was there'
+says 'a variable of an object alone' 'print a' 'unknown name `a`: expected a register (r0 to r63, d, pcg, pcb), a part of '\
+'the queue (qa0 to qv7) or a cell; a variable needs `--source SOURCE`'
+says 'two commands at once' 'next 3; step 2' 'one command at a time: give each its own line, or its own `-c`'
+program=$fibonacci
+says 'two strikes' 'goto 296\nzap r0 9\nzap r32 9\nend\nexplain' '2 strikes were made: the promise covers one'
 program=$top/examples/sieve.src
 # The command that a recording prints replays it.
 again=$(cd "$top/examples" && session sieve.src "record $work/recorded" 'goto 50' 'zap r1 7' |
@@ -312,6 +336,29 @@ misused 'an invalid fault' 'talft-explain: invalid fault `4`: expected STEP:SITE
 report 'the path of a fault in README' '' "$(sed -n '/^\$ tools\/bin\/talft-explain/,/^```/p' "$top/README.md" | sed '1d; $d' |
   diff - <("$top/tools/explain" "$fibonacci" --fault 296:r32:7))"
 
+# Step 327 detects this fault, so the run has taken 328 steps where the debugger shows it.
+"$top/talft" compile "$fibonacci" >fibonacci.obj
+TALFT_EXPLAIN=1 "$top/talft" run fibonacci.obj --fault 296:r32:7 >written 2>said
+report 'the step that detects, and the position after it' \
+  'detected at step 327|detected at step 327|at 328 detected|296:r32:7 detected 327' \
+  "$( (cat said; "$top/tools/explain" fibonacci.obj --fault 296:r32:7; session fibonacci.obj 'plan 296:r32:7' end
+    echo 296:r32:7 >one.faults; "$top/talft" campaign fibonacci.obj --faults one.faults) |
+    grep -oE 'detected at step [0-9]+|^at [0-9]+ detected|^296:.* detected [0-9]+' | paste -sd '|')"
+"$top/talft" schedule fibonacci.obj >scheduled.obj
+refuses 'the lines of a scheduled object' "talft-debugger: scheduled.obj: is scheduled, so its instructions have no lines in \
+$fibonacci; debug the object that \`talft compile\` wrote" debugger scheduled.obj --source "$fibonacci"
+"$top/tools/set" "$five" out=3 -o set.obj >written 2>&1
+report 'the text of an object with other initial words' 'at 10 running|out 3' \
+  "$("$top/tools/debugger" set.obj --text "$five_text" -c 'goto 10' -c 'print out' </dev/null | kept '^(at 10|out)')"
+report 'a path in its lines' 'five.asm:20' \
+  "$("$top/tools/explain" set.obj --text "$five_text" --fault 4:r1:6 | grep -om1 'five.asm:20')"
+misused 'a source of a source' "talft-explain: --source: $fibonacci is a source itself; leave --source out" \
+  explain "$fibonacci" --source "$debugging/lines.src" --fault 4:r1:6
+echo 'long long out;' >one.c
+refuses 'C as a source' \
+  'talft-debugger: one.c: is a C program; expected a source; `--text` takes the text that `talft-cc --text` wrote' \
+  debugger "$five" --source one.c
+
 # The lines of each example. The tool compares the words with the object's before it writes any line.
 for source in "$top"/examples/*.src; do
   "$top/talft" compile "$source" >one.obj 2>said || continue
@@ -375,6 +422,8 @@ if has tmux 'the screen and the prompt in a terminal'; then
     'await o at 788' q)
   report 'the page of a path has its lines' '  at 754  r3 40, not 26  add r3 r3 r4  (sieve.src:13)' \
     "$(grep 'at 754' <<<"$screen")"
+  keyed="$top/tools/debugger $work/trap.asm --tui"
+  report 'an endless loop on the screen' 1 "$(on 'await lists the keys' c 'await endless loop' shot q | grep -c 'o at 4 running')"
   # If the screen is killed, the terminal is restored.
   keyed="bash -c '$top/tools/debugger $five_text --tui; echo status \$?; stty -a; sleep 60'"
   screen=$(on 'await o at 0 running' terminate 'await status' shot)
@@ -387,8 +436,8 @@ if has tmux 'the screen and the prompt in a terminal'; then
   report 'an empty line steps again' yes "$(grep -q '^at 2 running' <<<"$screen" && echo yes)"
   # Ctrl-C ends an endless run; closing the terminal during one leaves nothing running.
   keyed="$top/tools/debugger $work/endless.obj"
-  screen=$(on 'await (talft)' text:c Enter 'pause 2' C-c 'await interrupted' text:where Enter 'await pcb' shot text:c \
-    Enter kill)
+  screen=$(on 'await (talft)' text:c Enter 'await steps so far; Ctrl-C interrupts' C-c 'await interrupted' text:where \
+    Enter 'await pcb' shot text:c Enter kill)
   report 'a run that is interrupted' \
     'at P running|interrupted: the run stays at P; `continue` resumes it|at P running' \
     "$(position=$(sed -n 's/.*the run stays at \([1-9][0-9]*\);.*/\1/p' <<<"$screen"); sed "s/^^C//; s/ pcg.*//

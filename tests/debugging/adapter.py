@@ -162,6 +162,28 @@ def refusals(tests):
     tests.close(client)
 
 
+def wrong(tests):
+    """Arguments that are not what the protocol or the adapter knows."""
+    client = Client()
+    five, at = os.path.join(EXAMPLES, "five.asm"), "`launch`: "
+    for name, wrong, wanted in (("program", ["x"], "the name of an object, an assembly text or a source"),
+                                ("text", 5, "the name of an assembly text"), ("fault", 5, "a text STEP:SITE:WORD"),
+                                ("wild", {"a": 1}, "a text LIST, or a list of numbers and `stop`"),
+                                ("stopOnEntry", "yes", "true or false")):
+        tests.check(f"an invalid {name}", f"{at}`{name}`: expected {wanted}",
+                    client.ask("launch", {"program": five, name: wrong})["message"])
+    tests.check("invalid answers", True, client.ask("launch", {"program": five, "wild": [1, "go"]})["message"].startswith(
+        f"{at}`wild`: invalid answers `1,go`: expected "))
+    client.body("launch", {"program": five, "faults": "4:r1:6", "type": "talft", "name": "one", "request": "launch",
+                           "args": [], "cwd": "/", "__restart": None})
+    tests.check("an argument that is nearly one", f"{at}unknown argument `faults`; did you mean `fault`?\n",
+                client.event("output")["output"])
+    tests.check("a missing argument", "`setVariable`: missing argument `name`", client.ask("setVariable", {})["message"])
+    # The client is wrong here on purpose.
+    client.bad = [line for line in client.bad if not line.startswith("client: ")]
+    tests.close(client)
+
+
 def port(tests):
     """An endless run over a port, which `pause` ends; and two clients at once, one of which leaves."""
     server = subprocess.Popen([DAP, "--port", "0"], stderr=subprocess.PIPE, universal_newlines=True)
@@ -223,7 +245,7 @@ def broken(tests):
 
 def main(names):
     tests = Tests()
-    for name in names or ["assembly", "source", "refusals", "port", "broken"]:
+    for name in names or ["assembly", "source", "refusals", "wrong", "port", "broken"]:
         globals()[name](tests)
     print(f"{tests.passed} passed, {tests.failed} failed; {tests.messages} messages")
     return 1 if tests.failed else 0

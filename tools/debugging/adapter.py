@@ -2,6 +2,7 @@
 import hmac
 import os
 import threading
+from argparse import ArgumentTypeError
 
 from common import Refused
 from debugging import explaining, runs, stepping
@@ -10,7 +11,8 @@ from debugging.adapter_views import THREAD, Views
 from debugging.person import Session
 from debugging.sessions import Interrupted
 from debugging.target import Target
-from messages import named
+from messages import named, near, quoted
+from options import wild_answers
 
 # The longest assembly text that the program reads; objects and sources are shorter.
 MOST_BYTES = 134_217_728
@@ -24,13 +26,44 @@ CAN = ["supportsConfigurationDoneRequest", "supportsStepBack", "supportsDisassem
        "supportsCompletionsRequest", "supportsExceptionInfoRequest", "supportsLoadedSourcesRequest",
        "supportsBreakpointLocationsRequest", "supportsValueFormattingOptions", "supportsConditionalBreakpoints",
        "supportsHitConditionalBreakpoints"]
+# The arguments of `launch`, and what each is.
+LAUNCH = {"program": (str, "the name of an object, an assembly text or a source"),
+          "text": (str, "the name of an assembly text"), "source": (str, "the name of a source"),
+          "fault": (str, "a text STEP:SITE:WORD"), "wild": ((str, list), "a text LIST, or a list of numbers and `stop`"),
+          **dict.fromkeys(("stopOnEntry", "stopAtEnd", "noDebug"), (bool, "true or false")), "token": (str, "a text")}
 FILTER = {"filter": "detected", "label": "Detected", "default": True,
           "description": "Halts where the machine has stopped itself"}
 
 
+def check_launch(asked):
+    """Refuses arguments of `launch` that are of another kind; null is the same as none."""
+    for name, (kind, wanted) in LAUNCH.items():
+        if asked.get(name) is not None and not isinstance(asked[name], kind):
+            raise Refused(f"`launch`: `{name}`: expected {wanted}")
+    if asked.get("program") is None:
+        raise Refused(f"`launch`: missing `program`: {LAUNCH['program'][1]}")
+
+
+def answers_of(wild):
+    """The answers to wild loads, which a launch may give as a text or as a list."""
+    if wild is None:
+        return None
+    try:
+        return wild_answers(",".join(map(str, wild)) if isinstance(wild, list) else wild)
+    except ArgumentTypeError as error:
+        raise Refused(f"`launch`: `wild`: {error}") from error
+
+
+def unknown(asked):
+    """What is said about unknown arguments that resemble a known one, as lines. Clients add others of their own."""
+    told = [f"`launch`: unknown argument {quoted(name)}{hint}\n" for name in asked
+            if name not in LAUNCH and (hint := near(name, LAUNCH))]
+    return "".join(told)
+
+
 def check_file(path):
     """Refuses a file that cannot be a program, before it is read."""
-    if not isinstance(path, str) or not os.path.exists(path) or os.path.isdir(path):
+    if path is None or not os.path.exists(path) or os.path.isdir(path):
         return
     if not os.path.isfile(path):
         raise Refused(f"{named(path)}: is not an ordinary file")
@@ -71,14 +104,19 @@ class Adapter(Views, Breaks):
             return self.wire.refuse(request, f"unknown request `{command}`")
         if not self.session and command not in FIRST:
             return self.wire.refuse(request, "no program has been launched: send `launch` first")
+        asked = request.get("arguments") or {}
+        if not isinstance(asked, dict):
+            return self.wire.refuse(request, f"`{command}`: `arguments` is not a JSON object")
         try:
-            return call(request, request.get("arguments") or {})
+            return call(request, asked)
         except Refused as error:
             return self.wire.refuse(request, str(error))
         except Interrupted:
             return self.wire.refuse(request, "interrupted")
-        except (AttributeError, IndexError, KeyError, TypeError, ValueError) as error:
-            return self.wire.refuse(request, f"`{command}`: invalid arguments: {error!r}")
+        except KeyError as error:
+            return self.wire.refuse(request, f"`{command}`: missing argument `{error.args[0]}`")
+        except (AttributeError, IndexError, TypeError, ValueError):
+            return self.wire.refuse(request, f"`{command}`: an argument is not of the kind that the protocol gives")
 
     # BEGIN AND END
 
@@ -97,13 +135,10 @@ class Adapter(Views, Breaks):
 
     def on_launch(self, request, asked):
         self.check_token(asked)
-        if not isinstance(asked.get("program"), str):
-            raise Refused("`launch`: missing `program`: the name of an object, an assembly text or a source")
+        check_launch(asked)
         for file in (asked["program"], asked.get("text"), asked.get("source")):
             check_file(file)
-        wild = asked.get("wild")
-        wild = ",".join(str(part) for part in wild) if isinstance(wild, list) else wild
-        target = Target(asked["program"], wild, asked.get("text"), asked.get("source"))
+        target = Target(asked["program"], answers_of(asked.get("wild")), asked.get("text"), asked.get("source"))
         try:
             session = Session(target, asked.get("fault"))
             session.state()
@@ -114,6 +149,8 @@ class Adapter(Views, Breaks):
         self.close()
         self.session, self.asked = session, asked
         self.wire.answer(request)
+        if told := unknown(asked):
+            self.wire.event("output", {"category": "important", "output": told})
         self.wire.event("process", {"name": os.path.basename(asked["program"]), "isLocalProcess": True,
                                     "startMethod": "launch"})
         self.wire.event("initialized")
@@ -203,6 +240,8 @@ class Adapter(Views, Breaks):
             return self.stopped("pause", f"Done, {at}: you can step back")
         if why == "start":
             return self.stopped("entry", "At the start")
+        if why == "loop":
+            return self.stopped("pause", f"In an endless loop of {stop.what} steps, {at}")
         if why == "interrupted":
             return self.stopped("pause", f"Interrupted, {at}")
         return self.stopped(reason, f"{state.status}, {at}")

@@ -2,7 +2,7 @@
 import re
 
 from common import Refused
-from debugging import breaks, explaining, stepping, views
+from debugging import breaks, explaining, runs, stepping, views
 from debugging.commands_shown import Shown
 from debugging.help import ALONE, ELSEWHERE, HELP, SHORT
 from debugging.reading import no_more, no_sign, number, one_word, word_of
@@ -10,7 +10,7 @@ from messages import listed, named, near, quoted, reason
 
 # How many outputs of a move are printed, and the longest move whose changes are printed.
 MOST_OUTPUTS, MOST_CHANGED = 20, 64
-# How far `end` goes.
+# How far `end` goes, and without a terminal each move that looks for its end.
 MOST_TO_END = 1_000_000
 MOST_NESTED = 8
 
@@ -55,6 +55,8 @@ class Commands(Shown):
         if not match:
             raise Refused(f"unknown command {quoted(line)}; `help` lists the commands")
         name, words = self.resolve(match[1]), match[3].split()
+        if ";" in line and name not in ("source", "record"):
+            raise Refused("one command at a time: give each its own line, or its own `-c`")
         call = getattr(self, "do_" + name.replace("-", "_"))
         if name in ("source", "record") and words:
             # A path may contain blanks.
@@ -133,8 +135,10 @@ class Commands(Shown):
     def forward(self, count, by_line):
         """Steps instructions or lines forward; names the breakpoints that end the move."""
         old = self.session.position
-        self.moved(stepping.forward, self.session, count, by_line)
-        if self.session.position > old:
+        stop = self.moved(stepping.forward, self.session, count, by_line)
+        if isinstance(stop, runs.Stop):
+            self.halted(stop)
+        elif self.session.position > old:
             self.told_breaks()
 
     def do_reverse_next(self, words):
@@ -192,6 +196,15 @@ class Commands(Shown):
             self.say("this is the start")
         elif stop.reason == "interrupted":
             self.say(f"interrupted: the run stays at {stop.position}; `continue` resumes it")
+        elif stop.reason == "limit":
+            self.say(f"nothing halts the run in {MOST_TO_END:,} more steps: the same command goes on")
+        elif stop.reason == "loop":
+            self.say(self.looping(stop.what))
+
+    def looping(self, turn):
+        """What is said about a run that repeats itself."""
+        return (f"the run is in an endless loop: every {turn} steps all is as before, and nothing is stored "
+                "(a trap is such a loop: `talft-ending` names it)")
 
     def do_goto(self, words):
         if not words:
@@ -223,7 +236,9 @@ class Commands(Shown):
     def do_end(self, words):
         self.moved(self.session.go_to, self.session.position + MOST_TO_END)
         if self.session.state().status == "running":
-            self.say(f"the run has not ended after {MOST_TO_END:,} more steps: `end` continues")
+            turn = self.session.turn(self.session.position)
+            self.say(self.looping(turn) if turn else
+                     f"the run has not ended after {MOST_TO_END:,} more steps: `end` continues")
 
     def do_undo(self, words):
         self.moved(self.session.undo)

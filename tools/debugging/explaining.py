@@ -226,7 +226,12 @@ def explain(session):
     """What stopped the run, and what strikes have changed up to there, as lines."""
     state = session.state()
     lines = stop_lines(session)
-    if not any(s.step <= state.position for s in session.strikes):
+    passed_by = [s for s in session.strikes if s.step <= state.position]
+    made = [s for s in passed_by if not session.timeline.idle.get(s)]
+    if passed_by and not made:
+        names = ", ".join(f"{s.step}:{s.site}:{s.word}" for s in passed_by)
+        return lines + [f"the strike {names} was not made: nothing was there"] + session.target.refusal()
+    if not made:
         ahead = ", ".join(f"{s.step}:{s.site}:{s.word}" for s in session.strikes)
         if ahead and state.status == "running":
             return lines + [f"the strike {ahead} is still ahead: `continue` first, then `explain`"]
@@ -234,5 +239,8 @@ def explain(session):
             return lines + ["no strike was made: the object itself does this"] + session.target.refusal()
         return lines + [f"no strike was made: the run ends before {ahead}" if ahead else "no strike was made"]
     told, cause = way_lines(session, state.position)
-    lines += ["the path of the fault (what differs from the run without it):"] + told + [end_line(session)]
+    end = end_line(session)
+    lines += ["the path of the fault (what differs from the run without it):"] + told + [end]
+    if len(made) > 1 and "DIFFER" in end:
+        lines.append(f"{len(made)} strikes were made: the promise covers one")
     return lines + cause + session.target.refusal()

@@ -9,7 +9,8 @@ HELP = {
     "reverse-next": ("reverse-next [N], rn", "N instructions back (1)", "rn", ""),
     "reverse-line": ("reverse-line [N], rl", "N source lines back (1)", "rl", ""),
     "continue": ("continue, c", "forward to a breakpoint, a change of a watched word, or the end", "continue",
-                 "Ctrl-C interrupts it: the session stays where the run got to"),
+                 "it also stops in an endless loop, and without a terminal after 1,000,000 steps. Ctrl-C interrupts it:\n"
+                 "the session stays where the run got to"),
     "reverse-continue": ("reverse-continue, rc", "back to a breakpoint, before a change, or the start", "rc", ""),
     "until": ("until [PLACE]", "forward to a place, or past this instruction or line", "until 1:0",
               "PLACE is as for `break`: sieve.src:11 is a line; breakpoints also halt"),

@@ -32,6 +32,11 @@ class Instruction:
         return self.source_line or self.line
 
 
+def without_initial(lines):
+    """The lines of an assembly text without the initial words of its cells, which `talft-set` may have changed."""
+    return [line.rsplit(" ", 1)[0] if line.startswith("cell ") else line for line in lines]
+
+
 class Listing:
     """A text as `dis` writes it, or the user's own with the same words.
 
@@ -65,8 +70,8 @@ class Listing:
         self.code.append(Instruction(" ".join(words), len(self.code) + 1, block, index, number))
 
     def said(self):
-        """The lines that are neither empty nor comments, with single spaces."""
-        return [" ".join(line.split()) for line in self.lines if line.split() and line.split()[0][0] != "#"]
+        """The lines that are neither empty nor comments, with single spaces and without initial words."""
+        return without_initial(" ".join(line.split()) for line in self.lines if line.split() and line.split()[0][0] != "#")
 
     def at(self, address):
         """The instruction at a code address, or None."""

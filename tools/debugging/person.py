@@ -10,6 +10,8 @@ from debugging.sessions import Interrupted, Strike, Timeline
 from messages import near, quoted
 
 MOST_UNDONE = 1_000
+# The longest turn of a loop that is recognized as endless, in steps.
+MOST_TURN = 256
 
 
 class Session:
@@ -21,6 +23,8 @@ class Session:
         self.position, self.strikes = 0, ()
         self.breaks, self.watches, self.next_number = {}, {}, 1
         self.past, self.journal = [], Journal()
+        # How far a move that looks for its end goes at most, and what is called as it goes on, with the steps so far.
+        self.most, self.progress = None, lambda steps: None
         if fault:
             self.plan(fault)
 
@@ -79,8 +83,9 @@ class Session:
         """What to say about an unknown name."""
         variable = ", a cell or a variable" if self.target.names is not None else " or a cell"
         known = list(self.target.listing.cells) + list(self.target.names or {})
+        more = "; a variable needs `--source SOURCE`" if self.target.kind == "object" and self.target.names is None else ""
         return Refused(f"unknown name {quoted(name)}: expected a register (r0 to r63, d, pcg, pcb), a part of the "
-                       f"queue (qa0 to qv7){variable}{near(name, known)}")
+                       f"queue (qa0 to qv7){variable}{near(name, known) or more}")
 
     def registers_of(self, name):
         """The pair of registers of a variable of the source, or the name itself."""
@@ -154,19 +159,42 @@ class Session:
         every = list(self.breaks.values()) + list(more)
         if len(breaks.places_of(every)) > breaks.MOST:
             raise Refused(breaks.TOO_MANY)
-        here = self.position
+        return self.search(self.first_stop, every)
+
+    def search(self, find, every, again=False):
+        """Forward to where `find` stops, in longer and longer stretches; to a loop that never ends, or to the limit."""
+        start = here = self.position
         try:
-            for end in runs.stretches(self.position):
+            for end in runs.stretches(start, self.most):
                 # This stretch also looks at the end of the previous one.
-                stop = self.first_stop(max(self.position, here - 1), end, every)
+                stop = find(max(start, here - 1), end, every)
+                # `find` has looked at a whole turn of a loop that had begun by then.
+                if stop.reason == "limit" and not breaks.are_counted(every) and (turn := self.turn(end - MOST_TURN)):
+                    stop = runs.Stop(self.loop_start(max(start, here - MOST_TURN), end), "running", "loop", turn)
                 if stop.reason != "limit":
-                    return self.arrive(stop)
+                    return self.arrive(stop, again)
                 here = end
+                self.progress(here - start)
+            return self.arrive(stop, again)
         except (Interrupted, KeyboardInterrupt) as error:
-            if here == self.position:
+            if here == start:
                 raise Interrupted from error
         with self.timeline.calls.unstoppable():
-            return self.arrive(runs.Stop(here, "running", "interrupted", None))
+            return self.arrive(runs.Stop(here, "running", "interrupted", None), again)
+
+    def turn(self, position):
+        """The steps of a turn if the run is in a short loop at a position, and can never leave it; else None."""
+        if self.target.wild or any(strike.step > position for strike in self.strikes):
+            return None
+        position += position % 2
+        return runs.turn_of(self.timeline.span(position, position + MOST_TURN, self.strikes))
+
+    def loop_start(self, low, high):
+        """Where the run entered the loop that it is in at position `high`, if not before `low`."""
+        while low < high:
+            middle = (low + high) // 2
+            low, high = (low, middle) if self.turn(middle) else (middle + 1, high)
+        return low + low % 2
 
     def first_stop(self, start, end, every):
         """Where a run first stops between two positions, and why: a breakpoint, a change, its stop, or the limit."""
@@ -221,9 +249,9 @@ class Session:
         starts = [self.target.listing.at_place(block, 0) for block in range(len(self.target.listing.blocks))]
         return self.go([breaks.Break([instruction]) for instruction in starts if instruction])
 
-    def arrive(self, stop):
+    def arrive(self, stop, again=False):
         """Goes to where a run stops."""
-        self.go_to(stop.position)
+        self.go_to(stop.position, again)
         return stop
 
     # STRIKES

@@ -1,5 +1,6 @@
 """Long runs of a session: forward and back to breakpoints, and the state at many of them from one call."""
 import collections
+import math
 
 from debugging.machine import is_fetch
 from debugging.sessions import MOST_STEPS, path
@@ -25,15 +26,28 @@ def break_lines(places):
     return [f"break {block} {index}" for block, index in sorted(places)]
 
 
-def stretches(position):
-    """Where a run forward is inspected: what is known up to there is kept if it is interrupted.
+def stretches(position, most=None):
+    """Where a run forward is inspected, up to `most` steps ahead: what is known up to there is kept if it is interrupted.
 
-    Each call goes from the start, so each stretch is longer than the one before."""
-    count = FIRST_STRETCH
-    while True:
-        position += count
+    Each call goes from the start, so each stretch is four times as long as the one before."""
+    count, left = FIRST_STRETCH, math.inf if most is None else most
+    while left > 0:
+        position += min(count, left)
         yield position
-        count *= 4 if count < MOST_STEPS else 2
+        left -= count
+        count *= 4
+
+
+def turn_of(states):
+    """After how many steps the first of these states, at a fetch, comes again without an output; None if it does not."""
+    first = states[0]
+    for state in states[1:]:
+        if state.commits or state.status != "running":
+            return None
+        if is_fetch(state.position) and (state.pcg, state.pcb, state.queue, state.lines) == (
+                first.pcg, first.pcb, first.queue, first.lines):
+            return state.position - first.position
+    return None
 
 
 def forward(timeline, position, strikes, places, limit=None):

@@ -30,7 +30,8 @@ HELP = ["n p        one machine step forward, back (arrows right and left, too)"
         "timeline: o here, ! a strike, @ both; it is as long as the run without strikes",
         *(f"registers: {text}" for text in views.MARKS.values())]
 ENDS = {"start": "this is the start", "done": "the machine is done", "detected": "detected: e says why",
-        "breakpoint": "a breakpoint", "interrupted": "interrupted: the run stays where it is"}
+        "breakpoint": "a breakpoint", "loop": "the run is in an endless loop: `:end` says more",
+        "interrupted": "interrupted: the run stays where it is"}
 # Commands whose answers fit on one line, as the screen shows the rest.
 BRIEF = AGAIN | {"until", "finish", "goto", "run", "end", "undo", "zap", "flip", "plan", "unplan", "watch"}
 COLOURS = (("green", "COLOR_GREEN"), ("blue", "COLOR_BLUE"), ("differs", "COLOR_RED"), ("changed", "COLOR_YELLOW"),

@@ -7,16 +7,17 @@ CHUNKS = (512, 8_192) + (100_000,) * 1_000_000
 
 
 def forward(session, count=1, by_line=True):
-    """Steps instructions forward, or source lines if known; a breakpoint or a stop ends the move."""
+    """Steps instructions forward, or source lines if known; a breakpoint or a stop ends the move.
+
+    Returns the stop if the end of a line was not reached, or the state."""
     for turn in range(count):
         if session.state().status != "running":
             break
         line = line_of(session.current()) if by_line else None
         if line is None:
-            end = session.position + (2 if is_fetch(session.position) else 1)
-        else:
-            end = end_of_line(session, line)
-        session.go_to(end, again=turn > 0)
+            session.go_to(session.position + (2 if is_fetch(session.position) else 1), again=turn > 0)
+        elif (stop := to_end_of_line(session, line, turn > 0)).reason in ("limit", "loop", "interrupted"):
+            return stop
         if session.halting():
             break
     return session.state()
@@ -38,38 +39,34 @@ def line_of(instruction):
     return instruction.source_line if instruction else None
 
 
-def end_of_line(session, line):
-    """Where the run leaves a line, or reaches a breakpoint. A line begins with a block or after another line's code."""
+def to_end_of_line(session, line, again):
+    """Goes to where the run leaves a line, or reaches a breakpoint. A line begins with a block or after another line's
+    code."""
     code = session.target.code
     starts = [i for before, i in zip([None] + code, code)
               if i.source_line != line and (i.index == 0 or before.source_line != i.source_line)]
     every = list(session.breaks.values()) + ([breaks.Break(starts)] if starts else [])
     if len(breaks.places_of(every)) <= breaks.MOST:
-        return end_by_breaks(session, every)
-    start = session.position + session.position % 2
-    for chunk in CHUNKS:
-        told = runs.places_between(session.timeline, start, start + chunk, session.strikes)
-        for at, block, index in told:
-            here = session.target.listing.at_place(block, index) if block is not None else None
-            if at > session.position and (line_of(here) != line
-                                          or (block, index) in session.places() and session.halting(at)):
-                return at
-        if told[-1][0] < start + chunk:
-            return told[-1][0]
-        start += chunk
-    return start
+        return session.search(session.first_break, every, again)
 
-
-def end_by_breaks(session, every):
-    """Where the run reaches one of these breakpoints, or stops."""
-    here = session.position
-    for end in runs.stretches(here):
-        # This stretch also looks at the end of the previous one.
-        stop = session.first_break(max(session.position, here - 1), end, every)
-        if stop.reason != "limit":
-            return stop.position
-        here = end
-    return here
+    def leaves(start, end, _):
+        """Likewise where there are too many breakpoints: asks for each place of a stretch."""
+        start, end = start + start % 2, end + end % 2
+        for chunk in CHUNKS:
+            last = min(end, start + chunk)
+            told = runs.places_between(session.timeline, start, last, session.strikes)
+            for at, block, index in told:
+                here = session.target.listing.at_place(block, index) if block is not None else None
+                if at > session.position and (line_of(here) != line
+                                              or (block, index) in session.places() and session.halting(at)):
+                    return runs.Stop(at, "running", "breakpoint", None)
+            if told[-1][0] < last:
+                return runs.Stop(told[-1][0], "done", "done", None)
+            if last == end:
+                break
+            start = last
+        return runs.Stop(end, "running", "limit", None)
+    return session.search(leaves, list(session.breaks.values()), again)
 
 
 def start_of_line(session, end, line):

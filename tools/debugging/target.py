@@ -3,9 +3,10 @@ import os
 import re
 import shlex
 import subprocess
+import tempfile
 
-from common import Refused, emptied, in_this_process, naming, not_run, program, why
-from debugging.listing import Listing
+from common import Misused, Refused, are_one, emptied, in_this_process, naming, not_run, program, put, why
+from debugging.listing import Listing, without_initial
 from debugging.machine import cell_number
 from debugging.source_lines import lines_of
 from kinds import LOOKED_AT, kind_of_data, kind_of_path
@@ -83,6 +84,15 @@ def shown_lines(text):
     return shown_text(text).removesuffix("\n").split("\n")
 
 
+def is_text_of(text, object_file, files=()):
+    """Whether an assembly text is that of an object, but for the initial words of cells."""
+    with tempfile.NamedTemporaryFile(suffix=".obj") as made:
+        put(made.name, asked_of([program(), "asm", text]))
+        mine, other = (without_initial(asked_of([program(), "dis", file], files).decode().splitlines())
+                       for file in (made.name, object_file))
+        return mine == other
+
+
 class Target:
     """The object, and what is known about it. Its copy in memory cannot change, and leaves no file behind."""
 
@@ -104,6 +114,10 @@ class Target:
         self.text_file = self.source_file = self.source = self.names = self.refused = None
         try:
             self.listing = Listing(self.ask("dis").decode().splitlines())
+            for kind, option, given in (("text", "--text", text), ("source", "--source", source)):
+                if self.kind == kind and given and not are_one(given, path):
+                    raise Misused(f"{option}: {named(path)} is {'an assembly text' if kind == 'text' else 'a source'} itself; "
+                                  f"leave {option} out")
             if self.kind == "text" or text:
                 self.take_text(path if self.kind == "text" else text)
             if self.kind == "source" or source:
@@ -151,7 +165,7 @@ class Target:
 
     def take_text(self, own):
         """Takes the user's own text instead of that of `dis`, if it assembles to the same object."""
-        if asked_of([self.program, "asm", own]) != self.ask("upgrade"):
+        if not is_text_of(own, self.object_file, [self.file]):
             raise Refused(f"{named(own)}: does not assemble to {named(self.path)}; give the text that the "
                           "object was made from")
         with open(own, encoding="utf-8", errors="replace") as file:
@@ -169,15 +183,28 @@ class Target:
             raise Refused(f"{named(own)}: {reason(error)}") from error
         if kind := kind_of_path(own):
             if kind != "a source" and self.kind != "source":
-                raise Refused(f"{named(own)}: is {kind}; expected a source")
+                text = "; `--text` takes the text that `talft-cc --text` wrote" if kind == "a C program" else ""
+                raise Refused(f"{named(own)}: is {kind}; expected a source{text}")
         lines, names = lines_of(text, self.code)
         if lines is None:
             if self.kind != "source":
+                if self.is_scheduled(own):
+                    raise Refused(f"{named(self.path)}: is scheduled, so its instructions have no lines in {named(own)}; "
+                                  "debug the object that `talft compile` wrote")
                 raise Refused(f"{named(own)}: is not the source of {named(self.path)}: the instructions differ")
             return
         for instruction, line in zip(self.code, lines):
             instruction.source_line = line
         self.source, self.source_file, self.names = shown_lines(text), os.path.abspath(own), names
+
+    def is_scheduled(self, source):
+        """Whether the object is what `talft schedule` makes of the object of a source."""
+        try:
+            with tempfile.NamedTemporaryFile(suffix=".obj") as made:
+                put(made.name, asked_of([self.program, "compile", source]))
+                return asked_of([self.program, "schedule", made.name]) == self.ask("upgrade")
+        except Refused:
+            return False
 
     def close(self):
         """Releases the object."""

@@ -208,6 +208,8 @@ def strike_lines(session, old, strikes):
         if strike.step == session.position and strike in session.strikes:
             lines.append(f"the strike {name} is made here" if not session.timeline.idle.get(strike)
                          else f"the strike {name} found nothing here")
+        elif old < strike.step < session.position and session.timeline.idle.get(strike):
+            lines.append(f"the strike {name} was not made: nothing was there")
         elif session.position < strike.step and session.state().status != "running" and strike in session.strikes:
             lines.append(f"the strike {name} is not made: the run ended at {session.position}, before it")
         elif session.position < strike.step <= old:
