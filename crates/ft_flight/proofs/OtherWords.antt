@@ -22,7 +22,7 @@ names_with [] ws = refl
 names_with (c ∷ cs) [] = refl
 names_with (c ∷ cs) (w ∷ ws) = ap (λ l. c.name ∷ l) (names_with cs ws)
 
-types_with : (cs : List Cell) (ws : List ℕ) → map basic_of (cells_with_words cs ws) ≡ map basic_of cs
+pub types_with : (cs : List Cell) (ws : List ℕ) → map basic_of (cells_with_words cs ws) ≡ map basic_of cs
 types_with [] ws = refl
 types_with (c ∷ cs) [] = refl
 types_with (c ∷ cs) (w ∷ ws) = ap (λ l. c.basic ∷ l) (types_with cs ws)

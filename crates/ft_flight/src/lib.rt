@@ -22,7 +22,7 @@ pub use causes::{cause_of, causes_are_exact};
 pub use cycling::{again, begin, cycle, strike};
 pub use flown::{CellOutput, FlightEnd, Flown};
 pub use going::go;
-pub use laws::int_cells_may_hold_any_words;
+pub use laws::{cells_keep_their_types, int_cells_may_hold_any_words};
 pub use plain_queue::{PlainPair, PlainQueue};
 pub use reason::{Cause, Reason};
 pub use state::FlightState;
