@@ -84,8 +84,10 @@ by_status : (o : Object) (s t : State) → (t.status ≡ status.Running → Hold
     (t.status ≢ status.Running → t.cells ≡ s.cells) → HoldTyped o s.cells → (v : Status) → t.status ≡ v →
     HoldTyped o t.cells
 by_status o s t running stopped h status.Running e = running e
-by_status o s t running stopped h status.Done e = subst (HoldTyped o) (sym (stopped (λ go. (let x = sym e ∙ go in cc)))) h
-by_status o s t running stopped h status.Detected e = subst (HoldTyped o) (sym (stopped (λ go. (let x = sym e ∙ go in cc)))) h
+by_status o s t running stopped h status.Done e = subst (HoldTyped o) (sym (stopped (λ go. (let x = sym e ∙ go in cc))))
+    h
+by_status o s t running stopped h status.Detected e =
+    subst (HoldTyped o) (sym (stopped (λ go. (let x = sym e ∙ go in cc)))) h
 
 module _ (o : Object) (w : List Wild) (spelled : IsSpellable o) (acc : IsAccepted o) where
   -- if they do as long as a run is running, they do after all its steps

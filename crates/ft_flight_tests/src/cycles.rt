@@ -1,6 +1,8 @@
 //! A cycle that is struck, told about and done again.
 ghost use Rattle.std.specs.Prelude.{◌≡◌, length};
 ghost use Rattle.ft_types.specs.Spellable.{IsSpellable};
+ghost use Rattle.ft_typing.specs.Accepted.{IsAccepted};
+ghost use Rattle.ft_flight.specs.Flights.{MayHold};
 
 use ft_flight::{
     CellOutput, FlightEnd, FlightState, Flown, PlainPair, PlainQueue, Reason, again, begin,
@@ -106,6 +108,27 @@ fn is_done_again<P: Program>(program: &P, struck: Reg) -> bool
         && is_output(out[1], 6)
         && cells[0] == 6
         && state.handed == 3
+}
+
+/// Runs a cycle, and another if that is done, and so on: the cells always hold words with which the next one may begin.
+fn fly<P: Program>(
+    program: &P,
+    state: &mut FlightState,
+    cells: &mut [u64],
+    saved: &mut [u64],
+    out: &mut [CellOutput],
+) -> bool
+    requires spellable { IsSpellable (P.object program.now) }
+    requires accepted { IsAccepted (P.object program.now) }
+    requires as_many { length cells.old ≡ length (P.object program.now).cells }
+    requires room { length saved.old ≡ length cells.old }
+    requires may_hold { MayHold (P.object program.now) cells.old }
+    ensures as_many { length cells.new ≡ length cells.old }
+    ensures room { length saved.new ≡ length cells.old }
+    ensures may_hold { MayHold (P.object program.now) cells.new }
+{
+    cycle(program, state, cells, saved);
+    go(program, state, cells, MANY, out).end == FlightEnd::Done
 }
 
 #[test]
