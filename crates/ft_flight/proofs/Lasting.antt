@@ -1,10 +1,10 @@
 -- In a cycle that is struck at most once, the cells always hold words of their types.
 use Rattle.std.proofs.Common.{◌≡◌, ◌≢◌, ℕ, zero, suc, ◌-◌, ◌<◌, ◌≤◌, List, [], ◌∷◌, map, Option, Some, None, slice_get}
-use Rattle.std.proofs.Common.{inl, inr, ◌⊎◌, refl, ap, sym, subst, ◌∙◌, arith, ⊎_elim}
+use Rattle.std.proofs.Common.{inl, inr, ◌⊎◌, refl, ap, sym, subst, ◌∙◌, arith, ⊎_elim, get_or, length}
 use Rattle.std.specs.Prelude.{All}
 use Rattle.std.specs.Option.{option_map}
 use Rattle.std.proofs.lemmas.Bool.{cases_lt}
-use Rattle.std.proofs.lemmas.Option.{slice_get-map}
+use Rattle.std.proofs.lemmas.Option.{slice_get-map, slice_get-get_or, slice_get_within}
 use Rattle.ft_isa.specs.Words.{IsWord, cell_address}
 use Rattle.ft_isa.specs.declared.basic.Basic.{Basic}
 use Rattle.ft_isa.specs.declared.colour.Colour.{Colour}
@@ -14,7 +14,7 @@ use Rattle.ft_isa.specs.declared.plan.Wild.TheVariants.{Word, Stop}
 use Rattle.ft_isa.specs.declared.reg.Reg.{Reg}
 use Rattle.ft_types.specs.declared.object.Object.{Object}
 use Rattle.ft_types.specs.declared.object.Cell.{Cell}
-use Rattle.ft_types.specs.Objects.{basic_of}
+use Rattle.ft_types.specs.Objects.{basic_of, cell_head_of, init_of, init_or_zero}
 use Rattle.ft_types.specs.Spellable.{IsSpellable}
 use Rattle.ft_types.specs.InitialWords.{object_with_words, cells_with_words}
 use Rattle.ft_typing.specs.TypedWord.{cell_of, cell_type, HasType}
@@ -141,6 +141,25 @@ begun (c ∷ cs) (y ∷ ws) zero v x f e =
     sym (ap (λ (z : Cell). z.init) same) ∙ word
 begun (c ∷ cs) (y ∷ ws) (suc k) v x f e = begun cs ws k v x f e
 
+-- a cell that begins with another word has its type
+pub record HasCell (cs : List Cell) (k : ℕ) (b : Basic) : Type 0 where
+  pub cell : Cell
+  pub there : slice_get cs k ≡ Some cell
+  pub basic : cell.basic ≡ b
+
+same_cell : (cs : List Cell) (ws : List ℕ) (k : ℕ) (x : Cell) → slice_get (cells_with_words cs ws) k ≡ Some x →
+    HasCell cs k x.basic
+same_cell [] ws k x f = absurd cc
+same_cell (c ∷ cs) [] k x f = record { cell = x; there = f; basic = refl }
+same_cell (c ∷ cs) (w ∷ ws) zero x f = record {
+  cell = c;
+  there = refl;
+  basic = (let same : record c { init = w } ≡ x = cc in ap (λ (z : Cell). z.basic) same);
+}
+same_cell (c ∷ cs) (w ∷ ws) (suc k) x f =
+    let q = same_cell cs ws k x f in
+    record { cell = q.cell; there = q.there; basic = q.basic }
+
 -- the type of a cell does not depend on initial words
 type_there : (o : Object) (ws saved : List ℕ) (k : ℕ) (x : Cell) → slice_get (cells_with_words o.cells ws) k ≡ Some x →
     cell_type (object_with_words o saved) (cell_address k) ≡ Some x.basic
@@ -176,3 +195,19 @@ may_hold o strike s cells saved h fit =
           subst (λ v. HasType o v x.basic) (sym (begun o.cells cells k c.content x f read))
           (has_over O o.cells o.instrs (sym (types_with o.cells saved)) c.content x.basic.refs x.basic.base c.typed);
     }
+
+-- the cells of an accepted object may hold its initial words
+pub first_held : (o : Object) (ws : List ℕ) → length ws ≡ length o.cells → ((k : ℕ) → k < length ws → get_or ws k 0
+    ≡ init_of o k) →
+    All IsWord ws → IsAccepted o → MayHold o ws
+first_held o ws long words fit acc = record {
+  fit = fit;
+  types = λ k x f.
+      let q = same_cell o.cells ws k x f in
+      let within = slice_get_within o.cells k q.cell q.there in
+      let below : k < length ws = omega (arith, within, long) in
+      let init : init_of o k ≡ q.cell.init = ap (λ u. init_or_zero (option_map cell_head_of u)) q.there in
+      let is : x.init ≡ q.cell.init
+      = begun o.cells ws k (get_or ws k 0) x f (slice_get-get_or ws k 0 below) ∙ words k below ∙ init in
+      subst (λ v. HasType o v x.basic) (sym is) (subst (HasType o q.cell.init) q.basic (acc.cells k q.cell q.there));
+}

@@ -2,8 +2,9 @@
 //!
 //! The crate promises that `go` takes the machine's steps, by its definition, from any state that a caller's words stand for, and that
 //! every value of these words stands for one; and that the outputs handed out in a cycle are the first outputs of the cycle without a
-//! strike, each once, if it was struck at most once. No function takes an allocator. Its definitions: the state that words stand for
-//! (`specs/States.antt`), what a call that takes steps does (`specs/Steps.antt`), and cycles (`specs/Flights.antt`).
+//! strike, each once, and that the next cycle may begin with the cells, if it was struck at most once. No function takes an allocator. Its
+//! definitions: the state that words stand for (`specs/States.antt`), what a call that takes steps does (`specs/Steps.antt`), and cycles
+//! (`specs/Flights.antt`).
 #![tactic(auto)]
 
 mod calls;
