@@ -1,4 +1,5 @@
-//! Encodings that LLVM's assembler made (`clang --target=riscv64 -march=rv64im`), decoded, and jumps.
+//! Encodings that LLVM's assembler made (`clang --target=riscv64 -march=rv64im`), decoded, and jumps as
+//! the manual of the instructions defines them.
 use ft_riscv::{
     Condition, Effect, Hart, ImmediateOperation, Instr, Operation, Reg, ShiftOperation,
     UpperOperation, decode,
