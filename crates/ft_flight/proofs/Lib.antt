@@ -6,4 +6,5 @@ pub mod Overlaps
 pub mod Started
 pub mod Flying
 pub mod OtherWords
+pub mod Lasting
 pub mod Exact

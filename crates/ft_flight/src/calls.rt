@@ -38,6 +38,8 @@ pub fn go_on(
         HandedOut (object_with_words (object_of bytes.now) saved) state.old.handed given → result.end ≡ FlightEnd.Done →
         IsWhole (object_with_words (object_of bytes.now) saved) state.new }
     ensures struck { (saved : List ℕ) → IsFlight (object_of bytes.now) None state.old cells.old saved → result.end ≢ FlightEnd.Detected }
+    ensures held { (strike : Option Strike) (saved : List ℕ) → IsFlight (object_of bytes.now) strike state.old cells.old saved →
+        MayHold (object_of bytes.now) cells.new }
 {
     let view = View::again(bytes);
     go(&view, state, cells, steps, out)

@@ -4,7 +4,7 @@ ghost use Rattle.ft_isa.specs.declared.output.Output.{Output};
 ghost use Rattle.ft_isa.specs.declared.plan.Strike.{Strike};
 ghost use Rattle.ft_types.specs.Spellable.{IsSpellable};
 ghost use Rattle.ft_types.specs.InitialWords.{object_with_words};
-ghost use Rattle.ft_flight.specs.Flights.{HandedOut, HandsOn, IsFlight, IsWhole};
+ghost use Rattle.ft_flight.specs.Flights.{HandedOut, HandsOn, IsFlight, IsWhole, MayHold};
 ghost use Rattle.ft_flight.specs.Steps.{Ends, IsLimit, Took};
 
 use crate::flown::{CellOutput, FlightEnd, Flown};
@@ -84,6 +84,10 @@ pub fn go<P: Program>(
         HandedOut (object_with_words (P.object program.now) saved) state.old.handed given → result.end ≡ FlightEnd.Done →
         IsWhole (object_with_words (P.object program.now) saved) state.new }
     ensures struck { (saved : List ℕ) → IsFlight (P.object program.now) None state.old cells.old saved → result.end ≢ FlightEnd.Detected }
+
+    // Another cycle may begin with the cells.
+    ensures held { (strike : Option Strike) (saved : List ℕ) → IsFlight (P.object program.now) strike state.old cells.old saved →
+        MayHold (P.object program.now) cells.new }
 {
     let most = limit(steps, state.steps, state.seen);
     let skip = left_out(state.handed, state.seen);

@@ -2,8 +2,9 @@
 //!
 //! The crate promises that `go` takes the machine's steps, by its definition, from any state that a caller's words stand for, and that
 //! every value of these words stands for one; and that the outputs handed out in a cycle are the first outputs of the cycle without a
-//! strike, each once, if it was struck at most once. No function takes an allocator. Its definitions: the state that words stand for
-//! (`specs/States.antt`), what a call that takes steps does (`specs/Steps.antt`), and cycles (`specs/Flights.antt`).
+//! strike, each once, and that the next cycle may begin with the cells, if it was struck at most once. No function takes an allocator. Its
+//! definitions: the state that words stand for (`specs/States.antt`), what a call that takes steps does (`specs/Steps.antt`), and cycles
+//! (`specs/Flights.antt`).
 #![tactic(auto)]
 
 mod calls;
@@ -22,7 +23,7 @@ pub use causes::{cause_of, causes_are_exact};
 pub use cycling::{again, begin, cycle, strike};
 pub use flown::{CellOutput, FlightEnd, Flown};
 pub use going::go;
-pub use laws::int_cells_may_hold_any_words;
+pub use laws::{cells_keep_their_types, int_cells_may_hold_any_words};
 pub use plain_queue::{PlainPair, PlainQueue};
 pub use reason::{Cause, Reason};
 pub use state::FlightState;

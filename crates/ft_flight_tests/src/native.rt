@@ -1,6 +1,8 @@
-//! Encodings that LLVM's assembler made (`clang --target=riscv64 -march=rv64im`), decoded.
+//! Encodings that LLVM's assembler made (`clang --target=riscv64 -march=rv64im`), decoded, and jumps as
+//! the manual of the instructions defines them.
 use ft_riscv::{
-    Condition, ImmediateOperation, Instr, Operation, Reg, ShiftOperation, UpperOperation, decode,
+    Condition, Effect, Hart, ImmediateOperation, Instr, Operation, Reg, ShiftOperation,
+    UpperOperation, decode,
 };
 use std::test::Fail;
 
@@ -231,5 +233,64 @@ fn encodings_are_decoded(rt: HostRuntime) -> Result<(), Fail> {
     assert!(rt; operations_are_decoded());
     // ecall, and slt x10, x11, x12: neither is in the table.
     assert!(rt; decode(0x0000_0073).is_none() && decode(0x00c5_a533).is_none());
+    Ok(())
+}
+
+/// The hart that executes jumps.
+const BEFORE: Hart = Hart {
+    registers: [7; 31],
+    pc: 4096,
+};
+
+/// Whether an instruction traps and leaves the hart as it was.
+fn traps(instr: Instr) -> bool {
+    let words = [0; 1];
+    let mut hart = BEFORE;
+    hart.execute(instr, 0, words.as_slice()) == Effect::Traps && hart == BEFORE
+}
+
+/// Whether an instruction goes on at an address, with this word in `x1`.
+fn goes_on(instr: Instr, pc: u64, link: u64) -> bool {
+    let words = [0; 1];
+    let mut hart = BEFORE;
+    hart.execute(instr, 0, words.as_slice()) == Effect::Nothing
+        && hart.pc == pc
+        && hart.register(x(1)) == link
+}
+
+/// The jump by an offset, which writes `x1`.
+fn jump(offset: u64) -> Instr {
+    Instr::Jump { rd: x(1), offset }
+}
+
+/// The jump to an address, which writes `x1`.
+fn jump_to(offset: u64) -> Instr {
+    Instr::JumpRegister {
+        rd: x(1),
+        rs1: x(0),
+        offset,
+    }
+}
+
+/// A branch on two registers that are equal.
+fn branch(condition: Condition, offset: u64) -> Instr {
+    Instr::Branch {
+        condition,
+        rs1: x(1),
+        rs2: x(2),
+        offset,
+    }
+}
+
+#[test]
+fn misaligned_targets_trap(rt: HostRuntime) -> Result<(), Fail> {
+    assert!(rt; goes_on(jump(8), 4104, 4100) && traps(jump(6)));
+    // The lowest bit is cleared first.
+    assert!(rt; goes_on(jump_to(2001), 2000, 4100) && traps(jump_to(2003)));
+    assert!(rt;
+        goes_on(branch(Condition::Equal, 8), 4104, 7) && traps(branch(Condition::Equal, 6))
+    );
+    // The target of a branch that is not taken does not matter.
+    assert!(rt; goes_on(branch(Condition::NotEqual, 6), 4100, 7));
     Ok(())
 }

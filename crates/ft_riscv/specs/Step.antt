@@ -50,9 +50,13 @@ jumps a h = record h { pc = a }
 abbrev pub writes : Reg → ℕ → Hart → Stepping
 writes rd v h = quiet (goes_on (with_register rd v h))
 
--- the address after this instruction is written, and the next instruction is at an address
+-- whether an instruction may be at an address: without the extension C, only at a multiple of 4
+abbrev pub is_aligned : ℕ → Bool
+is_aligned a = a % 4 == 0
+
+-- the address after this instruction is written, and the next instruction is at an address: at a misaligned one, a trap
 abbrev pub links : Reg → ℕ → Hart → Stepping
-links rd a h = quiet (jumps a (with_register rd (next h.pc) h))
+links rd a h = if is_aligned a then quiet (jumps a (with_register rd (next h.pc) h)) else traps h
 
 -- a load of what memory has at its address: nothing there, a trap
 abbrev pub load : Reg → Option ℕ → Hart → Stepping
@@ -64,9 +68,13 @@ abbrev pub store : ℕ → ℕ → Option ℕ → Hart → Stepping
 store a v (Some before) h = stepping (goes_on h) (Stores a v)
 store a v None h = traps h
 
--- a branch that is taken, or is not
+-- the next instruction is at the target of a branch that is taken: at a misaligned one, a trap
+abbrev pub lands : ℕ → Hart → Stepping
+lands a h = if is_aligned a then quiet (jumps a h) else traps h
+
+-- a branch that is taken, or is not: then its target does not matter
 abbrev pub branch : Bool → ℕ → Hart → Stepping
-branch taken offset h = if taken then quiet (jumps (sum h.pc offset) h) else quiet (goes_on h)
+branch taken offset h = if taken then lands (sum h.pc offset) h else quiet (goes_on h)
 
 -- an address without its lowest bit
 abbrev pub even : ℕ → ℕ

@@ -3,7 +3,7 @@ ghost use Rattle.std.specs.Prelude.{◌≡◌, ◌<◌, ℕ, List, Option};
 ghost use Rattle.ft_riscv.specs.Memory.{word_at, code_at};
 ghost use Rattle.ft_riscv.specs.Table.{decoded};
 ghost use Rattle.ft_riscv.specs.Results.{result_of, immediate_result, shift_result, upper_result};
-ghost use Rattle.ft_riscv.specs.Step.{register, with_register, stepping, quiet, traps, goes_on, jumps, writes, links, load, store, branch, execute, step, stored, went};
+ghost use Rattle.ft_riscv.specs.Step.{register, with_register, stepping, quiet, traps, goes_on, jumps, writes, is_aligned, links, load, store, lands, branch, execute, step, stored, went};
 
 use crate::instr::{Condition, Instr};
 use crate::memory::{code_at, load, store};
@@ -24,8 +24,16 @@ pub enum Effect {
     Nothing,
     /// A word is stored.
     Stores { address: u64, value: u64 },
-    /// The instruction is none, or has no word of memory at its address: the hart is left as it was.
+    /// The instruction is none, has no word of memory at its address, or would go on at an address that is not a multiple of 4: the
+    /// hart is left as it was.
     Traps,
+}
+
+/// Whether an instruction may be at an address: only at a multiple of 4.
+fn is_aligned(address: u64) -> bool
+    ensures { result ≡ is_aligned address }
+{
+    address % 4 == 0
 }
 
 impl Hart {
@@ -113,10 +121,13 @@ impl Hart {
         Effect::Nothing
     }
 
-    /// Writes the address after the instruction, and goes on at an address.
+    /// Writes the address after the instruction, and goes on at an address; traps if no instruction may be there.
     fn links(&mut self, rd: Reg, address: u64) -> Effect
         ensures { stepping self.new result ≡ links rd address self.old }
     {
+        if !is_aligned(address) {
+            return Effect::Traps;
+        }
         self.set(rd, self.pc.wrapping_add(4));
         self.pc = address;
         Effect::Nothing
@@ -145,10 +156,25 @@ impl Hart {
         }
     }
 
+    /// Goes on at the target of a branch that is taken; traps if no instruction may be there.
+    fn lands(&mut self, target: u64) -> Effect
+        ensures { stepping self.new result ≡ lands target self.old }
+    {
+        if !is_aligned(target) {
+            return Effect::Traps;
+        }
+        self.pc = target;
+        Effect::Nothing
+    }
+
+    /// Goes on at the target of a branch if it is taken, and behind the branch if not.
     fn branches(&mut self, taken: bool, offset: u64) -> Effect
         ensures { stepping self.new result ≡ branch taken offset self.old }
     {
-        self.pc = self.pc.wrapping_add(if taken { offset } else { 4 });
+        if taken {
+            return self.lands(self.pc.wrapping_add(offset));
+        }
+        self.pc = self.pc.wrapping_add(4);
         Effect::Nothing
     }
 

@@ -2,6 +2,7 @@
 //!
 //! The crate promises that a word is decoded as the one table of instructions says, that every other word is refused,
 //! and that a step leaves the registers, the program counter and the memory that the equation of its instruction gives.
+//! There is no extension C: a jump or a taken branch to an address that is not a multiple of 4 traps, and writes nothing.
 //! Its definitions: `specs/Fields.antt`, `specs/Table.antt`, `specs/Results.antt`, `specs/Memory.antt`,
 //! `specs/Step.antt`. Source of the rules: "The RISC-V Instruction Set Manual, Volume I: Unprivileged Architecture".
 #![tactic(auto)]

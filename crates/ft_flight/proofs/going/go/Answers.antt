@@ -1,4 +1,6 @@
-use Rattle.std.proofs.Common.{◌≡◌, ◌+◌, ◌-◌, ℕ, List, length, max, [], refl, ap, sym, subst, ◌∙◌}
+use Rattle.std.proofs.Common.{◌≡◌, ◌+◌, ◌-◌, ℕ, List, length, max, [], refl, ap, sym, subst, ◌∙◌, arith}
+use Rattle.std.proofs.lemmas.List.Elements.{All-from_get_or}
+use Rattle.ft_isa.specs.Words.{IsWord}
 use Rattle.ft_types.specs.Objects.{instr_at}
 use Rattle.ft_isa.specs.declared.instr.Instr.{Instr}
 use Rattle.std.specs.Prelude.{Option}
@@ -11,6 +13,7 @@ use Rattle.ft_flight.specs.States.{IsFetchedFrom, state_in}
 use Rattle.ft_flight.specs.Steps.{Ends, Fills, Took}
 use Rattle.ft_flight.proofs.Fetched.{fetched_from}
 use Rattle.ft_flight.proofs.Flying.{flight_next, hands_next, whole_next, undetected}
+use Rattle.ft_flight.proofs.Lasting.{may_hold}
 use Rattle.ft_flight.proofs.Turns.{refit, grown, gained}
 use Rattle.ft_flight.proofs.going.go.Goals as goal
 
@@ -81,3 +84,8 @@ returns-clause-struck g c = λ saved h.
     undetected (g.P.Program.object c.args.program.now) saved c.args.state.now _ c.args.cells.now _ c.args.steps _ _ _ _
     h
     (returns-clause-took g c)
+
+pub returns-clause-held : goal.returns-clause-held
+returns-clause-held g c = λ strike saved h.
+    may_hold (g.P.Program.object c.args.program.now) strike _ _ saved (returns-clause-flight g c strike saved h)
+    (All-from_get_or IsWord _ 0 (λ k below. omega (arith, c.type_inv.cells k)))
