@@ -203,14 +203,24 @@ fn is_in_place<S: Shelf>(
     }
 }
 
-/// Says that the run of an object under this strike was stopped at its limit of steps.
+/// Whether a strike comes only after this many steps.
+fn is_due(strike: Option<Strike>, steps: u64) -> bool {
+    match strike {
+        Some(strike) => strike.step >= steps,
+        None => false,
+    }
+}
+
+/// Says that the run of an object under this strike was stopped at its limit of steps. A run that loops in place goes on
+/// for ever unless a wild answer or a strike is still to come.
 fn say_cut_run<S: Shelf>(
     page: &mut Page,
     run: &Run,
     strike: Option<Strike>,
     shelf: &mut S,
 ) -> Result<(), NoMemory> {
-    if !run.wild.is_empty() || !is_in_place(page.alloc(), run, strike, shelf)? {
+    let is_open = !run.wild.is_empty() || is_due(strike, run.steps.min(AGAIN));
+    if is_open || !is_in_place(page.alloc(), run, strike, shelf)? {
         return say_cut(page, run.object, run.steps, "steps");
     }
     begin(page, run.object)?;
