@@ -72,6 +72,8 @@ printf 'cell out = 0;\nout = 3;\nwhile (1) { }\n' >stays.src
 "$top/talft" compile stays.src >stays.obj
 explained 'a run that loops in place' 9 'out 3\n' \
   'stays.obj: still running after 500 steps, and for ever: it loops in place, as after a trap; `talft-ending` says where\n' run stays.obj --steps 500
+explained 'a loop in place with a strike to come' 9 'out 3\n' \
+  'stays.obj: the fault struck nothing: it comes at step 1000, and the run is limited to 500 steps (`--steps`)\nstays.obj: still running after 500 steps: raise `--steps`\n' run stays.obj --steps 500 --fault 1000:pcg:3
 explained 'a run that is cut before it loops in place' 9 '' 'stays.obj: still running after 5 steps: raise `--steps`\n' run stays.obj --steps 5
 explained 'a fault after the end' 0 'out 5\n' \
   'five.obj: the fault struck nothing: the run had ended after 14 steps, before step 4000\n' run five.obj --fault 4000:r1:6

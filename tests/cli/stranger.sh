@@ -202,6 +202,27 @@ done <<'END'
 0^exec got^cell b[3] = 0;\nb[0 - 0] = 1;\nb[1 - 1] = 1;\n^
 0^exec got^cell a = 0;\nvar x;\na = (1 < x) & (x < 3) == (0 < x);\na = 1 < x == x < 3;\n^
 12^asm got^entry 0\ncell a int 0\n^got:2:1: error: nothing may follow `entry`, which is line 1: move that line to the end
+12^asm got^node 0 memory\ntype 0 0\nblock 0\nhalt\nentry 0\nentry 0\n^got:6:1: error: `entry` is there twice: delete this line or line 5
+7^asm got^cell a int 0\nnode 0 memory\ntype 0 0\nblock 0\nidx r2 r1 0 5\nhalt\nentry 0\n^got:5:13: error: invalid `5`: cells 0 to 4 are named, but the text has 1 cell
+6^compile got^cell a = 0;\na = 1,000;\n^got:2:6: error: unexpected character `,`: numbers have no separators
+6^compile got^cell a = 0;\na = max(1,2);\n^got:2:10: error: unexpected character `,`
+6^compile got^cell a = 0;\nwhile (a < 1,000) { }\n^got:2:13: error: unexpected character `,`
+6^compile got^cell a = 0;\na = 1 >>> 1;\n^got:2:9: error: unexpected character `>`: write `>>`
+6^compile got^cell a = 0;\na = 1 and 2;\n^got:2:7: error: unexpected `and`: nest `if`, or write `(a < b) & (c == d)`
+6^compile got^cell a = 0;\nif (a < 1 or a == 2) { }\n^got:2:11: error: unexpected `or`: write `(a < b) | (c == d)`
+6^compile got^cell a = 0;\na = 1\nand = 2;\n^got:2:6: error: expected `;` after `1`
+6^compile got^cell a = 0;\na.x = 3;\n^got:2:2: error: unexpected character `.`
+6^compile got^cell a = 0;\na = .5;\n^got:2:5: error: unexpected character `.`: numbers are integers
+6^compile got^cell a = 0;\nwhile (a < 3) { break; }\n^got:2:22: error: unexpected `;`: there is no `break` or `continue`: a loop ends when its test is 0
+6^compile got^cell a = 0;\nwhile (a < 3) { continue; }\n^got:2:25: error: unexpected `;`: there is no `break` or `continue`: a loop ends when its test is 0
+6^compile got^cell a = 0;\nif (a) { } elif (1) { }\n^got:2:17: error: unexpected `(`: write `else { if (..) { .. } }`
+2^numbers.src^^talft: error: unknown command `numbers.src`; did you mean `talft exec numbers.src`?
+2^five.obj run^^talft: error: unknown command `five.obj`; did you mean `talft run five.obj`?
+2^five.asm^^talft: error: unknown command `five.asm`; did you mean `talft asm five.asm`?
+0^run five.obj --fault 2000000:r1:1^^five.obj: the fault struck nothing: the run had ended after 14 steps, before step 2000000
+0^run five.obj --fault 2000000:r1:1 --steps 3000000^^five.obj: the fault struck nothing: the run had ended after 14 steps, before step 2000000
+0^run five.obj --fault 20:r1:1 --steps 20^^five.obj: the fault struck nothing: the run had ended after 14 steps, before step 20
+9^run five.obj --fault 12:r1:1 --steps 12^^five.obj: the fault struck nothing: it comes at step 12, and the run is limited to 12 steps (`--steps`)
 7^run got^source 7 20\na.src:2:7: error: `totl` is not declared\n out = totl;\n^got: error: this is output of `talft`, not an object: the call that wrote it was refused, or writes no object
 3^compile fibonacci^^fibonacci: error: no such file; there is `fibonacci.src`
 2^debug five.obj five.script^^talft: error: unexpected argument `five.script` after OBJECT: commands come from standard input: put `<` before the script's name
@@ -247,6 +268,10 @@ sed 's/ 7 code:1/ 8 code:1/' "$top/examples/loop.asm" >got
 "$top/talft" asm got >got.obj 2>said
 report 'a code address without a block' '  no block begins at the code address 8; block 1, of code type 1, begins at 7' \
   "$("$top/talft" check got.obj 2>&1 >answer | tail -n 1)"
+sed 's/^sub r1 r1 G 1/&\nadd r5 r1 G 0/' "$top/examples/loop.asm" >got
+"$top/talft" asm got >got.obj 2>said
+report 'a code address just before a block' '  no block begins at the code address 21; block 2, of code type 0, begins at 22' \
+  "$("$top/talft" check got.obj 2>&1 >answer | tail -n 1)"
 sed 's/ 7 code:1/ 7 code:0/' "$top/examples/loop.asm" >got
 "$top/talft" asm got >got.obj 2>said
 report 'a block of another code type' '  block 1, at 7, has code type 1' "$("$top/talft" check got.obj 2>&1 >answer | tail -n 1)"
@@ -280,6 +305,10 @@ report 'an unknown command in a pipe, before one that is known' 'standard input:
   "$(printf 'foo\nstep 4\n' | "$top/talft" debug five.obj 2>&1 >answer | cut -d : -f 1-3)"
 report 'what the session writes' 'bad command|at 4 running' "$(paste -sd '|' answer)"
 report 'known commands in a pipe' '' "$(echo 'step 4' | "$top/talft" debug five.obj 2>&1 >answer)"
+echo 'step 2000000' >got
+report 'a number of steps that is too large' \
+  'standard input:1:1: error: invalid command: expected `step N`; the largest number here is 1000000' \
+  "$("$top/talft" debug five.obj 2>&1 >answer <got | head -n 1)"
 report 'a fault list as a script' \
   'standard input: error: this is a fault list, not a debugger script: pass it with `--faults`' \
   "$("$top/talft" debug five.obj 2>&1 >answer <five.faults)"

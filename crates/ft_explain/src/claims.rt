@@ -27,22 +27,26 @@ fn block_at<P: Program>(program: &P, address: u64) -> Option<(u32, Block)>
     None
 }
 
-/// The first block with this code type.
+/// The first block with this code type at or after a code address, or else the last one before it.
 #[tactic(auto, using(ft_types::proofs::Counted::spellable_counted))]
-fn first_of_type<P: Program>(program: &P, t: u32) -> Option<(u32, Block)>
+fn nearest_of_type<P: Program>(program: &P, t: u32, address: u64) -> Option<(u32, Block)>
     requires { IsSpellable (P.object program.now) }
 {
     let count = program.counts().blocks;
+    let mut nearest = None;
     for b in 0..count {
         let block = program.block(b);
         if block.code_type == t {
-            return Some((b, block));
+            nearest = Some((b, block));
+            if address_of(block) >= address {
+                break;
+            }
         }
     }
-    None
+    nearest
 }
 
-/// Says which block begins at a code address, or at which address a block of code type `t` begins.
+/// Says which block begins at a code address, or where the nearest block of code type `t` begins.
 fn say_code_claim<P: Program>(
     page: &mut Page,
     program: &P,
@@ -56,7 +60,7 @@ fn say_code_claim<P: Program>(
         return page.say(format_args!("  block {b}, at {address}, has code type {found}\n"));
     }
     page.say(format_args!("  no block begins at the code address {address}"))?;
-    if let Some((b, block)) = first_of_type(program, t) {
+    if let Some((b, block)) = nearest_of_type(program, t, address) {
         let at = address_of(block);
         page.say(format_args!("; block {b}, of code type {t}, begins at {at}"))?;
     }

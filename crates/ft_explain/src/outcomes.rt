@@ -60,10 +60,13 @@ fn say_cut_source<S: Shelf>(
     note_endless(page, name, shelf)
 }
 
-/// Says why a strike found nothing to strike.
-fn say_missed(page: &mut Page, strike: Strike, met: Met) -> Result<(), NoMemory> {
+/// Says why a strike found nothing to strike in a run of at most `steps` steps.
+fn say_missed(page: &mut Page, strike: Strike, met: Met, steps: u64) -> Result<(), NoMemory> {
     let step = strike.step;
     match (met.stood, strike.site) {
+        (Status::Running, _) if step >= steps => page.say(format_args!(
+            "it comes at step {step}, and the run is limited to {steps} steps (`--steps`)"
+        )),
         (Status::Running, Site::QAddr(i) | Site::QVal(i)) => page.say(format_args!(
             "at step {step} the queue has no entry {i}"
         )),
@@ -74,25 +77,25 @@ fn say_missed(page: &mut Page, strike: Strike, met: Met) -> Result<(), NoMemory>
     }
 }
 
+/// Whether a strike found nothing to strike in a run of at most `steps` steps.
+fn missed(strike: Strike, met: Met, steps: u64) -> bool {
+    match met.stood {
+        Status::Running => strike.step >= steps || met.struck == Some(false),
+        Status::Done | Status::Detected => true,
+    }
+}
+
 /// If nothing was struck, says so.
 fn say_unstruck(page: &mut Page, run: &Run, met: Met) -> Result<(), NoMemory> {
     let Some(strike) = run.strike else {
         return Ok(());
     };
-    let steps = run.steps;
-    if strike.step >= steps {
-        begin(page, run.object)?;
-        let step = strike.step;
-        return page.say(format_args!(
-            "the fault struck nothing: it comes at step {step}, and the run is limited to {steps} steps (`--steps`)\n"
-        ));
-    }
-    if met.struck != Some(false) {
+    if !missed(strike, met, run.steps) {
         return Ok(());
     }
     begin(page, run.object)?;
     page.say("the fault struck nothing: ")?;
-    say_missed(page, strike, met)?;
+    say_missed(page, strike, met, run.steps)?;
     page.say("\n")
 }
 
@@ -200,14 +203,24 @@ fn is_in_place<S: Shelf>(
     }
 }
 
-/// Says that the run of an object under this strike was stopped at its limit of steps.
+/// Whether a strike comes only after this many steps.
+fn is_due(strike: Option<Strike>, steps: u64) -> bool {
+    match strike {
+        Some(strike) => strike.step >= steps,
+        None => false,
+    }
+}
+
+/// Says that the run of an object under this strike was stopped at its limit of steps. A run that loops in place goes on
+/// for ever unless a wild answer or a strike is still to come.
 fn say_cut_run<S: Shelf>(
     page: &mut Page,
     run: &Run,
     strike: Option<Strike>,
     shelf: &mut S,
 ) -> Result<(), NoMemory> {
-    if !run.wild.is_empty() || !is_in_place(page.alloc(), run, strike, shelf)? {
+    let is_open = !run.wild.is_empty() || is_due(strike, run.steps.min(AGAIN));
+    if is_open || !is_in_place(page.alloc(), run, strike, shelf)? {
         return say_cut(page, run.object, run.steps, "steps");
     }
     begin(page, run.object)?;

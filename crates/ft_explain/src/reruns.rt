@@ -74,7 +74,7 @@ pub(crate) struct Met {
     pub taken: u64,
     /// Whether the strike found its site; `None` if no strike came before the last step.
     pub struck: Option<bool>,
-    /// The status of the machine when the strike came.
+    /// The status of the machine when the strike came, or else after the last step.
     pub stood: Status,
 }
 
@@ -109,7 +109,7 @@ pub(crate) fn rerun<P: Program>(machine: &mut Machine, program: &P, plan: Plan, 
         _ => Met {
             taken: go(machine, program, &mut wild, steps),
             struck: None,
-            stood: Status::Running,
+            stood: machine.status(),
         },
     }
 }

@@ -126,6 +126,10 @@ const TEXTS: &[(&str, &str)] = &[
         "file:2:1: error: nothing may follow `entry`, which is line 1: move that line to the end\n halt\n ^~~~\n",
     ),
     (
+        "node 0 memory\ntype 0 0\nblock 0\nhalt\nentry 0\nentry 0\n",
+        "file:6:1: error: `entry` is there twice: delete this line or line 5\n entry 0\n ^~~~~\n",
+    ),
+    (
         "node 0 memory\n",
         "file: error: the text ends before line 2: its last line must be `entry B`\n",
     ),
@@ -196,6 +200,14 @@ const TABLES: &[(&str, &str)] = &[
     (
         "node 0 memory\ntype 0 0\nblock 0\nidx r1 r2 0 3\nhalt\nentry 0\n",
         "file:4:11: error: invalid `0`: there is no cell 0: the text has 0 cells, numbered from 0\n idx r1 r2 0 3\n           ^\n",
+    ),
+    (
+        "cell out int 0\nnode 0 memory\ntype 0 0\nblock 0\nidx r2 r1 0 5\nhalt\nentry 0\n",
+        "file:5:13: error: invalid `5`: cells 0 to 4 are named, but the text has 1 cell\n idx r2 r1 0 5\n             ^\n",
+    ),
+    (
+        "cell a int 0\ncell b int 0\nnode 0 memory\ntype 0 0\nblock 0\nidx r2 r1 1 2\nhalt\nentry 0\n",
+        "file:6:13: error: invalid `2`: cells 1 to 2 are named, but the text has 2 cells\n idx r2 r1 1 2\n             ^\n",
     ),
 ];
 

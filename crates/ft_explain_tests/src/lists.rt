@@ -93,9 +93,10 @@ fn lines_that_are_no_fault_are_explained(rt: HostRuntime) -> Result<(), Fail> {
 
 #[test]
 fn lines_that_are_no_command_are_explained(rt: HostRuntime) -> Result<(), Fail> {
-    let script: &[u8] = b"step 1\nstpe 2\nreg r64\n\nwhere\nback\t1\nP/x r1\nzap r1  6\n";
+    let script: &[u8] =
+        b"step 1\nstpe 2\nreg r64\n\nwhere\nback\t1\nP/x r1\nzap r1  6\ngo 1000001\nback\n";
     let text =
-        "standard input:2:1: error: unknown command `stpe`; did you mean `step`?\n stpe 2\n ^\nstandard input:3:1: error: invalid command: expected `reg R`\n reg r64\n ^\nstandard input:4:1: error: empty lines are not allowed in this file\n \n ^\nstandard input:6:5: error: words are separated by one space, not by a tab\n back\t1\n     ^\nstandard input:7:1: error: unknown command `P/x`: `reg R` and `cell NAME` show a word; `talft-debugger` has `print`\n P/x r1\n ^\nstandard input:8:8: error: words are separated by one space\n zap r1  6\n        ^\n";
+        "standard input:2:1: error: unknown command `stpe`; did you mean `step`?\n stpe 2\n ^\nstandard input:3:1: error: invalid command: expected `reg R`\n reg r64\n ^\nstandard input:4:1: error: empty lines are not allowed in this file\n \n ^\nstandard input:6:5: error: words are separated by one space, not by a tab\n back\t1\n     ^\nstandard input:7:1: error: unknown command `P/x`: `reg R` and `cell NAME` show a word; `talft-debugger` has `print`\n P/x r1\n ^\nstandard input:8:8: error: words are separated by one space\n zap r1  6\n        ^\nstandard input:9:1: error: invalid command: expected `go N`; the largest number here is 1000000\n go 1000001\n ^\nstandard input:10:1: error: invalid command: expected `back N`\n back\n ^\n";
     check_told(&rt, "debug file", 0, "", &[("script", script)], text)
 }
 

@@ -16,6 +16,14 @@ const WORDS: &[(&str, &str)] = &[
         "file: the fault struck nothing: the run had ended after 14 steps, before step 4000\n",
     ),
     (
+        "run file --fault 2000000:r1:1",
+        "file: the fault struck nothing: the run had ended after 14 steps, before step 2000000\n",
+    ),
+    (
+        "run file --steps 3000000 --fault 2000000:r1:1",
+        "file: the fault struck nothing: the run had ended after 14 steps, before step 2000000\n",
+    ),
+    (
         "run file --fault 4:qa3:6",
         "file: the fault struck nothing: at step 4 the queue has no entry 3\n",
     ),

@@ -138,6 +138,22 @@ const HABITS: &[(&str, &str)] = &[
         "file:1:11: error: unexpected character `.`: numbers are integers\n cell a = 1.5;\n           ^\n",
     ),
     (
+        "cell a = 0; a.x = 3;",
+        "file:1:14: error: unexpected character `.`\n cell a = 0; a.x = 3;\n              ^\n",
+    ),
+    (
+        "cell a = 0; a = 1,000;",
+        "file:1:18: error: unexpected character `,`: numbers have no separators\n cell a = 0; a = 1,000;\n                  ^\n",
+    ),
+    (
+        "cell a = 0; a = max(1,2);",
+        "file:1:22: error: unexpected character `,`\n cell a = 0; a = max(1,2);\n                      ^\n",
+    ),
+    (
+        "cell a = 0; a = 1 >>> 1;",
+        "file:1:21: error: unexpected character `>`: write `>>`\n cell a = 0; a = 1 >>> 1;\n                     ^\n",
+    ),
+    (
         "cell a = 'x';",
         "file:1:10: error: unexpected character `'`: there are no strings or characters, only numbers\n cell a = 'x';\n          ^\n",
     ),
@@ -152,6 +168,22 @@ const HABITS: &[(&str, &str)] = &[
     (
         "var a; return a;",
         "file:1:15: error: unexpected `a`: there is no `return`: a program ends after its last statement\n var a; return a;\n               ^\n",
+    ),
+    (
+        "var a; while (a < 3) { break; }",
+        "file:1:29: error: unexpected `;`: there is no `break` or `continue`: a loop ends when its test is 0\n var a; while (a < 3) { break; }\n                             ^\n",
+    ),
+    (
+        "var a; if (a) { } elif (1) { }",
+        "file:1:24: error: unexpected `(`: write `else { if (..) { .. } }`\n var a; if (a) { } elif (1) { }\n                        ^\n",
+    ),
+    (
+        "var a; a = 1 and 2;",
+        "file:1:14: error: unexpected `and`: nest `if`, or write `(a < b) & (c == d)`\n var a; a = 1 and 2;\n              ^~~\n",
+    ),
+    (
+        "var a; if (a < 1 or a == 2) { }",
+        "file:1:18: error: unexpected `or`: write `(a < b) | (c == d)`\n var a; if (a < 1 or a == 2) { }\n                  ^~\n",
     ),
     (
         "cell a = 0; a == 1;",

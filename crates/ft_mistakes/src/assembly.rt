@@ -143,6 +143,9 @@ fn explain_order(
     let word = word_at(start.line(), word_start(start.line(), 0));
     page.head_at(name, &place)?;
     match entry {
+        Some(number) if number < start.number() && word == b"entry".as_slice() => page.say(
+            format_args!("`entry` is there twice: delete this line or line {number}\n"),
+        )?,
         Some(number) if number < start.number() => page.say(format_args!(
             "nothing may follow `entry`, which is line {number}: move that line to the end\n"
         ))?,

@@ -173,7 +173,11 @@ fn habit_of_word(word: &[u8]) -> Option<&'static str> {
             Some("loops are written `while (..) { .. }`")
         }
         b"return" => Some("there is no `return`: a program ends after its last statement"),
-        b"break" | b"continue" | b"goto" | b"switch" | b"else" | b"elif" => Some(STATEMENT),
+        b"break" | b"continue" => Some(
+            "there is no `break` or `continue`: a loop ends when its test is 0",
+        ),
+        b"elif" => Some(ELSE_IF),
+        b"goto" | b"switch" => Some(STATEMENT),
         b"def" | b"fn" | b"func" | b"function" | b"void" => Some("there are no functions"),
         b"print" | b"println" | b"printf" | b"puts" | b"write" | b"echo" => Some(OUTPUT),
         _ => None,
@@ -183,6 +187,9 @@ fn habit_of_word(word: &[u8]) -> Option<&'static str> {
 /// What a statement is.
 const STATEMENT: &str =
     "a statement is an assignment, a `while`, or an `if` with or without `else`";
+
+/// What to write for `else if`.
+const ELSE_IF: &str = "write `else { if (..) { .. } }`";
 
 /// What a source begins with.
 const BEGINS: &str =
@@ -239,12 +246,15 @@ pub(crate) fn instead_of_byte_at(source: &[u8], at: usize) -> Option<&'static st
     {
         return Some(words);
     }
-    instead_of_statement(before)
+    match instead_of_statement(before) {
+        None if source.get(at) == Some(&b',') => instead_of_comma(before, source, at),
+        words => words,
+    }
 }
 
-/// Whether a name that contains a hyphen is assigned to: whether a name and `=` follow the hyphen at a place.
-fn is_hyphenated(source: &[u8], at: usize) -> bool {
-    let mut lexer = Lexer::new(part(source, at.saturating_add(1), source.len()));
+/// Whether the tokens at a place are a name and `=`.
+fn begins_assignment(source: &[u8], at: usize) -> bool {
+    let mut lexer = Lexer::new(part(source, at, source.len()));
     let Some(Ok(name)) = lexer.next() else {
         return false;
     };
@@ -314,7 +324,7 @@ fn begins_statement(last: Kind) -> bool {
 /// What to write instead of the idiom that a token suggests after the one before it.
 fn habit_after(last: Kind, next: Kind) -> Option<&'static str> {
     match next {
-        Kind::If if last == Kind::Else => Some("write `else { if (..) { .. } }`"),
+        Kind::If if last == Kind::Else => Some(ELSE_IF),
         Kind::Assign if last == Kind::Less => Some(AT_MOST),
         Kind::Star if last == Kind::Star => Some("there is no power operator: multiply"),
         Kind::Plus if last == Kind::Plus => Some(STEPPED),
@@ -380,6 +390,18 @@ fn habit_inside(before: Before<'_>, next: Kind) -> Option<&'static str> {
     }
 }
 
+/// What to write instead of an operator that is a word.
+fn habit_of_operator(source: &[u8], at: usize) -> Option<&'static str> {
+    if begins_assignment(source, at) {
+        return None;
+    }
+    match part(source, at, at.saturating_add(4)) {
+        b"and " => Some("nest `if`, or write `(a < b) & (c == d)`"),
+        [b'o', b'r', b' ', _] => Some("write `(a < b) | (c == d)`"),
+        _ => None,
+    }
+}
+
 /// What to write instead of an idiom of another language, at an unexpected token.
 pub(crate) fn habit(source: &[u8], at: usize) -> Option<&'static str> {
     let before = read_before(source, at);
@@ -402,7 +424,7 @@ pub(crate) fn habit(source: &[u8], at: usize) -> Option<&'static str> {
     {
         return Some("numbers are decimal");
     }
-    if before.count == 1 && next == Kind::Minus && is_hyphenated(source, at) {
+    if before.count == 1 && next == Kind::Minus && begins_assignment(source, at.saturating_add(1)) {
         return Some(NAMED);
     }
     if before.count == 1 && last.kind == Kind::Name {
@@ -413,6 +435,7 @@ pub(crate) fn habit(source: &[u8], at: usize) -> Option<&'static str> {
         None if matches!(next, Kind::Plus | Kind::Minus) && !ends_term(last.kind) => {
             Some(habit_before_term(source, at, last.kind))
         }
+        None if next == Kind::Name && ends_term(last.kind) => habit_of_operator(source, at),
         None => habit_after(last.kind, next),
     }
 }
@@ -444,25 +467,37 @@ fn opened_at(source: &[u8], wanted: usize) -> Option<usize> {
     found
 }
 
-/// What to write instead of a comma.
-pub(crate) fn instead_of_comma(source: &[u8], at: usize) -> &'static str {
-    // After the brace that opens a list, the first number is taken for the beginning of a statement.
-    if read_before(source, at).first == Some(Kind::Number) {
-        SAME_VALUE
-    } else {
-        "there are no lists: each name has its own declaration, as in `var a; var b;`"
+/// Whether the comma at a place separates a number's last three digits.
+fn separates_digits(source: &[u8], at: usize) -> bool {
+    matches!(
+        part(source, at.saturating_sub(1), at.saturating_add(4)),
+        [b'0'..=b'9', _, b'0'..=b'9', b'0'..=b'9', b'0'..=b'9']
+    )
+}
+
+/// What to write instead of a comma; `None` if that is not known.
+fn instead_of_comma(before: Before<'_>, source: &[u8], at: usize) -> Option<&'static str> {
+    match before.first {
+        // After the brace that opens a list, the first number is taken for the beginning of a statement.
+        Some(Kind::Number) => Some(SAME_VALUE),
+        Some(Kind::Cell | Kind::Var) => Some(
+            "there are no lists: each name has its own declaration, as in `var a; var b;`",
+        ),
+        _ if before.open == 0 && separates_digits(source, at) => Some("numbers have no separators"),
+        _ => None,
     }
 }
 
-/// What to write instead of a byte that begins no token.
-pub(crate) fn instead_of(byte: u8) -> &'static str {
+/// What to write instead of a byte that begins no token, which follows these bytes.
+pub(crate) fn instead_of(before: &[u8], byte: u8) -> &'static str {
     match byte {
+        b'>' if before.ends_with(b">>") => ": write `>>`",
         b'>' => ": write `b < a` for `a > b`, and `(a < b) == 0` for `a >= b`",
         b'!' => ": write `(a == b) == 0` for `a != b`",
         b'/' => ": comments begin with `#`, and there is no division",
         b'%' => ": there is no division",
         b'"' | b'\'' => ": there are no strings or characters, only numbers",
-        b'.' => ": numbers are integers",
+        b'.' if matches!(before, [.., b'0'..=b'9' | b' ']) => ": numbers are integers",
         b':' => ": a block is written between `{` and `}`",
         b'~' => ": write `a ^ 18446744073709551615` for `~a`",
         b'?' => ": write `if (..) { .. } else { .. }`",

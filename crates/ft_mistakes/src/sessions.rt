@@ -6,6 +6,7 @@ use crate::forms::first_word;
 use crate::lines::wrong_words;
 use crate::loads::load;
 use crate::near::{is_near, say_near};
+use crate::numbers::say_misfit;
 use crate::page::Page;
 use crate::strikes::say_site_and_word;
 use ft_edge::Shelf;
@@ -14,6 +15,9 @@ use ft_script::{Command, read_script};
 
 /// The maximum size of a script in bytes.
 const SCRIPT_LIMIT: usize = 1_048_576;
+
+/// The maximum number of steps of one command.
+const STEP_LIMIT: u64 = 1_000_000;
 
 /// The maximum number of lines explained.
 const MOST_LINES: usize = 10;
@@ -71,6 +75,12 @@ fn place_in(line: &str) -> usize {
 /// Says what is wrong with the words of a command that should have this form.
 fn say_invalid(page: &mut Page, line: &str, form: &'static str) -> Result<(), NoMemory> {
     page.say(format_args!("invalid command: expected `{form}`"))?;
+    if form.ends_with(" N")
+        && let Some((_, number)) = line.split_once(' ')
+    {
+        page.say("; ")?;
+        return say_misfit(page, number.as_bytes(), STEP_LIMIT);
+    }
     match line.strip_prefix("zap ") {
         Some(rest) => {
             page.say("; ")?;

@@ -2,8 +2,7 @@
 use crate::content::{Content, say_other_kind};
 use crate::excerpt::{Place, letter_from, part};
 use crate::expected::{
-    Lack, habit, instead_of, instead_of_byte_at, instead_of_comma, instead_of_macro, lack_at,
-    unclosed,
+    Lack, habit, instead_of, instead_of_byte_at, instead_of_macro, lack_at, unclosed,
 };
 use crate::lines::{CTRL_Z, FENCE, MARKED, begins_fence, is_marked};
 use crate::near::{is_near, say_near};
@@ -106,16 +105,12 @@ fn say_character(page: &mut Page, source: &[u8], at: usize, token: &[u8]) -> Res
         [b'!'] if negates(source, at) => {
             page.say("unexpected character `!`: write `(a == 0)` for `!a`")
         }
-        [b','] => {
-            page.say("unexpected character `,`: ")?;
-            page.say(instead_of_comma(source, at))
-        }
         [b':'] if part(source, at, at.saturating_add(2)) == b":=".as_slice() => {
             page.say("unexpected character `:`: write `=` to assign")
         }
         [byte, ..] => {
             page.say("unexpected character ")?;
-            say_of(page, token, instead_of(*byte))
+            say_of(page, token, instead_of(part(source, 0, at), *byte))
         }
         [] => page.say("unexpected end of the source"),
     }

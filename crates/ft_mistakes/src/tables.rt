@@ -178,6 +178,12 @@ fn say_index(page: &mut Page, breach: &Breach<'_>) -> Result<(), NoMemory> {
     }
     let value = number_in(breach.word()).unwrap_or(0);
     let (what, count) = breach.named();
+    if what == "cell" && breach.number == 4 {
+        let first = number_in(word(line, 3)).unwrap_or(0);
+        let last = first.saturating_add(value).saturating_sub(1);
+        page.say(format_args!("cells {first} to {last} are named, but the text has "))?;
+        return page.count(count, what);
+    }
     if value >= u64::from(count) {
         page.say(format_args!("there is no {what} {value}: "))?;
         return say_count(page, count, what);
@@ -187,10 +193,6 @@ fn say_index(page: &mut Page, breach: &Breach<'_>) -> Result<(), NoMemory> {
         return page.say(format_args!(
             "this is node {own}, and a node may refer only to earlier nodes"
         ));
-    }
-    if what == "cell" {
-        page.say("the run of cells ends beyond the last cell: ")?;
-        return say_count(page, count, what);
     }
     page.say(format_args!("the scope of {what} {value} is larger than the one here"))
 }

@@ -415,8 +415,18 @@ fn say_words(page: &mut Page, command: &'static str, rest: &[String]) -> Result<
     say_options(page, command, options)
 }
 
+/// The commands that do most with a file, by its extension.
+const READERS: &[(&str, &str)] = &[(".src", "exec"), (".obj", "run"), (".asm", "asm")];
+
 /// Says which command was probably meant.
 fn say_near_command(page: &mut Page, word: &str) -> Result<(), NoMemory> {
+    for (extension, command) in READERS {
+        if word.ends_with(*extension) {
+            page.say(format_args!("; did you mean `talft {command} "))?;
+            page.name(word)?;
+            return page.say("`?");
+        }
+    }
     if matches!(word.as_bytes(), b"version" | b"-v" | b"-version") {
         return say_near(page, b"--version");
     }
