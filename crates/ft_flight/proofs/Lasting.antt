@@ -197,19 +197,3 @@ may_hold o strike s cells saved h fit =
           (has_over O o.cells o.instrs (sym (kept_with basic_of (λ c w. refl) o.cells saved)) c.content x.basic.refs
           x.basic.base c.typed);
     }
-
--- the cells of an accepted object may hold its initial words
-pub first_held : (o : Object) (ws : List ℕ) → length ws ≡ length o.cells → ((k : ℕ) → k < length ws → get_or ws k 0
-    ≡ init_of o k) →
-    All IsWord ws → IsAccepted o → MayHold o ws
-first_held o ws long words fit acc = record {
-  fit = fit;
-  types = λ k x f.
-      let q = same_cell o.cells ws k x f in
-      let within = slice_get_within o.cells k q.cell q.there in
-      let below : k < length ws = omega (arith, within, long) in
-      let init : init_of o k ≡ q.cell.init = ap (λ u. init_or_zero (option_map cell_head_of u)) q.there in
-      let is : x.init ≡ q.cell.init
-      = begun o.cells ws k (get_or ws k 0) x f (slice_get-get_or ws k 0 below) ∙ words k below ∙ init in
-      subst (λ v. HasType o v x.basic) (sym is) (subst (HasType o q.cell.init) q.basic (acc.cells k q.cell q.there));
-}

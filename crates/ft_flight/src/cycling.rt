@@ -49,7 +49,6 @@ pub fn begin<P: Program>(program: &P, cells: &mut [u64])
     requires as_many { length cells.old ≡ length (P.object program.now).cells }
     ensures as_many { length cells.new ≡ length (P.object program.now).cells }
     ensures words { (k : ℕ) → k < length cells.new → slice_index_or cells.new k 0 ≡ init_of (P.object program.now) k }
-    ensures held { IsAccepted (P.object program.now) → MayHold (P.object program.now) cells.new }
 {
     for k in 0..cells.len() {
         cells[k] = program.cell(k as u32).init;
