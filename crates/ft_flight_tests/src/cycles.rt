@@ -1,10 +1,7 @@
-//! A cycle that is struck, told about and done again, and cycles that follow each other.
+//! A cycle that is struck, told about and done again.
 ghost use Rattle.std.specs.Prelude.{◌≡◌, length};
 ghost use Rattle.ft_types.specs.Spellable.{IsSpellable};
-ghost use Rattle.ft_typing.specs.Accepted.{IsAccepted};
-ghost use Rattle.ft_flight.specs.Flights.{MayHold};
 
-use ft_checker::check_uncounted;
 use ft_flight::{
     CellOutput, FlightEnd, FlightState, Flown, PlainPair, PlainQueue, Reason, again, begin,
     cause_of, cycle, go, strike,
@@ -12,7 +9,7 @@ use ft_flight::{
 use ft_isa::{Reg, Site};
 use ft_types::Program;
 use ft_view::View;
-use ft_worked_objects::{Q, X};
+use ft_worked_objects::Q;
 use std::test::Fail;
 
 /// How many steps the first ten instructions of `Q` take. The tenth is its first blue store.
@@ -21,10 +18,7 @@ const FIRST_STORE: u64 = 20;
 /// How many steps all fifteen instructions of `Q` take.
 const ALL: u64 = 30;
 
-/// How many steps all nine instructions of `X` take.
-const ALL_OF_X: u64 = 18;
-
-/// More steps than either takes.
+/// More steps than `Q` takes.
 const MANY: u64 = 100;
 
 /// Words that no run left. They stand for a state like any others.
@@ -112,69 +106,6 @@ fn is_done_again<P: Program>(program: &P, struck: Reg) -> bool
         && is_output(out[1], 6)
         && cells[0] == 6
         && state.handed == 3
-}
-
-/// Runs a cycle. It leaves words with which the next one may begin, so a caller may go on for ever.
-fn fly<P: Program>(
-    program: &P,
-    state: &mut FlightState,
-    cells: &mut [u64],
-    saved: &mut [u64],
-    out: &mut [CellOutput],
-) -> Flown
-    requires spellable { IsSpellable (P.object program.now) }
-    requires accepted { IsAccepted (P.object program.now) }
-    requires as_many { length cells.old ≡ length (P.object program.now).cells }
-    requires room { length saved.old ≡ length cells.old }
-    requires may_hold { MayHold (P.object program.now) cells.old }
-    ensures as_many { length cells.new ≡ length cells.old }
-    ensures room { length saved.new ≡ length cells.old }
-    ensures may_hold { MayHold (P.object program.now) cells.new }
-{
-    cycle(program, state, cells, saved);
-    go(program, state, cells, MANY, out)
-}
-
-/// Runs two cycles of `X`, whose cell holds 3 at first and is doubled by each. Returns whether it did.
-fn doubles_twice<P: Program>(program: &P) -> bool
-    requires spellable { IsSpellable (P.object program.now) }
-    requires accepted { IsAccepted (P.object program.now) }
-    requires one { length (P.object program.now).cells ≡ 1 }
-{
-    let mut state = any_words();
-    let mut cells = [4; 1];
-    let mut saved = [4; 1];
-    let mut out = [CellOutput { cell: 9, value: 9 }; 2];
-    begin(program, cells.as_mut_slice());
-    let first = fly(
-        program,
-        &mut state,
-        cells.as_mut_slice(),
-        saved.as_mut_slice(),
-        out.as_mut_slice(),
-    );
-    let doubled = is_output(out[0], 6);
-    let second = fly(
-        program,
-        &mut state,
-        cells.as_mut_slice(),
-        saved.as_mut_slice(),
-        out.as_mut_slice(),
-    );
-    has_flown(first, ALL_OF_X, 1, FlightEnd::Done)
-        && doubled
-        && has_flown(second, ALL_OF_X, 1, FlightEnd::Done)
-        && is_output(out[0], 12)
-        && cells[0] == 12
-}
-
-#[test]
-fn a_cycle_begins_with_the_words_of_the_one_before(rt: HostRuntime) -> Result<(), Fail> {
-    let view = View::over(X)?;
-    assert_eq!(rt; view.counts().cells, 1);
-    let checked = check_uncounted(rt.alloc(), &view)?;
-    assert!(rt; doubles_twice(checked.program()));
-    Ok(())
 }
 
 #[test]
